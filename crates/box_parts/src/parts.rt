@@ -5,7 +5,7 @@ ghost use Rattle.std_alloc.specs.Box.Ownership.{box_owns};
 use std::alloc::Allocator;
 use std::marker::Model;
 
-/// The raw pointer of a box, and the box's allocator. They own what the box owned.
+/// The parts of a box: its raw pointer and its allocator. They own what the box owned.
 pub struct BoxParts<T, A: Allocator> {
     pub ptr: *mut T,
     pub alloc: A,

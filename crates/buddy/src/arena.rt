@@ -1,4 +1,4 @@
-//! A store of raw pages with a list of free blocks for each order: the buddy allocator.
+//! The buddy allocator of raw pages. It has a list of free blocks for each order.
 ghost use Rattle.std.specs.Prelude.{◌≡◌, ◌≢◌, ℕ, ◌+◌, ◌%◌, ◌^◌, ◌<◌, ◌≤◌, ◌↔◌, ◌⊎◌, true, false, length, filter, replicate, slice_set, IsTrue, IfOk, IfSome, IfNone, IsErrOf};
 ghost use Rattle.std.specs.Bool.{OnTrue, OnFalse};
 ghost use Rattle.granule_addr.specs.Page.{page_of, zero_page};
@@ -15,8 +15,8 @@ use page_arena::{
 };
 use std::alloc::Global;
 
-/// A store of pages in one allocation, with a list of free blocks for each order. The lists have the maximal free
-/// blocks, and no call searches one.
+/// A buddy allocator whose pages are in one allocation. It has a list of free blocks for each order. The lists have the
+/// maximal free blocks, and no call searches a list.
 #[derive(Drop)]
 pub struct BuddyArena {
     pages: RawPages,
@@ -26,8 +26,8 @@ pub struct BuddyArena {
 }
 
 impl BuddyArena {
-    /// A store of `pages` pages, all free and zero. `BadSize` comes exactly when `pages` is not 1 to 4,096; the only
-    /// other error is `Memory`.
+    /// Creates a store of `pages` pages. All pages are free, and filled with zeros. `BadSize` comes exactly when
+    /// `pages` is not 1 to 4,096; the only other error is `Memory`.
     pub fn build(alloc: Global, pages: u16) -> Result<BuddyArena, BuildError>
         ensures bad_size { IsErrOf result BuildError.BadSize ↔ ((pages < 1) ⊎ (4096 < pages)) }
         ensures zero { IfOk result (λ arena. ⟦<BuddyArena as PageStore>⟧.page_bytes arena ≡ replicate pages zero_page) }
@@ -43,7 +43,7 @@ impl BuddyArena {
         })
     }
 
-    /// Whether a block is free, and is part of no larger free block.
+    /// Whether a block is a maximal free block. Such a block is free, and is part of no larger free block.
     pub fn is_free_block(&self, order: Order, first: Gran) -> bool
         ensures { IsTrue result ↔
             IsMaximalBlock (⟦<BuddyArena as PageStore>⟧.free_flags self.now) order first }
@@ -76,8 +76,9 @@ impl PageStore for BuddyArena {
         self.index.count()
     }
 
-    /// Takes a block, cut out of the first block in the nonempty list of the smallest order that suffices. The visits
-    /// are one for each order up to that of the list. If no order has a block, there are no visits.
+    /// Takes a block of order `order`, if there is a free one. The block is cut out of the first block in a list: the
+    /// nonempty list of the smallest order that suffices. The visits are one for each order up to that of the list. If
+    /// no order has a block, there are no visits.
     fn take(&mut self, order: Order) -> Option<Gran>
         ensures first { result ≡ first_block self.old.index.lists order }
         ensures block { IfSome result (IsFreeBlock self.old.index.flags order) }
@@ -96,8 +97,8 @@ impl PageStore for BuddyArena {
         Gran::new(first as u16, MOST_PAGES)
     }
 
-    /// Takes the block that begins at granule `first`, if the block is free. The visits are one for each order from 9
-    /// down to that of the block, whether the block is taken or not. If the block is not aligned, there are no visits.
+    /// Takes the block at granule `first`, if the block is free. The visits are one for each order from 9 down to that
+    /// of the block, whether the block is taken or not. If the block is not aligned, there are no visits.
     fn take_at(&mut self, order: Order, first: Gran) -> bool
         ensures answer { IsTrue result ↔ IsFreeBlock self.old.index.flags order first }
         ensures taken { OnTrue result (self.new.index.flags ≡ with_taken self.old.index.flags order first) }

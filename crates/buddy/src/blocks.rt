@@ -26,7 +26,7 @@ pub(crate) fn size_of(order: usize) -> u16
     order_of(order).size()
 }
 
-/// The first granule of the block of order `order` that contains `granule`.
+/// Returns the first granule of the block that contains `granule`. The block is of order `order`.
 pub(crate) fn start_of(granule: usize, order: usize) -> usize
     requires granule { granule < 4096 }
     requires order { order < 10 }
@@ -69,8 +69,9 @@ fn check_order(lists: &mut FreeLists, granule: usize, order: usize, found: bool)
     true
 }
 
-/// Cuts a block out of the free block that contains it and has an order of at most `top`. Returns whether there is such
-/// a block, and the number of orders visited.
+/// Takes a block out of the free lists, if the block is free. It is cut out of the maximal free block that contains it.
+/// The maximal block has an order of at most `top`, and may be the block itself. Returns whether the block was free,
+/// and the number of orders visited.
 pub(crate) fn cut_out(lists: &mut FreeLists, first: usize, order: usize, top: usize) -> (bool, u8)
     ghost flags: { List Bool }
     requires orders { (order ≤ top) × (top ≤ 9) }
@@ -110,8 +111,8 @@ fn free_buddy(lists: &FreeLists, first: usize, order: usize) -> Option<usize>
     None
 }
 
-/// Puts a block back, and merges it with its buddy, order by order, as long as the whole buddy is free. Returns the
-/// number of orders visited.
+/// Puts a block back into the free lists. The block is merged with its buddy if the whole buddy is free. The merged
+/// block is merged in turn, order by order. Returns the number of orders visited.
 pub(crate) fn give_to(lists: &mut FreeLists, first: usize, order: usize) -> u8
     ghost flags: { List Bool }
     requires few { length flags ≤ 4096 }

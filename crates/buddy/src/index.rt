@@ -1,4 +1,4 @@
-//! The index of free granules, kept as lists of the maximal free blocks.
+//! The index of free granules. It is kept as lists of the maximal free blocks.
 ghost use Rattle.std.specs.Prelude.{◌≡◌, ◌≢◌, ℕ, ◌+◌, ◌%◌, ◌^◌, ◌<◌, ◌≤◌, ◌↔◌, true, length, filter, replicate, IsTrue, IfOk, IfSome, IfNone, option_map};
 ghost use Rattle.std.specs.Bool.{OnTrue, OnFalse};
 ghost use Rattle.page_arena.specs.Block.{IsFreeBlock, IsTakenBlock, with_taken, with_given};
@@ -10,8 +10,8 @@ use crate::lists::FreeLists;
 use std::alloc::{AllocError, Global};
 use std::marker::Model;
 
-/// The index of free granules, kept as lists of the maximal free blocks. Seen as a flag for each granule, and the
-/// lists.
+/// The index of free granules. It is kept as lists of the maximal free blocks. The view is a flag for each granule, and
+/// the lists.
 #[derive(Drop)]
 pub(crate) struct FreeIndex {
     lists: FreeLists,
@@ -30,7 +30,7 @@ impl Model for FreeIndex {
 }
 
 impl FreeIndex {
-    /// An index in which all granules are free. The lowest blocks come first in the lists.
+    /// Creates an index in which all granules are free. The lowest blocks come first in the lists.
     pub(crate) fn build(alloc: Global, granules: u16) -> Result<FreeIndex, AllocError>
         requires { granules ≤ 4096 }
         ensures { IfOk result (λ index. index.flags ≡ replicate granules true) }
@@ -62,8 +62,8 @@ impl FreeIndex {
         self.lists.head(first) as usize == order + 1
     }
 
-    /// Takes a block, cut out of the first block in the list of the smallest order that suffices. Returns the number of
-    /// orders visited, too.
+    /// Takes a block of order `order`, if there is a free one. The block is cut out of the first block in a list: the
+    /// nonempty list of the smallest order that suffices. Returns the number of orders visited, too.
     pub(crate) fn take(&mut self, order: usize) -> Option<(usize, u8)>
         requires { order < 10 }
         ensures first { option_map (λ r. r.0) result ≡ first_block self.old.lists order }
@@ -81,7 +81,7 @@ impl FreeIndex {
         Some((first, turns))
     }
 
-    /// Takes the block that begins at granule `first`, if the block is free. Returns the number of orders visited, too.
+    /// Takes the block at granule `first`, if the block is free. Returns the number of orders visited, too.
     pub(crate) fn take_at(&mut self, order: usize, first: usize) -> (bool, u8)
         requires order { order < 10 }
         requires first { first < 4096 }

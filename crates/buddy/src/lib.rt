@@ -1,4 +1,4 @@
-//! A store of raw pages with a list of free blocks for each order.
+//! A buddy allocator of raw pages. It has a list of free blocks for each order.
 //!
 //! The lists have the maximal free blocks: those that are inside no larger one. A block is cut out of one of the
 //! smallest order that is large enough, and is merged as it is given back. The links are in a table beside the pages,

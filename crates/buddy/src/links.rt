@@ -11,7 +11,7 @@ use std::marker::Model;
 const NOWHERE: u16 = MOST_PAGES;
 
 /// A doubly linked list of free blocks for each order. The links are kept outside the pages, because free pages are
-/// zero. Seen as the table of heads, and the first block of each list.
+/// zero. The view is the table of heads, and the first block of each list.
 #[derive(Drop)]
 pub(crate) struct Links {
     heads: Vec<u8>,
@@ -33,7 +33,7 @@ impl Model for Links {
 }
 
 impl Links {
-    /// Empty lists for `count` granules.
+    /// Creates empty lists for `count` granules.
     pub(crate) fn build(alloc: Global, count: usize) -> Result<Links, AllocError>
         requires { count ≤ 4096 }
         ensures { IfOk result (λ links. links.heads ≡ replicate count 0) }
@@ -49,7 +49,8 @@ impl Links {
         })
     }
 
-    /// One more than the order of the listed block that begins at a granule; 0 if there is none.
+    /// Returns the head of a granule. That is one more than the order of the listed block that begins there, or 0 if no
+    /// listed block does.
     pub(crate) fn head(&self, granule: usize) -> u8
         ensures { result ≡ head_at self.now.heads granule }
     {
@@ -60,7 +61,7 @@ impl Links {
         }
     }
 
-    /// The first block of the list of an order.
+    /// Returns the first block in the list of an order.
     pub(crate) fn first(&self, order: usize) -> Option<usize>
         requires { order < 10 }
         ensures first { IfSome result (λ first. first ≡ at self.now.firsts order) }
@@ -75,7 +76,7 @@ impl Links {
         }
     }
 
-    /// Puts a granule at the front of the list of an order.
+    /// Puts a granule at the front of an order's list.
     pub(crate) fn put(&mut self, granule: usize, order: usize)
         requires order { order < 10 }
         requires inside { granule < length self.old.heads }
@@ -93,7 +94,7 @@ impl Links {
         }
     }
 
-    /// Takes a granule out of the list of an order, and joins its neighbours.
+    /// Takes a granule out of an order's list. The granule's neighbours in the list are linked to each other.
     pub(crate) fn take_out(&mut self, granule: usize, order: usize)
         requires order { order < 10 }
         requires head { head_at self.old.heads granule ≡ order + 1 }

@@ -1,4 +1,4 @@
-//! The lists of free blocks by order, with a mask that has a bit set for each order with a free block.
+//! The lists of free blocks by order. A mask has a bit set for each order with a free block.
 ghost use Rattle.std.specs.Prelude.{◌≡◌, ℕ, ◌+◌, ◌<◌, ◌≤◌, ◌≢◌, length, replicate, slice_set, IfOk, IfSome, IfNone};
 ghost use Rattle.buddy.specs.Heads.{head_at};
 ghost use Rattle.buddy.specs.Links.{HasHead, at};
@@ -7,9 +7,9 @@ use crate::links::Links;
 use std::alloc::{AllocError, Global};
 use std::marker::Model;
 
-/// Lists of free blocks by order, and a mask of the orders that have a free block. Seen as the table of heads, and the
-/// first block of each list. The head of a granule is one more than the order of the block that it heads, or 0 if it
-/// heads none.
+/// The lists of free blocks by order. A mask has a bit set for each order with a free block. The view is the table of
+/// heads, and the first block of each list. The head of a granule is one more than the order of the block that it
+/// heads, or 0 if it heads none.
 #[derive(Drop)]
 pub(crate) struct FreeLists {
     links: Links,
@@ -28,7 +28,7 @@ impl Model for FreeLists {
 }
 
 impl FreeLists {
-    /// Empty lists for `count` granules.
+    /// Creates empty lists for `count` granules.
     pub(crate) fn build(alloc: Global, count: usize) -> Result<FreeLists, AllocError>
         requires { count ≤ 4096 }
         ensures { IfOk result (λ lists. lists.heads ≡ replicate count 0) }
@@ -37,14 +37,16 @@ impl FreeLists {
         Ok(FreeLists { links, mask: 0 })
     }
 
-    /// One more than the order of the listed block that begins at a granule; 0 if there is none.
+    /// Returns the head of a granule. That is one more than the order of the listed block that begins there, or 0 if no
+    /// listed block does.
     pub(crate) fn head(&self, granule: usize) -> u8
         ensures { result ≡ head_at self.now.heads granule }
     {
         self.links.head(granule)
     }
 
-    /// The lowest order from `order` up that has a free block, and the first block in the list of that order.
+    /// Finds the lowest order with a free block. Orders below `order` are left out. Returns the order, and the first
+    /// block in its list.
     pub(crate) fn lowest(&self, order: usize) -> Option<(usize, usize)>
         requires { order < 10 }
         ensures first { IfSome result (λ r. r.1 ≡ at self.now.firsts r.0) }

@@ -1,4 +1,4 @@
-//! The history of a host, to which events are appended.
+//! The append operation on the history of a host.
 ghost use Rattle.std.specs.Prelude.{◌≡◌, ◌<◌, ◌∷◌, ◌++◌, [], vec_len, vec_capacity};
 
 use realm_model::Event;

@@ -1,4 +1,4 @@
-//! The build that leases each granule of a machine.
+//! The holders of a machine's granules. The holder of a granule is the build that leases the granule.
 ghost use Rattle.std.specs.Prelude.{◌≡◌, ◌+◌, ◌^◌, ◌≤◌, length, replicate, Some, None, IfOk, slice_index_or};
 ghost use Rattle.std.specs.List.{range_with_len};
 ghost use Rattle.realm_model.specs.StepLaw.{set_each};
@@ -8,7 +8,8 @@ use granule_addr::{BuildId, Gran, Order};
 use std::alloc::{AllocError, Global};
 use std::marker::Model;
 
-/// The build that leases each granule, by the granule's number; `None` if nobody leases it.
+/// A table from granules to the builds that lease them. The index is a granule's number. The entry of a granule that no
+/// build leases is `None`.
 #[derive(Drop)]
 pub struct Holders {
     of: Vec<Option<BuildId>>,
@@ -23,7 +24,7 @@ impl Model for Holders {
 }
 
 impl Holders {
-    /// Returns the holders for a machine of `pages` granules, none of which is leased.
+    /// Creates the table of a machine without leases. The machine has `pages` granules.
     pub fn build(alloc: Global, pages: u16) -> Result<Holders, AllocError>
         ensures { IfOk result (λ holders. holders ≡ replicate pages None) }
     {
@@ -48,14 +49,15 @@ impl Holders {
         self.set_run(first.number(), order.size(), None);
     }
 
-    /// Whether the granule is one of the machine's, and the build leases it.
+    /// Whether the build leases the granule. It does not if the machine has no such granule.
     pub fn is_held_by(&self, granule: Gran, build: BuildId) -> bool
         ensures { result ≡ is_leased_to (Some build) self.now granule }
     {
         matches!(self.of.get(granule.number() as usize), Some(Some(holder)) if *holder == build)
     }
 
-    /// The build that leases the granule; `None` if nobody does, or if the machine has no such granule.
+    /// Returns the build that leases the granule. The result is `None` if nobody does, or if the machine has no such
+    /// granule.
     pub fn holder(&self, granule: Gran) -> Option<BuildId>
         ensures { result ≡ slice_index_or self.now granule None }
     {

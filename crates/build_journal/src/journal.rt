@@ -27,7 +27,7 @@ impl Model for Journal {
 }
 
 impl Journal {
-    /// Returns an empty journal.
+    /// Creates an empty journal.
     pub fn build(alloc: Global) -> Result<Journal, AllocError>
         ensures { IfOk result (λ j. j ≡ []) }
     {
@@ -49,8 +49,8 @@ impl Journal {
         count <= self.entries.len() as u16
     }
 
-    /// Updates the journal for an operation of the build. An operation that has a reverse is pushed, a reverse pops the
-    /// newest, and any other operation changes nothing.
+    /// Updates the journal with an operation that the build performs. An operation that has a reverse is pushed, a
+    /// reverse pops the newest, and any other operation changes nothing.
     pub fn follow(&mut self, act: &Act)
         requires { length (pushed self.old act.now) ≤ 512 }
         ensures { self.new ≡ pushed self.old act.now }

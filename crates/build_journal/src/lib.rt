@@ -1,4 +1,4 @@
-//! The records that are kept of builds besides the history: each build's open operations and leased pages, and the
+//! The records about builds, apart from the history. They are each build's open operations and leased pages, and the
 //! VMIDs in use. The history grows by one event at a time.
 //!
 //! The journal of a build is a stack of its open operations. Each operation that is open has a reverse.

@@ -4,7 +4,7 @@ ghost use Rattle.realm_model.specs.Act as acts;
 
 use realm_model::{Act, clone_granules};
 
-/// The reverse of an operation, or None if the operation has none. The two kinds of data operations have the same
+/// Returns the reverse of an operation, if the operation has one. The two kinds of data operations have the same
 /// reverse.
 #[tactic(auto, unfolding(realm_model::specs::Act::reverse_of))]
 pub fn reverse_of(act: &Act) -> Option<Act>

@@ -6,7 +6,7 @@ use granule_addr::{BuildId, Gran, Order};
 use std::alloc::{AllocError, Global};
 use std::marker::Model;
 
-/// The pages that each build leases, in the order in which it took them.
+/// A stack of leased pages for each build. The pages are in the order in which the build took them.
 #[derive(Drop)]
 pub struct Leases {
     stacks: Vec<Vec<Gran>>,
@@ -24,7 +24,7 @@ impl Model for Leases {
 }
 
 impl Leases {
-    /// Returns the leases of `builds` builds: no pages yet, and capacity for `pages` pages of each build.
+    /// Creates an empty stack for each of `builds` builds. Each stack has capacity for `pages` pages.
     pub fn build(alloc: Global, builds: u8, pages: u16) -> Result<Leases, AllocError>
         requires { pages ≤ 4096 }
         ensures { IfOk result (λ leases.
@@ -40,7 +40,7 @@ impl Leases {
         })
     }
 
-    /// Appends the pages of a block, in rising order, to the stack of the build that has taken the block.
+    /// Appends the pages of a block to a build's stack, in rising order. The build is the one that has taken the block.
     pub fn push_block(&mut self, build: BuildId, first: Gran, order: Order)
         requires there { build < length self.old.stacks }
         requires room { length (stack_of self.old build) + 2 ^ order ≤ self.old.room }
@@ -51,7 +51,7 @@ impl Leases {
         push_run(&mut self.stacks[build.number() as usize], first, order);
     }
 
-    /// Removes the pages of the block that a build took last from the build's stack.
+    /// Removes the last pages from a build's stack. They are as many as a block of order `order` has.
     pub fn pop_block(&mut self, build: BuildId, order: Order)
         requires there { build < length self.old.stacks }
         requires enough { 2 ^ order ≤ length (stack_of self.old build) }
@@ -60,7 +60,7 @@ impl Leases {
         pop_run(&mut self.stacks[build.number() as usize], order);
     }
 
-    /// The granule of page `k` of a build; `None` if and only if the build has no such page.
+    /// Returns the granule of a build's page `k`. The result is `None` if and only if the build has no such page.
     pub fn page(&self, build: BuildId, k: u16) -> Option<Gran>
         requires { build < length self.now.stacks }
         ensures { result ≡ slice_get (stack_of self.now build) k }

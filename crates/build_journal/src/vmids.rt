@@ -7,7 +7,7 @@ ghost use Rattle.build_journal.specs.Vmids.{is_free, IsLowestFree, IsClaimed};
 use granule_addr::{Vmid, VmidSet};
 use std::marker::Model;
 
-/// The VMIDs of a machine, from 1 to a maximum, and the set of those in use.
+/// The VMIDs of a machine, and the set of those in use. The VMIDs are the numbers from 1 to a maximum.
 #[derive(Drop)]
 pub struct VmidPool {
     vmids: u8,
@@ -23,7 +23,7 @@ impl Model for VmidPool {
 }
 
 impl VmidPool {
-    /// A pool of the VMIDs from 1 to `vmids`, none of them in use.
+    /// Creates a pool of the VMIDs from 1 to `vmids`. None of them is in use.
     pub fn new(vmids: u8) -> VmidPool
         ensures range { result.vmids ≡ vmids }
         ensures none { (vmid : ℕ) → is_used result.used vmid ≡ false }
@@ -34,7 +34,7 @@ impl VmidPool {
         }
     }
 
-    /// The lowest free VMID; `None` if and only if no VMID is free.
+    /// Returns the lowest free VMID. The result is `None` if and only if no VMID is free.
     pub fn lowest_free(&self) -> Option<Vmid>
         ensures lowest { IfSome result (IsLowestFree self.now) }
         ensures none { IfNone result ((vmid : ℕ) → is_free self.now vmid ≡ false) }
@@ -48,7 +48,7 @@ impl VmidPool {
         None
     }
 
-    /// Claims the VMID if it is free, and returns whether it was free. If it was not, nothing changes.
+    /// Claims the VMID if it is free. Returns whether it was free. If it was not, nothing changes.
     pub fn claim(&mut self, vmid: Vmid) -> bool
         ensures answer { result ≡ is_free self.old vmid }
         ensures claimed { OnTrue result (IsClaimed self.old self.new vmid true) }

@@ -1,4 +1,5 @@
-//! The questions that a worker asks: each takes a turn, calls the teller, and adds a line to the report.
+//! A worker's questions to its teller. For each question the worker waits for its turn, calls the teller, and adds a
+//! line to its report.
 ghost use Rattle.std.specs.Prelude.{◌≡◌, ◌+◌, ◌^◌, ◌<◌, [], ◌∷◌, ◌++◌, vec_len, vec_capacity};
 ghost use Rattle.build_seats.specs.Asked.{answer_of, line, ArePut};
 ghost use Rattle.build_seats.specs.Report.{ending_of};
@@ -11,7 +12,7 @@ use crate::standing::Standing;
 use crate::teller::{Gate, Teller};
 use host_commands::{Cmd, Refusal};
 
-/// A question whose answer becomes a line of the report.
+/// A question from a worker to its teller. The answer becomes a line of the worker's report.
 #[derive(Drop)]
 pub enum Question {
     Do(Cmd),
@@ -84,7 +85,7 @@ fn ending_of(answer: &Answer) -> Ending
     }
 }
 
-/// Adds the line of an answer to the report, and returns the outcome.
+/// Adds a line with an answer to the report. Returns the outcome: `Refused` for a refusal, and otherwise `Done`.
 pub fn tell(report: &mut Report, asked: Asked, answer: Answer) -> Ending
     requires room { vec_len report.old.lines < vec_capacity report.old.lines }
     ensures ending { result ≡ ending_of answer }
@@ -97,8 +98,8 @@ pub fn tell(report: &mut Report, asked: Asked, answer: Answer) -> Ending
     end
 }
 
-/// Waits for the next turn, asks the teller to perform a command, and writes the line of the answer. The command is
-/// borrowed and not copied: a copy between two calls would take time in which others wait for the lock.
+/// Asks the teller to perform a command. The worker waits for its next turn first. The answer is added to the report.
+/// The command is borrowed and not copied: a copy between two calls would take time in which others wait for the lock.
 pub fn ask_command<T: Teller, G: Gate>(
     report: &mut Report,
     standing: &mut Standing,
@@ -127,7 +128,7 @@ pub fn ask_command<T: Teller, G: Gate>(
     }
 }
 
-/// Waits for the next turn, asks a question, and writes the answer's line.
+/// Asks the teller a question. The worker waits for its next turn first. The answer is added to the report.
 pub fn ask<T: Teller, G: Gate>(
     report: &mut Report,
     standing: &mut Standing,

@@ -3,7 +3,7 @@ ghost use Rattle.std.specs.Prelude.{◌≡◌};
 
 use std::sync::ledger::Blank;
 
-/// One blank for each build: a ghost ledger that has a single part and is not yet bound to a type.
+/// A blank for each build. A blank is a ghost ledger that has a single part and is not yet bound to a type.
 #[derive(Drop)]
 pub struct Blanks {
     pub blank0: Blank,

@@ -1,4 +1,4 @@
-//! The work of a build: its steps, and the clearing after a refusal.
+//! The work of a build. It consists of the build's steps, and of the exits and undos after the first refusal.
 ghost use Rattle.std.specs.Prelude.{◌≡◌, ◌+◌, ◌*◌, ◌^◌, ◌<◌, ◌≤◌, [], length, map, is_ok, vec_len, vec_capacity};
 ghost use Rattle.build_seats.specs.Asked.{ArePut};
 ghost use Rattle.build_seats.specs.Report.{clearing, exit_of, is_over, IsWorkerReport, IsWork};
@@ -117,7 +117,7 @@ fn take_steps<T: Teller, G: Gate>(
     Ending::Done
 }
 
-/// Takes the steps of a plan in sequence, and writes a line for each answer.
+/// Performs the steps of a build in sequence. Each answer is added to the report.
 ///
 /// After the first refusal the RECs that run exit, in rising number. Then all open operations are undone. Both follow
 /// from the replies that this worker got, and a refusal there ends the clearing too. Before each question the worker

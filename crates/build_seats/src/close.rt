@@ -1,4 +1,5 @@
-//! The checks before a shared host is closed: each build has one seat, whose trail is the build's part of the history.
+//! The checks before a shared host is closed. Each build has to have one seat, and the seat's trail has to be the
+//! build's part of the history.
 ghost use Rattle.std.specs.Prelude.{◌≡◌, ◌+◌, ◌<◌, ◌≤◌, ◌↔◌, [], filter, slice_index, true, IsTrue, IfSome, IfNone};
 ghost use Rattle.std.specs.List.{All};
 ghost use Rattle.build_seats.specs.Close.{seats_of, Fits, IsMissing, AreSeatsWhole, Differs, FitsAll};
@@ -14,11 +15,11 @@ use realm_model::Event;
 pub enum CloseFault {
     /// A build that does not have exactly one seat.
     SeatMissing(BuildId),
-    /// A build with a seat whose trail is not the build's part of the history.
+    /// A build with a mismatched seat. The seat's trail is not the build's part of the history.
     RecordMismatch(BuildId),
 }
 
-/// Shows that the count of each seat equals the count that the lock protects for the same build. Nothing changes.
+/// Shows that each seat's count equals the count under the lock. The two counts are of the same build. Nothing changes.
 pub fn audit<L: Ledgers>(books: &mut Books<L>, seats: &mut [Seat<L>])
     ensures books { books.new ≡ books.old }
     ensures seats { seats.new ≡ seats.old }
@@ -29,7 +30,7 @@ pub fn audit<L: Ledgers>(books: &mut Books<L>, seats: &mut [Seat<L>])
     }
 }
 
-/// The lowest build that does not have exactly one seat.
+/// Finds the lowest build that does not have exactly one seat.
 #[tactic(auto, unfolding(crate::specs::Close::AreSeatsWhole))]
 pub fn missing<L: Ledgers>(seats: &[Seat<L>], builds: u8) -> Option<BuildId>
     requires { builds ≤ 8 }
@@ -52,7 +53,7 @@ fn seat_count<L: Ledgers>(seats: &[Seat<L>], build: BuildId) -> usize
     seats.iter().filter(|seat| seat.build() == build).count()
 }
 
-/// The lowest build with a seat whose trail is not the build's part of the history.
+/// Finds the lowest build with a mismatched seat. The trail of such a seat is not the build's part of the history.
 #[tactic(auto, unfolding(crate::specs::Close::FitsAll))]
 pub fn mismatch<L: Ledgers>(seats: &[Seat<L>], history: &[Event]) -> Option<BuildId>
     ensures some { IfSome result (λ build. Differs build history.now seats.now) }

@@ -1,4 +1,4 @@
-//! The content of the lock: the host, and the number of events of each build.
+//! The data under the lock: the host, and each build's number of events.
 ghost use Rattle.std.specs.Prelude.{◌≡◌, ◌+◌, ◌<◌, List, [], ◌∷◌, ◌++◌, length, map, slice_set, IfOk, IfErr, MatchResult};
 ghost use Rattle.std.specs.List.{range_with_len};
 ghost use Rattle.std.specs.Result.{OnOk};
@@ -26,7 +26,7 @@ use realm_model::Event;
 use std::alloc::{AllocError, Global};
 use std::marker::Model;
 
-/// A host, with the number of events that each of its builds has in the history. No build is in abort.
+/// A host, with the number of events of each build. The events are those in the history. No build is in abort.
 #[derive(Drop)]
 pub struct Kept<S: PageStore, L: Ledgers> {
     host: Host<S>,
@@ -47,8 +47,9 @@ impl<S: PageStore, L: Ledgers> Model for Kept<S, L> {
 }
 
 impl<S: PageStore, L: Ledgers> Kept<S, L> {
-    /// Prepares a host with an empty history to be shared, and makes a seat for each of its builds, the lowest build
-    /// first. All memory for their events is taken here. If there is none, blanks and host come back.
+    /// Prepares a host to be shared, and makes the seats of its builds. The host's history is empty. Each build gets
+    /// one seat, the lowest build first. All memory for the builds' events is taken here. If there is none, blanks and
+    /// host come back.
     pub fn start(
         alloc: Global,
         blanks: Blanks,
@@ -107,7 +108,7 @@ impl<S: PageStore, L: Ledgers> Kept<S, L> {
         Ok(undone)
     }
 
-    /// Sets a mark for the seat's build, and returns the host's answer. A mark is not an event.
+    /// Sets a mark for the seat's build. Returns the host's answer. A mark is not an event.
     pub fn mark(&mut self, seat: &mut Seat<L>) -> Result<Mark, Refusal>
         ensures answer { IsMarked self.old.host seat.old.build result self.new.host }
         ensures books { self.new.books ≡ self.old.books }
@@ -123,7 +124,8 @@ impl<S: PageStore, L: Ledgers> Kept<S, L> {
         Ok(mark)
     }
 
-    /// The number of operations that the seat's build has open above a mark, or the host's refusal. Nothing changes.
+    /// Counts the open operations of the seat's build above a mark. Returns their number, or the host's refusal.
+    /// Nothing changes.
     pub fn check_back(&mut self, seat: &mut Seat<L>, mark: Mark) -> Result<u16, Refusal>
         ensures answer { result ≡ way_back self.old.host seat.old.build mark }
         ensures stands { OnOk result (IsMarkOf self.old.host seat.old.build mark) }

@@ -1,4 +1,4 @@
-//! Ghost ledgers, one for each build: the counts that the lock protects, and the passes that the seats carry.
+//! Ghost ledgers, one for each build. The lock protects their counts, and the seats carry their passes.
 ghost use Rattle.std.specs.Prelude.{◌≡◌, ℕ, ◌+◌, ◌<◌, [], ◌∷◌, length, map, slice_index, slice_set};
 ghost use Rattle.std.specs.List.{range_with_len};
 ghost use Rattle.host_ledger.specs.View.{HostView};
@@ -11,7 +11,8 @@ use granule_addr::BuildId;
 use std::marker::{Brand, Model, PhantomData};
 use std::sync::ledger::{Book, Ledger, Share};
 
-/// The names of the ledgers of builds that share a host, and the host with which the builds were started.
+/// A family of ledgers for the builds of a host. It has the name of each build's ledger, and the state of the host when
+/// the builds began to share it.
 pub trait Ledgers {
     ghost opened: { HostView };
 
@@ -25,7 +26,7 @@ impl Ledgers for Brand {
     ghost names = { λ build. 0 };
 }
 
-/// The type of the ledger of one build. The ledger has one part.
+/// The type of one build's ledger. The ledger has one part.
 pub struct LedgerOf<L, const BUILD: u8>(PhantomData<L>);
 
 impl<L: Ledgers, const BUILD: u8> Ledger for LedgerOf<L, BUILD> {
@@ -56,7 +57,8 @@ impl<L: Ledgers> Model for Books<L> {
 }
 
 impl<L: Ledgers> Books<L> {
-    /// Shows that the count of a pass equals the count that the lock protects for the same build. Nothing changes.
+    /// Shows that a pass's count equals the count under the lock. The two counts are of the same build. Nothing
+    /// changes.
     pub fn audit(&mut self, pass: &mut Pass<L>)
         ensures same { (self.new ≡ self.old) × (pass.new ≡ pass.old) }
         ensures build { pass.old.build < 8 }
@@ -75,7 +77,7 @@ impl<L: Ledgers> Books<L> {
         }
     }
 
-    /// Adds one to the count of a pass, and to the count that the lock protects for the same build.
+    /// Adds one to the count of a pass. The count that the lock protects for the same build rises too.
     pub(crate) fn raise(&mut self, pass: &mut Pass<L>)
         ensures book { self.new ≡ slice_set self.old pass.old.build (pass.old.count + 1) }
         ensures pass { pass.new ≡ record pass.old { count = pass.old.count + 1 } }
@@ -94,7 +96,7 @@ impl<L: Ledgers> Books<L> {
     }
 }
 
-// The undivided share of the ledger of one build.
+// The sole share of the ledger of one build.
 #[derive(Drop)]
 enum Whole<L: Ledgers> {
     Build0(Share<LedgerOf<L, 0>>),
@@ -107,7 +109,7 @@ enum Whole<L: Ledgers> {
     Build7(Share<LedgerOf<L, 7>>),
 }
 
-/// The undivided share of one build's ledger. The view is the build and the count.
+/// The sole share of one build's ledger. The view is the build and the count.
 #[derive(Drop)]
 pub struct Pass<L: Ledgers> {
     whole: Whole<L>,
@@ -126,7 +128,7 @@ impl<L: Ledgers> Model for Pass<L> {
 }
 
 impl<L: Ledgers> Pass<L> {
-    /// The build whose events are counted.
+    /// The build whose events the pass counts.
     pub fn build(&self) -> BuildId
         ensures build { result ≡ self.now.build }
         ensures range { self.now.build < 8 }
@@ -145,8 +147,8 @@ impl<L: Ledgers> Pass<L> {
     }
 }
 
-/// Newly opened ledgers: the counts that the lock will protect, and a pass for each build, in sequence. Nothing is
-/// counted yet.
+/// Newly opened ledgers, in which nothing is counted yet. They are the counts that the lock will protect, and a pass
+/// for each build, the lowest build first.
 #[derive(Drop)]
 pub struct Opened<L: Ledgers> {
     pub books: Books<L>,
@@ -156,7 +158,7 @@ pub struct Opened<L: Ledgers> {
 }
 
 impl<L: Ledgers> Opened<L> {
-    /// Opens a ledger on each blank.
+    /// Opens each blank as the ledger of its build.
     pub fn new(blanks: Blanks) -> Opened<L>
         requires named { AreNamed L.names blanks }
     {

@@ -1,4 +1,5 @@
-//! A host with a seat for each of its builds, and the work of a build. Nothing here depends on locks or threads.
+//! A host with a seat for each of its builds. The work of a build is here too. Nothing in this crate depends on locks
+//! or threads.
 //!
 //! `Kept` is what a lock protects: the host, and for each build the number of its events in the history. A `Seat` is a
 //! session handle of one build: it has the same number, and a list of these events. A call of `Kept` asks the host, and

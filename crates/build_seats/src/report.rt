@@ -2,27 +2,27 @@
 use granule_addr::{BuildId, RecNo};
 use host_commands::{Refusal, Reply, Undone};
 
-/// The question that a line of a worker's report answers.
+/// The question that a line of a report answers.
 #[derive(Clone, Copy, PartialEq, Eq)]
 pub enum Asked {
     /// A step of the plan, by its index from 0.
     Step(usize),
-    /// After a refusal, the exit of a REC.
+    /// An exit from a REC, after a refusal.
     Exit(RecNo),
-    /// After a refusal, an undo.
+    /// An undo, after a refusal.
     Undo,
 }
 
-/// The answer in a line of a worker's report.
+/// The answer in a line of a report.
 #[derive(Clone, Copy, PartialEq, Eq)]
 pub enum Answer {
     /// The reply to an accepted command.
     Replied(Reply),
     /// The result of an undo.
     Undone(Undone),
-    /// A mark that was set, with the number of operations open at the mark.
+    /// A mark that was set. The value is the number of operations open at the mark.
     Marked(u16),
-    /// An abort or a `back` with nothing to undo.
+    /// The answer to a step that has nothing to undo. The step is an abort or a `back`.
     Nothing,
     Refused(Refusal),
 }

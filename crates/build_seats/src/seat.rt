@@ -29,7 +29,7 @@ impl<L: Ledgers> Model for Trail<L> {
 }
 
 impl<L: Ledgers> Trail<L> {
-    /// An empty trail, with capacity for `room` events.
+    /// Creates an empty trail with capacity for `room` events.
     pub fn build(alloc: Global, room: u16) -> Result<Trail<L>, AllocError>
         requires { room ≡ L.opened.capacity }
         ensures { IfOk result (λ trail. trail ≡ []) }
@@ -73,8 +73,8 @@ pub(crate) fn new_trails<L: Ledgers>(
     Ok(trails)
 }
 
-/// The session handle of one thread on a shared host. It has its build's pass, which counts the build's events in the
-/// history, and the list of these events.
+/// A build's session handle for a shared host. It has the build's pass, which counts the build's events in the history,
+/// and the list of these events.
 #[derive(Drop)]
 pub struct Seat<L: Ledgers> {
     pub(crate) pass: Pass<L>,
@@ -101,7 +101,7 @@ impl<L: Ledgers> Seat<L> {
         self.pass.build()
     }
 
-    /// The number of its build's events that the seat has counted, which is the length of the seat's trail.
+    /// The number of the build's events that the seat has counted. It is the length of the seat's trail.
     pub fn count(&self) -> usize
         ensures count { result ≡ self.now.count }
         ensures trail { result ≡ length self.now.trail }
@@ -117,7 +117,7 @@ impl<L: Ledgers> Seat<L> {
     }
 }
 
-/// Makes a seat from each trail and one of the passes, which are taken in sequence. The other passes are dropped.
+/// Makes a seat from each trail and a pass. The lowest build comes first. The passes that are left are dropped.
 pub(crate) fn seated<L: Ledgers>(
     mut seats: Vec<Seat<L>>,
     passes: [Pass<L>; 8],

@@ -1,4 +1,4 @@
-//! The state of a build, as far as its worker knows it from the replies that the worker got.
+//! A worker's record of its build's state. The teller's replies keep the record up to date.
 ghost use Rattle.std.specs.Prelude.{◌≡◌, ◌+◌, ◌-◌, ◌^◌, ◌<◌, ◌≤◌, ◌++◌, length, take, drop, slice_index, Some};
 ghost use Rattle.build_seats.specs.Standing.{first_standing, with_number, without_number, standing_after_command, left_to_clear};
 
@@ -7,10 +7,10 @@ use host_commands::Cmd;
 use host_ledger::Mark;
 use std::marker::Model;
 
-/// The largest number of RECs of a build that can run at once, which is the largest number of steps of a build.
+/// The limit on the running RECs of a build. It is equal to the limit on a build's steps.
 pub const MOST: usize = 1024;
 
-/// The state of a build, as far as its worker knows it from the replies that the worker got.
+/// A worker's record of its build's state. The teller's replies keep the record up to date.
 #[derive(Drop)]
 pub struct Standing {
     turn: usize,
@@ -61,7 +61,7 @@ fn exit(running: &mut ArrayVec<u16, MOST>, number: u16)
 }
 
 impl Standing {
-    /// The state before the first question.
+    /// Creates the record of a build before the first question.
     pub fn first() -> Standing
         ensures { result ≡ first_standing }
     {

@@ -13,7 +13,8 @@ use crate::teller::{Gate, Teller};
 use host_commands::{Refusal, Step};
 use host_ledger::Mark;
 
-/// Undoes `count` operations, and adds a line to the report for each.
+/// Asks for `count` undos in sequence. Each answer is added to the report. A refusal ends the sequence, and so does a
+/// turn that the gate does not give.
 pub(crate) fn undo_each<T: Teller, G: Gate>(
     report: &mut Report,
     standing: &mut Standing,
@@ -149,7 +150,7 @@ fn go_back<T: Teller, G: Gate>(
     }
 }
 
-/// Takes the step of a plan at the index `place`.
+/// Performs one step of a build. The answers are added to the report. The step's index in the build's list is `place`.
 pub(crate) fn take_step<T: Teller, G: Gate>(
     report: &mut Report,
     standing: &mut Standing,

@@ -1,4 +1,4 @@
-//! The two traits that a worker depends on: a teller, which answers its questions, and a gate, which gives it turns.
+//! The two traits that a worker depends on. A teller answers the worker's questions, and a gate gives the worker turns.
 ghost use Rattle.std.specs.Prelude.{◌≡◌, ℕ, List, [], ◌∷◌, ◌++◌, OnOk, OnErr};
 ghost use Rattle.build_seats.specs.Exchange.{Exchange, Did, Undid, KeptMark, CheckedBack};
 
@@ -7,20 +7,22 @@ use granule_addr::BuildId;
 use host_commands::{Cmd, Refusal, Reply, Undone};
 use host_ledger::Mark;
 
-/// A host as the worker of one build uses it: questions, each with its answer. A seat is a teller.
+/// The client side of a host, for the worker of one build. A teller asks the host the worker's questions, and returns
+/// the answers. A seat with its shared host is a teller.
 pub trait Teller {
-    /// Whether a list has all questions that the teller was asked, in sequence, each with its answer.
+    /// Whether a list has all exchanges of the teller, in sequence. An exchange is a question that the teller was
+    /// asked, with its answer.
     ghost tells: { Self → List Exchange → Type 0 };
 
-    /// The loan that the teller writes through, if there is one.
+    /// A number that identifies the teller's mutable borrow. The teller writes through that borrow, if there is one.
     ghost loan: { Self → ℕ };
 
-    /// Asks the host to perform a command, which is borrowed from the worker.
+    /// Asks the host to perform a command. The command is borrowed from the worker.
     fn ask(&mut self, cmd: &Cmd) -> Result<Reply, Refusal>
         ensures told { (earlier : List Exchange) → tells self.old earlier → tells self.new (earlier ++ Did cmd.now result ∷ []) }
         ensures loan { loan self.new ≡ loan self.old };
 
-    /// Asks the host to reverse the newest operation that the build has open.
+    /// Asks the host to reverse the build's newest open operation.
     fn undo(&mut self) -> Result<Undone, Refusal>
         ensures told { (earlier : List Exchange) → tells self.old earlier → tells self.new (earlier ++ Undid result ∷ []) }
         ensures loan { loan self.new ≡ loan self.old };
@@ -30,7 +32,7 @@ pub trait Teller {
         ensures told { (earlier : List Exchange) → tells self.old earlier → tells self.new (earlier ++ KeptMark result ∷ []) }
         ensures loan { loan self.new ≡ loan self.old };
 
-    /// Asks for the number of operations that the build has open above a mark.
+    /// Asks for the number of the build's open operations above a mark.
     fn check_back(&mut self, mark: Mark) -> Result<u16, Refusal>
         ensures told { (earlier : List Exchange) → tells self.old earlier → tells self.new (earlier ++ CheckedBack mark result ∷ []) }
         ensures loan { loan self.new ≡ loan self.old };
@@ -38,10 +40,10 @@ pub trait Teller {
 
 /// The scheduler of workers' turns.
 pub trait Gate {
-    /// Whether the gate gives a build its turn with a given number.
+    /// Whether the gate gives a turn to a build. The arguments are the build and the number of the turn.
     ghost passes: { Self → ℕ → ℕ → Type 0 };
 
-    /// Whether the gate withholds from a build its turn with a given number.
+    /// Whether the gate withholds a turn from a build. The arguments are the build and the number of the turn.
     ghost stops: { Self → ℕ → ℕ → Type 0 };
 
     /// Waits for a turn of a build. The build's worker calls this function before each question. Turns are counted from

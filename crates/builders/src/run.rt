@@ -1,4 +1,4 @@
-//! The run of all workers at once, each worker in a thread of its own.
+//! The run of all workers at once: a thread for each worker.
 ghost use Rattle.std.specs.Prelude.{◌≡◌, [], true, All, MatchOption, MatchResult};
 ghost use Rattle.builders.specs.Runs.{AreRun, IsLowestWaiting};
 ghost use Rattle.builders.specs.Workers.{IsWorkerRun};
@@ -13,8 +13,8 @@ use std::sync::Wait;
 use std::thread;
 use std::thread::Threads;
 
-/// Runs each worker in a thread of its own, and waits for all of them. If no thread can be made, they run one after
-/// another. At `Err` is the lowest build whose worker has not ended: the gate stopped one of its turns.
+/// Runs each worker in a thread of its own. The call waits for all workers. If no thread can be made, the workers run
+/// one after another. An `Err` has the lowest build whose worker has not ended: the gate stopped one of its turns.
 pub fn run_builds<
     R: Threads + Wait + Sync,
     S: PageStore + Send,

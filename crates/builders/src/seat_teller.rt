@@ -10,8 +10,8 @@ use page_arena::PageStore;
 use realm_host::{Cmd, Mark, Refusal, Reply, Undone};
 use std::sync::Wait;
 
-/// A seat, and the host that its build's worker asks. Each question takes the lock once and is answered by the host.
-/// The accepted ones are the events of the seat's trail.
+/// A teller for a seat of a shared host. Each question of the seat's build takes the lock once and is answered by the
+/// host. The accepted commands and undos are the events of the seat's trail.
 #[derive(Drop)]
 pub struct SeatTeller<'a, R: Wait, S: PageStore, L: Ledgers> {
     pub rt: &'a R,

@@ -1,4 +1,4 @@
-//! A host that builds share behind a lock.
+//! A host under a lock, shared by its builds.
 ghost use Rattle.std.specs.Prelude.{◌≡◌, [], map, IfOk, IfErr, MatchResult};
 ghost use Rattle.std.specs.List.{range_with_len};
 ghost use Rattle.realm_host.specs.Call.{Ask, Undo};
@@ -23,8 +23,9 @@ pub struct Shared<S: PageStore, L: Ledgers> {
 }
 
 impl<S: PageStore, L: Ledgers> Shared<S, L> {
-    /// Shares a host that has no history, and returns one seat for each of its builds, the lowest build first. All
-    /// memory for their events is taken here. If there is none, blanks and host come back.
+    /// Shares a host, and returns the seats of its builds. The host has no history. Each build gets one seat, the
+    /// lowest build first. All memory for the builds' events is taken here. If there is none, blanks and host come
+    /// back.
     pub fn start(
         alloc: Global,
         blanks: Blanks,
@@ -45,7 +46,7 @@ impl<S: PageStore, L: Ledgers> Shared<S, L> {
         }
     }
 
-    /// Performs a command of the seat's build on the host, and returns the reply.
+    /// Performs a command of the seat's build on the host. Returns the reply, or the host's refusal.
     pub fn call(&self, rt: &impl Wait, seat: &mut Seat<L>, cmd: Cmd) -> Result<Reply, Refusal>
         ensures told { IfOk result (λ reply. IsCallTold L.opened (Ask cmd) (Replied reply) seat.old seat.new) }
         ensures refused { IfErr result (λ refusal. IsCallRefused L.opened (Ask cmd) refusal seat.old × (seat.new ≡ seat.old)) }
@@ -61,8 +62,8 @@ impl<S: PageStore, L: Ledgers> Shared<S, L> {
         self.kept.lock(rt).undo(seat)
     }
 
-    /// Sets a mark at the current open operations of the seat's build, and returns the mark. The seat is borrowed
-    /// mutably, since its count is compared with the one behind the lock; it stays as it is.
+    /// Sets a mark for the seat's build. Returns the mark, or the host's refusal. The seat is borrowed mutably, since
+    /// its count is compared with the one under the lock; it stays as it is.
     pub fn mark(&self, rt: &impl Wait, seat: &mut Seat<L>) -> Result<Mark, Refusal>
         ensures told { IsMarkTold L.opened seat.old result }
         ensures seat { seat.new ≡ seat.old }
@@ -70,8 +71,8 @@ impl<S: PageStore, L: Ledgers> Shared<S, L> {
         self.kept.lock(rt).mark(seat)
     }
 
-    /// Returns the number of operations that the seat's build has open above a mark, or the host's refusal. The seat is
-    /// borrowed as for `mark`.
+    /// Counts the open operations of the seat's build above a mark. Returns their number, or the host's refusal. The
+    /// seat is borrowed as for `mark`.
     pub fn check_back(&self, rt: &impl Wait, seat: &mut Seat<L>, mark: Mark) -> Result<u16, Refusal>
         ensures told { IsBackTold L.opened seat.old mark result }
         ensures seat { seat.new ≡ seat.old }

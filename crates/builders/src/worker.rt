@@ -12,7 +12,7 @@ use std::alloc::{AllocError, Global};
 use std::marker::Model;
 use std::sync::Wait;
 
-/// The worker of a build: its seat, its steps, and the answers that it got.
+/// The worker of a build. It has the build's seat and steps, and the answers that the worker got.
 #[derive(Drop)]
 pub struct Worker<L: Ledgers> {
     seat: Seat<L>,
@@ -34,8 +34,8 @@ impl<L: Ledgers> Model for Worker<L> {
 }
 
 impl<L: Ledgers> Worker<L> {
-    /// Returns a new worker for a seat's build, with an empty report. If there is no memory for its report, seat and
-    /// steps come back.
+    /// Creates the worker of a seat's build. Its report is empty. If there is no memory for the report, seat and steps
+    /// come back.
     pub fn build(
         alloc: Global,
         seat: Seat<L>,
@@ -68,7 +68,7 @@ impl<L: Ledgers> Worker<L> {
         self.seat.build()
     }
 
-    /// Whether the worker has ended, that is, it has run and the gate stopped none of its turns.
+    /// Whether the worker has ended. It has if it ran, and the gate gave it every turn that it waited for.
     pub fn has_ended(&self) -> bool
         ensures { result ≡ self.now.ended }
     {

@@ -8,7 +8,7 @@ use crate::{DeviceFailed, ReadError, Told};
 use std::io::Read;
 use std::marker::Model;
 
-/// The next item of an input: a line, or the end of the input.
+/// The next item of an input: a line, or the end.
 #[derive(Clone, Copy)]
 pub enum Next {
     /// A line that was read completely.
@@ -19,7 +19,7 @@ pub enum Next {
     End,
 }
 
-/// A buffer of the bytes that were read from an input but not yet consumed.
+/// A buffer for reading lines. It has the bytes that were read from an input but not yet consumed.
 #[derive(Drop)]
 pub struct Lines {
     buffer: [u8; 4096],
@@ -38,7 +38,7 @@ impl Model for Lines {
 }
 
 impl Lines {
-    /// An empty buffer, before anything was read.
+    /// Creates an empty buffer, before anything was read.
     pub fn new() -> Lines
         ensures { result ≡ [] }
     {
@@ -76,7 +76,7 @@ impl Lines {
         byte
     }
 
-    /// Reads the next line without its line feed, and returns `TooLong` for a line of more than `most` bytes.
+    /// Reads the next line, without its line feed. Returns `TooLong` for a line of more than `most` bytes.
     ///
     /// `Device` comes exactly when a read failed, and `Memory` only if allocation failed.
     pub fn next_line<R: Read>(

@@ -13,7 +13,7 @@ use std::marker::Model;
 #[derive(Clone, Copy)]
 pub struct DeviceFailed;
 
-/// The reason why the reading of an input, or of a part of it, failed.
+/// The reason why an input could not be read.
 #[derive(Clone, Copy)]
 pub enum ReadError {
     /// A failed allocation.
@@ -33,7 +33,8 @@ impl From<DeviceFailed> for ReadError {
     }
 }
 
-/// A device (a reader or a writer) with a flag that says whether a call has failed.
+/// A device with a flag for failed calls. The device is a reader or a writer, and the flag says whether a call has
+/// failed.
 #[derive(Drop)]
 pub struct Told<D> {
     device: D,
@@ -54,7 +55,7 @@ impl<D> Model for Told<D> {
 }
 
 impl<D> Told<D> {
-    /// A device with no failed call so far.
+    /// Wraps a device. No call has failed so far.
     pub fn new(device: D) -> Told<D>
         ensures { result ≡ record { device = device; failed = false; is_closed = false; reads = 0 } }
     {
@@ -73,7 +74,7 @@ impl<D> Told<D> {
         self.failed
     }
 
-    /// Whether a write failed because the device is a pipe whose other end is closed.
+    /// Whether a write or flush failed because of a closed pipe. The device is then a pipe whose other end is closed.
     pub fn is_closed(&self) -> bool
         ensures value { result ≡ self.now.is_closed }
         ensures failed { result ≡ true → self.now.failed ≡ true }
@@ -97,7 +98,7 @@ impl<D> Told<D> {
         DeviceFailed
     }
 
-    /// The number of read calls to the device, counted up to the greatest `u64` and no further.
+    /// The number of read calls to the device. The counter saturates at the greatest `u64`.
     pub fn reads(&self) -> u64
         ensures { result ≡ self.now.reads }
     {
@@ -124,8 +125,8 @@ impl<R: Read> Told<R> {
 }
 
 impl<W: Write> Told<W> {
-    /// Writes at least one of the bytes, if there are any, with one call to the device. Every error of the device is a
-    /// failure, and so is a write that takes none of the bytes. An `Err` sets `failed`.
+    /// Writes bytes with one call to the device. If there are any, a successful call writes at least one. Every error
+    /// of the device is a failure, and so is a write that takes none of the bytes. An `Err` sets `failed`.
     pub fn write(&mut self, buf: &[u8]) -> Result<usize, DeviceFailed>
         requires { self.old.failed ≡ false }
         ensures told { self.new.failed ≡ is_err result }

@@ -1,9 +1,9 @@
-//! The address of a machine's first granule, which an option of a command line can set.
+//! The address of a machine's first granule. An option of a command line can set the address.
 ghost use Rattle.std.specs.Prelude.{◌≡◌, ◌<◌, ◌%◌, ◌^◌};
 
 use std::marker::Model;
 
-/// The address of a machine's first granule, in bytes: a multiple of 4,096 below 2^46.
+/// The address of a machine's first granule, in bytes. It is a multiple of 4,096 below 2^46.
 #[derive(Clone, Copy)]
 pub struct BaseAddress(u64);
 
@@ -20,14 +20,14 @@ impl Model for BaseAddress {
 }
 
 impl BaseAddress {
-    /// The usual address, at which most RMMs for tests have memory.
+    /// The default address, 0x80000000. Most RMMs that are built for tests have memory there.
     pub fn usual() -> BaseAddress
         ensures { result ≡ 0x80000000 }
     {
         BaseAddress(0x8000_0000)
     }
 
-    /// The address that a text gives in hexadecimal, such as `0x80000000`. `None` if the text gives no number, or no
+    /// Parses an address in hexadecimal, such as `0x80000000`. The result is `None` if the text gives no number, or no
     /// multiple of 4,096 below 2^46.
     pub(crate) fn read(text: &str) -> Option<BaseAddress> {
         let address = u64::from_str_radix(text.strip_prefix("0x")?, 16).ok()?;

@@ -1,4 +1,5 @@
-//! The command lines of the programs, and what they share: arguments, reasons to stop, outcomes, and terminal output.
+//! The command lines of the programs. The crate also has what the programs share: arguments, reasons to stop, outcomes,
+//! and terminal output.
 //!
 //! A program has its own faults, each a `Reason` with its exit status and its line; `Stop` adds that the words are
 //! refused. The command line of `realmhost` is proved to be what `clap`'s definition says of it. Those of `realmview`

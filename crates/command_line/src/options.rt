@@ -1,4 +1,5 @@
-//! Parts of command lines whose `clap` definitions are proved: a program, a subcommand, and the option `--erase`.
+//! Proved `clap` definitions of parts of a command line. The parts are a program, a subcommand, and the option
+//! `--erase`.
 ghost use Rattle.std.specs.Prelude.{◌≡◌, IfOk, None, Some, codes, false, if◌then◌else◌, map, nat_lt, option_and_then, option_map, string_bytes, true};
 ghost use Rattle.clap.specs.Words.{FailsBy, app_of, fault_of, found_of, is_simple_and_free, new_app, one_of, rows_of, rule_of, subcommand_of, subcommand_rows_of};
 ghost use Rattle.clap.specs.declared.builder.command.Command.TheViews.{out-Command as fields_of};
@@ -25,7 +26,7 @@ pub(crate) fn subcommand<'a>(alloc: Global, name: &'a str, about: &'a str) -> Co
     Command::new(alloc, name).about(about)
 }
 
-/// The `clap` definition of the option `--erase`, by which a build is left out.
+/// The `clap` definition of the option `--erase`. The option leaves out a build.
 pub(crate) fn erase<'a>(alloc: Global, help: &'a str) -> Arg<'a>
     ensures rule { rule_of result ≡ erase_option }
     ensures local { result.global ≡ false }
@@ -38,7 +39,7 @@ pub(crate) fn erase<'a>(alloc: Global, help: &'a str) -> Arg<'a>
         .value_parser(value_parser!(u8).range(0..=7))
 }
 
-/// Parses the words of a command line by a program's `clap` definition, and returns the matches or the error.
+/// Parses a command line by a program's `clap` definition. Returns the matches, or the error.
 pub(crate) fn matched<'a>(
     program: Command<'a>,
     words: &'a [String],
@@ -50,14 +51,14 @@ pub(crate) fn matched<'a>(
     program.try_get_matches_from(words)
 }
 
-/// The build with a number, if a number is given and it is below 8.
+/// Returns the build that a number names. The result is `None` if there is no number, or if the number is not below 8.
 pub(crate) fn build_of(number: Option<u8>) -> Option<BuildId>
     ensures { result ≡ option_and_then (λ n. if nat_lt n 8 then Some n else None) number }
 {
     BuildId::new(number?)
 }
 
-/// The build that the matched words ask to leave out, if they name one.
+/// Returns the build that `--erase` leaves out. The result is `None` if the matched words do not have the option.
 pub(crate) fn erased(matches: &ArgMatches) -> Option<BuildId>
     requires { ArePassed built_erase matches.now }
     ensures { IsErase (one_of (codes "erase") (rows_of (found_of matches.now))) result }
@@ -65,7 +66,7 @@ pub(crate) fn erased(matches: &ArgMatches) -> Option<BuildId>
     build_of(matches.get_one("erase"))
 }
 
-/// The file that a text names. `-` names none, and means standard input.
+/// Returns the file that a text names. The text `-` means standard input, and its result is `None`.
 pub(crate) fn named_file(text: &str) -> Option<&str>
     ensures { option_map (λ s. s.now) result ≡ named_file text.now }
 {

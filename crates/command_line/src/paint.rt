@@ -4,12 +4,14 @@ ghost use Rattle.command_line.specs.Painted.{code_of, shown_by, AddsPainted, IsP
 
 use std::alloc::{AllocError, Global};
 
-/// The kind of a text, which decides how its lines are coloured.
+/// The kind of a text. It decides how the lines of the text are coloured.
 #[derive(Clone, Copy)]
 pub enum Painting {
-    /// Messages, in which `error:`, `warning:` and `help:`, lines of carets, and lines of refused turns are coloured.
+    /// Messages of a program. The labels `error:`, `warning:` and `help:` are coloured, and so are lines of carets and
+    /// lines of refused turns.
     Messages,
-    /// Differences in a trace, in which the heading with the verdict and the line with the model's answer are coloured.
+    /// Differences in a trace. A heading with the verdict `wrong` or `allowed` is coloured, and so is the line with the
+    /// model's answer. The labels of messages are coloured here too.
     Difference,
 }
 
@@ -187,7 +189,7 @@ fn line_len(text: &[u8]) -> usize
     text.len()
 }
 
-/// Returns a copy of the text with terminal escape sequences around the pieces that are coloured.
+/// Returns a coloured copy of the text. Terminal escape sequences are around the pieces that are coloured.
 pub fn painted(alloc: Global, text: &[u8], painting: Painting) -> Result<Vec<u8>, AllocError>
     ensures { IfOk result (λ out. IsPainted text.now out.items) }
 {

@@ -26,7 +26,7 @@ pub fn arguments<R: Env + AllocGlobal, F: Reason>(rt: &R) -> Result<Vec<String>,
 }
 
 impl<F: Reason> Stop<F> {
-    /// Prints to standard error why the program stops, and returns the exit status.
+    /// Prints to standard error why the program stops. Returns the exit status.
     pub fn end<R: Eprint>(&self, rt: &R) -> ExitCode
         ensures { exit_status result ≡ status_of_stop F.status_of self.now }
     {

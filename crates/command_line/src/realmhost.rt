@@ -14,7 +14,7 @@ use std::alloc::{AllocError, Global};
 pub enum Line {
     /// Replays the plan; a build may be left out.
     Replay(Option<BuildId>),
-    /// Runs the builds of the plan, each in a thread of its own.
+    /// Runs each build of the plan in a thread of its own.
     Run,
 }
 
@@ -48,7 +48,7 @@ fn command<'a>(alloc: Global) -> Result<Command<'a>, AllocError>
 }
 
 impl Line {
-    /// Returns the request that the words make, or the error. The first word is the program's name.
+    /// Parses a command line. Returns the request, or the error. The first word is the program's name.
     pub fn of(alloc: Global, words: &[String]) -> Result<Line, Error>
         // The request is the one for the subcommand that the specification of `clap` finds in the words.
         ensures ok { IfOk result (IsHostSubcommand (subcommand_of realmhost (map string_bytes words.now))) }

@@ -15,7 +15,7 @@ use std::alloc::{AllocError, Global};
 pub enum ViewSubcommand {
     /// Writes the history of a plan; a build may be left out.
     History(Option<BuildId>),
-    /// Applies a history, and writes the map; a build may be left out.
+    /// Applies a history, and writes the resulting map of the host. A build may be left out.
     Apply(Option<BuildId>),
     /// Writes the JSON document of a plan's run.
     Json,
@@ -23,13 +23,14 @@ pub enum ViewSubcommand {
     Page,
     /// Writes the mistakes of a plan.
     Check,
-    /// Writes the run of a plan, and below each refused turn the failed check; if `all`, also the passed checks.
+    /// Writes the run of a plan, and explains each refused turn. The failed check is below the turn. If `all`, the
+    /// checks that passed are written too.
     Why { all: bool },
     /// Writes the outcomes of schedules of a plan.
     Explore(Schedules, AfterRefusal),
-    /// Writes a plan with a schedule that gives each build all the turns that it needs.
+    /// Writes a plan with a complete schedule. The schedule gives each build all the turns that the build needs.
     Order(SchedulingPolicy),
-    /// Writes the run of a plan as the calls that it makes to an RMM whose memory begins at the given address.
+    /// Writes the run of a plan as calls to an RMM. The memory of the RMM begins at the given address.
     Calls(BaseAddress, CallsForm),
 }
 
@@ -45,11 +46,11 @@ pub enum CallsForm {
 /// The schedules that are explored for a plan.
 #[derive(Clone, Copy, Drop)]
 pub enum Schedules {
-    /// All schedules, if their runs have at most the given number of states.
+    /// All schedules. Their runs may have at most the given number of states.
     All(u32),
-    /// How many schedules are drawn at random, and the seed of the random numbers.
+    /// Schedules drawn at random. The values are the number of schedules, and the seed of the random numbers.
     Drawn(u32, u32),
-    /// The shortest schedule whose last turn answers a question, if the runs have at most the given number of states.
+    /// The shortest schedule whose last turn answers a question. The runs may have at most the given number of states.
     Shortest(u32, ScheduleQuestion),
 }
 
@@ -58,7 +59,8 @@ pub enum Schedules {
 pub enum ScheduleQuestion {
     /// Whether the step is refused.
     Refused(StepPlace),
-    /// Whether the build waits while another build holds nothing.
+    /// Whether the given build waits while another build holds no page. A build waits if its step is refused for want
+    /// of a block or a VMID.
     Waiting(u32),
     /// Whether at least the given number of granules is leased.
     Leased(u32),
@@ -69,11 +71,11 @@ pub enum ScheduleQuestion {
 pub enum AfterRefusal {
     /// Goes on with the build's next step.
     GoOn,
-    /// Leaves out the build's other steps, and aborts.
+    /// Leaves out the build's remaining steps, and aborts.
     GiveUp,
 }
 
-/// A step of a plan: its build, and its index in the build's list of steps.
+/// A step of a plan. It is named by its build, and by its index in the build's list of steps.
 #[derive(Clone, Copy, Drop)]
 pub struct StepPlace {
     pub build: u32,
@@ -85,13 +87,14 @@ pub struct StepPlace {
 pub enum BadOption {
     /// A sample of more schedules than may be drawn.
     SampleAboveMost { sample: u32 },
-    /// A text that is not an address, or an address that is too high or not a multiple of 4,096.
+    /// A text that is no base address. It is not an address, or the address is too high or not a multiple of 4,096.
     NoBase,
     /// A text that does not name a step of a build.
     NoStep,
-    /// A request that builds give up, in a command that prints a plan.
+    /// The option `--give-up` together with a question. The answer to a question is a plan, and a plan cannot say that
+    /// its builds give up.
     GiveUpInPlan,
-    /// A number of granules out of range: none, or more than a machine has.
+    /// A number of granules out of range. It is 0, or more than a machine can have.
     NoGranules { granules: u32 },
     /// More than one question.
     TwoQuestions,
@@ -102,7 +105,7 @@ pub enum BadOption {
 pub enum SchedulingPolicy {
     /// Turns in rotation, for each build that has a step left.
     InRotation,
-    /// Turns of one build after another: a build begins when the previous build has no step left.
+    /// Turns of one build after another. A build begins when the previous build has no step left.
     OneByOne,
 }
 
@@ -478,7 +481,8 @@ fn bad_option(alloc: Global, reason: BadOption) -> Result<Error, AllocError> {
 }
 
 impl ViewSubcommand {
-    /// Returns the request and the file that the words name, or the error. The first word is the program's name.
+    /// Parses a command line. Returns the request and the name of the file, or the error. The first word is the
+    /// program's name.
     pub fn of<'a>(
         alloc: Global,
         words: &'a [String],

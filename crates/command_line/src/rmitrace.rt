@@ -11,20 +11,22 @@ use rmm_trace::{find_name, name_text};
 use std::alloc::{AllocError, Global};
 use strsim::osa_distance;
 
-/// A set of names that select lines of a trace, indexed by the places of the names in `rmm_trace`.
+/// A set of names by which lines of a trace are selected. For each index of a name in `rmm_trace`, a flag says whether
+/// the set has the name.
 #[derive(Clone, Copy)]
 pub struct NameSet {
     pub places: [bool; 256],
 }
 
-/// The lines that a check compares, the verdicts that it prints, and whether it stops at a wrong line.
+/// The options of a check. They say which lines the check compares, which verdicts it prints, and whether it stops at a
+/// wrong line.
 #[derive(Clone, Copy)]
 pub struct Comparison {
-    /// Whether the verdict on each compared line is printed, even if the answers are the same.
+    /// Whether the verdict on each compared line is printed. That includes the lines whose answers are the same.
     pub is_each: bool,
-    /// Whether the check stops at the first line that is wrong.
+    /// Whether the check stops at the first wrong line.
     pub stops: bool,
-    /// The names of the lines to which the comparison is restricted, if any are given.
+    /// The names to which the comparison is restricted, if any are given. Other lines are then not compared.
     pub only: Option<NameSet>,
     /// The names of the lines that are not compared.
     pub skip: Option<NameSet>,
@@ -130,7 +132,7 @@ const RMITRACE: Program = Program {
 // ---- names
 
 impl NameSet {
-    /// Whether the name at a place is in the set.
+    /// Whether the set has the name with the index `place` in `rmm_trace`.
     pub fn has(&self, place: usize) -> bool
         ensures { result ≡ is_name_in self.now place }
     {
@@ -234,7 +236,8 @@ fn asked_by(alloc: Global, matches: &ArgMatches) -> Result<TraceSubcommand, Erro
 }
 
 impl TraceSubcommand {
-    /// Returns the request and the file that the words name, or the error. The first word is the program's name.
+    /// Parses a command line. Returns the request and the name of the file, or the error. The first word is the
+    /// program's name.
     pub fn of<'a>(
         alloc: Global,
         words: &'a [String],

@@ -1,4 +1,4 @@
-//! The reasons why a program stops before it has done what it was asked for.
+//! The reasons why a program stops before its work is done.
 ghost use Rattle.std.specs.Prelude.{◌≡◌, ℕ};
 ghost use Rattle.command_line.specs.Stop.{status_of_stop, stop_of_error};
 ghost use Rattle.command_line.specs.declared.stop.Stop.TheVariants.{Run};
@@ -8,7 +8,7 @@ use clap::error::ErrorKind;
 use std::fmt;
 use std::fmt::Display;
 
-/// The reason why a program has not done what the command line asks for. Its text is a line for standard error.
+/// A reason why a program has not carried out its command line. Its text is a line for standard error.
 pub trait Reason: Display + Drop {
     /// The exit status of each reason.
     ghost status_of: { Self → ℕ };
@@ -25,16 +25,17 @@ pub trait Reason: Display + Drop {
         ensures { result ≡ memory };
 }
 
-/// The reason why a program stops, with an exit status and one or more lines for standard error.
+/// The reason why a program stops. It has an exit status, and one or more lines for standard error.
 #[derive(Drop)]
 pub enum Stop<F> {
-    /// A command line that is refused, or that asks for help or for the version: `clap` says which.
+    /// A command line with an error of `clap`. The line is refused, or asks for help or for the version: `clap` says
+    /// which.
     Usage(Error),
     /// An argument that is not UTF-8.
     NotUtf8,
-    /// A file of the command line that cannot be opened, with the line that says so.
+    /// A file of the command line that cannot be opened. The value is the error message.
     Unopened(String),
-    /// A failure to do what the command line asks for, with its reason.
+    /// A failure to do what the command line asks for. The value is its reason.
     Run(F),
 }
 

@@ -1,4 +1,4 @@
-//! Command lines as tables: a program with subcommands, each of which reads a FILE and has options.
+//! Command lines as tables. A program has subcommands, and each subcommand reads a FILE and has options.
 use crate::options::{erase, named_file, program, subcommand};
 use clap::{Arg, ArgAction, ArgMatches, Command, Error, value_parser};
 use std::alloc::{AllocError, Global};
@@ -8,17 +8,17 @@ use std::alloc::{AllocError, Global};
 pub(crate) enum Opt {
     /// `--erase B`, the build that is left out.
     Erase(&'static str),
-    /// An option with a 32-bit number: the option's name, the value's name, and the help.
+    /// An option whose value is a 32-bit number. The texts are the option's name, the value's name, and the help.
     Number(&'static str, &'static str, &'static str),
     /// A flag: its name and its help.
     Flag(&'static str, &'static str),
     /// An option that may be repeated, with a name each time.
     Names(&'static str, &'static str),
-    /// An option with a text: the option's name, the value's name, and the help.
+    /// An option with a text as its value. The fields are the option's name, the value's name, and the help.
     Text(&'static str, &'static str, &'static str),
 }
 
-/// A subcommand: its name and what it does, examples, its FILE, and its options.
+/// A subcommand of a program. It has a name, a description, examples, the help for its argument FILE, and options.
 #[derive(Clone, Copy)]
 pub(crate) struct Subcommand {
     pub name: &'static str,
@@ -28,7 +28,8 @@ pub(crate) struct Subcommand {
     pub options: &'static [Opt],
 }
 
-/// A program: its name and what it does, examples, and its subcommands, of which one is required.
+/// A program with subcommands. It also has a name, a description, and examples. A command line has to name a
+/// subcommand.
 #[derive(Clone, Copy)]
 pub(crate) struct Program {
     pub name: &'static str,
@@ -100,8 +101,8 @@ impl Program {
         Ok(command)
     }
 
-    /// Parses the words of a command line by the program's `clap` definition, and returns the matches or the error. The
-    /// first word is the program's name.
+    /// Parses a command line by the program's `clap` definition. The first word is the program's name. Returns the
+    /// matches or the error.
     pub(crate) fn matched<'a>(
         &self,
         alloc: Global,
@@ -111,7 +112,7 @@ impl Program {
     }
 }
 
-/// The file that the subcommand is given. `-` is none, and means standard input.
+/// Returns the name of the file given to the subcommand, if any. `-` names no file, and means standard input.
 pub(crate) fn given_file<'a>(matches: &ArgMatches<'a>) -> Option<&'a str> {
     let (_, subcommand) = matches.subcommand()?;
     named_file(subcommand.get_str("file")?)

@@ -1,4 +1,4 @@
-//! The input and output streams of a program that is run at a terminal.
+//! Input and output of a program at a terminal.
 ghost use Rattle.std.specs.Prelude.{◌≡◌, ◌⊎◌, IfErr};
 ghost use Rattle.std.specs.Process.{exit_status};
 ghost use Rattle.command_line.specs.Stop.{status_of_stop};
@@ -14,7 +14,7 @@ use std::io::{IsTerminal, Read, Stdin, Stdout, Write};
 use std::process::ExitCode;
 use std::{env, io};
 
-/// The input of a program: standard input, or the file of its command line.
+/// The input of a program. It is standard input, or the file that the command line names.
 #[derive(Drop)]
 pub enum Input<'a> {
     /// Standard input.
@@ -50,7 +50,7 @@ fn opened(rt: &HostRuntime, name: &str) -> io::Result<File> {
 }
 
 impl<'a> Input<'a> {
-    /// Opens the file of the command line, or standard input if there is none.
+    /// Opens the input of a program. The input is the file with the name `file`, or standard input for `None`.
     ///
     /// If standard input is a terminal, a line on standard error says what the program awaits.
     pub fn open<F: Reason>(
@@ -104,7 +104,7 @@ pub struct Output<'a> {
 }
 
 impl<'a> Output<'a> {
-    /// Standard output, painted if it is a terminal and colours are allowed.
+    /// Opens standard output. The output gets the painting if it is a terminal and the environment allows colours.
     pub fn open(rt: &'a HostRuntime, painting: Option<Painting>) -> Output<'a> {
         let is_painted = rt.stdout().is_terminal() && allows_colours(rt);
         Output {
@@ -133,7 +133,8 @@ impl Write for Output<'_> {
 }
 
 impl<F: Reason> Stop<F> {
-    /// Prints to standard error why the program stops, in colour on a terminal, and returns the exit status.
+    /// Prints why the program stops, and returns the exit status. The message goes to standard error. It is in colour
+    /// if standard error is a terminal and the environment allows colours.
     pub fn end_in_colour(&self, rt: &HostRuntime) -> ExitCode
         ensures { exit_status result ≡ status_of_stop F.status_of self.now }
     {

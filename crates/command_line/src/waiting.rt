@@ -7,8 +7,8 @@ use std::time::Duration;
 // The pause before a call is tried again, in milliseconds.
 const PAUSE: u64 = 2;
 
-/// A stream of the process, and the runtime that its pauses need. A call that would wait in a pipe which does not block
-/// is tried again after a pause.
+/// A stream that waits when a non-blocking pipe is not ready. A call that would block is tried again after a pause, for
+/// which the stream keeps the runtime.
 #[derive(Drop)]
 pub struct WaitingStream<'a, D> {
     rt: &'a HostRuntime,
@@ -16,7 +16,7 @@ pub struct WaitingStream<'a, D> {
 }
 
 impl<'a, D> WaitingStream<'a, D> {
-    /// A waiting stream over `stream`.
+    /// Creates a waiting stream over `stream`.
     pub fn new(rt: &'a HostRuntime, stream: D) -> WaitingStream<'a, D> {
         WaitingStream { rt, stream }
     }

@@ -5,7 +5,7 @@ ghost use Rattle.decimal_text.specs.Numbers.{IsPlain, AreNumbers, spelled_number
 
 use arrayvec::ArrayVec;
 
-/// Whether the text begins as a decimal does: with no `+`, and with a zero only if the whole text is `0`.
+/// Whether the text has no leading `+` and no leading zeros. The text `0` has no leading zero.
 fn is_plain(bytes: &[u8]) -> bool
     ensures { IsTrue result ↔ IsPlain bytes.now }
 {
@@ -16,7 +16,7 @@ fn is_plain(bytes: &[u8]) -> bool
     }
 }
 
-/// The 32-bit number that the text spells in decimal.
+/// Parses a 32-bit decimal number.
 fn number_of(text: &str) -> Option<u32>
     ensures found { IfSome result (λ n. text.now ≡ decimal n) }
     ensures none { IfNone result ((n : ℕ) → n < 2 ^ 32 → text.now ≢ decimal n) }
@@ -27,7 +27,7 @@ fn number_of(text: &str) -> Option<u32>
     text.parse::<u32>().ok()
 }
 
-/// The text before the first space, and the text from that space on.
+/// Splits a text at its first space. The second part begins with that space; without a space, it is empty.
 pub fn cut_at_space(text: &str) -> (&str, &str)
     ensures before { result.0.now ≡ before_space text.now }
     ensures from { result.1.now ≡ from_space text.now }
@@ -39,7 +39,8 @@ pub fn cut_at_space(text: &str) -> (&str, &str)
     }
 }
 
-/// The numbers that the text spells with one space before each, if there are at most `MOST`.
+/// Parses at most `MOST` 32-bit numbers. Each number is in decimal, with one space before it. Any other text gives
+/// `None`.
 pub fn numbers_of<const MOST: usize>(text: &str) -> Option<ArrayVec<u32, MOST>>
     ensures found { IfSome result (λ v. AreNumbers MOST v.items × (text.now ≡ spelled_numbers v.items)) }
     ensures none { IfNone result ((ns : List ℕ) → AreNumbers MOST ns → text.now ≢ spelled_numbers ns) }

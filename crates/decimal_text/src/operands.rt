@@ -1,15 +1,15 @@
-//! The operands of a word: as many numbers as the word takes, each in the range of its type.
+//! Operands of a word, made from numbers. There are as many numbers as the word takes, each in the range of its type.
 ghost use Rattle.std.specs.Prelude.{◌≡◌, ℕ, nat_le, ◌&&◌, if◌then◌else◌, Some, None};
 ghost use Rattle.decimal_text.specs.Rows.{one, two, three, four};
 ghost use Rattle.decimal_text.specs.Written.{u8, u16, u32};
 
-/// A type for the operands of a word. Each value is made from a number that is at most `maximum`.
+/// A type that an operand can have. Each value is made from a number that is at most `maximum`.
 pub trait Operand: Copy {
     ghost maximum: { ℕ };
 
     ghost of: { ℕ → Self };
 
-    /// The operand made from a number, if the number is at most the maximum.
+    /// Makes an operand from a number. Returns `None` if the number is above the type's maximum.
     fn from_number(number: u32) -> Option<Self>
         ensures { result ≡ (if nat_le number maximum then Some (of number) else None) };
 }
@@ -51,7 +51,8 @@ fn both<A: Operand, B: Operand>(first: u32, second: u32) -> Option<(A, B)>
     A::from_number(first).zip(B::from_number(second))
 }
 
-/// The operand, if there is exactly one number, and the number is in the operand's range.
+/// Makes an operand from exactly one number. Returns `None` for another count of numbers, or if the number is out of
+/// range.
 pub fn one_operand<A: Operand>(numbers: &[u32]) -> Option<A>
     ensures { result ≡ one A.maximum (λ k. A.of k) numbers.now }
 {
@@ -61,7 +62,8 @@ pub fn one_operand<A: Operand>(numbers: &[u32]) -> Option<A>
     }
 }
 
-/// The operands, if there are exactly two numbers, each in the range of its operand.
+/// Makes two operands from exactly two numbers. Returns `None` for another count of numbers, or if a number is out of
+/// its operand's range.
 pub fn two_operands<A: Operand, B: Operand>(numbers: &[u32]) -> Option<(A, B)>
     ensures { result ≡ two A.maximum B.maximum (λ k l. (A.of k, B.of l)) numbers.now }
 {
@@ -71,7 +73,8 @@ pub fn two_operands<A: Operand, B: Operand>(numbers: &[u32]) -> Option<(A, B)>
     }
 }
 
-/// The operands, if there are exactly three numbers, each in the range of its operand.
+/// Makes three operands from exactly three numbers. Returns `None` for another count of numbers, or if a number is out
+/// of its operand's range.
 pub fn three_operands<A: Operand, B: Operand, C: Operand>(numbers: &[u32]) -> Option<(A, B, C)>
     ensures { result ≡ three A.maximum B.maximum C.maximum (λ k l m. (A.of k, B.of l, C.of m)) numbers.now }
 {
@@ -83,7 +86,8 @@ pub fn three_operands<A: Operand, B: Operand, C: Operand>(numbers: &[u32]) -> Op
     Some((first, second, third))
 }
 
-/// The operands, if there are exactly four numbers, each in the range of its operand.
+/// Makes four operands from exactly four numbers. Returns `None` for another count of numbers, or if a number is out of
+/// its operand's range.
 pub fn four_operands<A: Operand, B: Operand, C: Operand, D: Operand>(
     numbers: &[u32],
 ) -> Option<(A, B, C, D)>
@@ -98,8 +102,9 @@ pub fn four_operands<A: Operand, B: Operand, C: Operand, D: Operand>(
     Some((first, second, third, fourth))
 }
 
-/// The value made from operands, if they are in range: a variant whose fields are the operands in sequence, or any
-/// expression. This is a macro for a `match`, since a closure for each would be one more function to prove.
+/// Maps an `Option` of operands to an `Option` of a value. The value is a variant whose fields are the operands in
+/// sequence, or any expression. This is a macro for a `match`, since a closure for each would be one more function to
+/// prove.
 #[macro_export]
 macro_rules! made_of {
     ($found:expr => $type:ident::$kind:ident { $($field:ident),+ }) => {

@@ -5,7 +5,8 @@ ghost use Rattle.decimal_text.specs.Rows.{up_to};
 
 use arrayvec::ArrayVec;
 
-/// The numbers, if there is one for each maximum, and none is above its maximum.
+/// Checks each number against its maximum. Returns the numbers; or `None` if a number is above its maximum, or if there
+/// is not one number for each maximum.
 pub fn at_most<const N: usize>(numbers: &[u32], maxima: [u32; N]) -> Option<[u32; N]>
     ensures found { IfSome result (λ ns. (numbers.now ≡ ns) × AreAtMost ns maxima.entry) }
     ensures none { IfNone result (AreAtMost numbers.now maxima.entry → ⊥) }
@@ -21,7 +22,8 @@ pub fn at_most<const N: usize>(numbers: &[u32], maxima: [u32; N]) -> Option<[u32
     Some(found)
 }
 
-/// The numbers, if there are no more than `MOST`, and each is at most the maximum.
+/// Checks each number against one maximum. Returns the numbers; or `None` if a number is above the maximum, or if there
+/// are more than `MOST` numbers.
 pub fn up_to<const MOST: usize>(numbers: &[u32], maximum: u16) -> Option<ArrayVec<u16, MOST>>
     ensures { result ≡ up_to MOST maximum numbers.now }
 {

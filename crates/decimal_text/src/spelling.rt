@@ -1,7 +1,7 @@
 //! The text of numbers in decimal.
 use std::fmt;
 
-/// The text of numbers in decimal, with one space before each number.
+/// Decimal numbers as text, with one space before each.
 #[derive(Clone, Copy)]
 pub struct NumbersText<'a>(pub &'a [u32]);
 
@@ -19,7 +19,7 @@ impl fmt::Display for NumbersText<'_> {
     }
 }
 
-/// The text of a word and its numbers in decimal, with one space before each number.
+/// A word and its numbers, as text. The numbers are in decimal, with one space before each.
 #[derive(Clone, Copy)]
 pub struct SpelledText<'a>(pub &'a str, pub &'a [u32]);
 

@@ -1,5 +1,5 @@
-//! An example of two builds that share a host behind a lock, each build in a thread of its own. Each build has a seat,
-//! and the seats close the host.
+//! An example of two builds that share a host. Each build has a thread of its own, and a lock guards the host. Each
+//! build has a seat, and the seats close the host.
 ghost use Rattle.std.specs.Prelude.{◌≡◌, [], IfOk};
 ghost use Rattle.build_seats.specs.Names.{AreNamed};
 
@@ -62,7 +62,7 @@ fn run<R: Print + AllocGlobal + Threads + Wait + Sync, L: Ledgers + Send + Sync>
     }
 }
 
-/// Runs two builds on a new host, and prints the number of events and the map of the host.
+/// Runs two builds on a new host, and prints the result. The result is the number of events, and the map of the host.
 pub(crate) fn both<R: Print + AllocGlobal + Threads + Wait + Sync>(rt: &R) -> Result<()> {
     let host = booted(rt.alloc())?;
     run::<R, Brand>(rt, Blanks::new(), host)

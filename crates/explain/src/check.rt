@@ -8,7 +8,7 @@ use crate::rmi_facts::{InputFact, RealmFact, RecFact, WalkFact};
 use realm_host::{Refusal, Rmi};
 use std::alloc::AllocError;
 
-/// The fact that a check requires, with the values that the check reads.
+/// The fact that a check requires. It has the values that the check reads.
 #[derive(Clone, Copy)]
 pub enum Fact {
     Build(BuildFact),
@@ -20,7 +20,7 @@ pub enum Fact {
     Walk(WalkFact),
 }
 
-/// A check: the required fact, whether the check fails, and the refusal that a failure gives.
+/// A check of a step. It has the required fact, whether the check fails, and the refusal that a failure gives.
 #[derive(Clone, Copy)]
 pub struct Check {
     pub fact: Fact,
@@ -28,7 +28,7 @@ pub struct Check {
     pub refusal: Refusal,
 }
 
-/// A check made by the RMM, with the RMI result that a failure gives.
+/// Creates a check that the RMM makes. `rmi` is the RMI result that a failure gives.
 pub(crate) fn rmi_check(fact: Fact, fails: bool, rmi: Rmi) -> Check
     ensures { result ≡ rmi_check fact fails rmi }
 {
@@ -46,7 +46,7 @@ pub(crate) fn add(checks: &mut Vec<Check>, check: Check) -> Result<(), AllocErro
     checks.extend_from_slice(&[check])
 }
 
-/// Appends a check to a list of checks, unless the check is `None`.
+/// Appends a check to a list, unless the check is `None`.
 pub(crate) fn add_some(checks: &mut Vec<Check>, check: Option<Check>) -> Result<(), AllocError>
     ensures { OnOk result (checks.new.items ≡ checks.old.items ++ cons_option check []) }
 {

@@ -1,4 +1,4 @@
-//! The error message of a refused step: the required fact, the found fact, and the name of the refusal.
+//! The error message of a refused step. It says the required fact, the found fact, and the name of the refusal.
 use crate::check::{Check, Fact};
 use crate::host_facts::{BuildFact, RoomFact, UndoFact};
 use crate::names::{entry_state, granule_state, realm_state, rec_state, refusal_name};
@@ -16,7 +16,7 @@ use realm_host::{GranuleState, Host};
 use realm_plan::{realm_word, state_word};
 use std::alloc::AllocError;
 
-/// Appends the words for a failed check, with the name of the refusal in parentheses.
+/// Appends the error message for a failed check. It is the words, then the name of the refusal in parentheses.
 pub(crate) fn push_error(
     text: &mut String,
     words: Phrase,
@@ -35,7 +35,7 @@ pub(crate) fn push_error(
     text.push_str(")")
 }
 
-/// The words for a failed check of a step: the required fact, and the fact that was found.
+/// Returns the words for a failed check of a step. They say the required fact, and the fact that was found.
 pub(crate) fn error_of<S: PageStore>(
     host: &Host<S>,
     build: BuildId,
@@ -147,7 +147,7 @@ fn of_room(machine: u16, fact: RoomFact) -> Phrase {
     }
 }
 
-/// The error for a RUNNING REC that the newest open operation created.
+/// Returns the error for the newest operation's RUNNING REC. The newest open operation created that REC.
 pub(crate) fn newest_error(number: u16) -> Phrase {
     one(
         "REC {}, the newest operation's, must be READY; it is RUNNING",
@@ -257,7 +257,7 @@ fn of_input(step: &Step, fact: InputFact) -> Phrase {
     }
 }
 
-/// The number of IPA granules in the protected half of an address space of `width` bits.
+/// Returns the number of protected IPA granules. They are half of the address space, which has `width` bits.
 pub(crate) fn protected_end(width: u8) -> u64 {
     1 << width.saturating_sub(13).min(32)
 }

@@ -1,4 +1,4 @@
-//! The reasons, in words, why a host does not apply a recorded event.
+//! Words for why a host does not apply a recorded event.
 use crate::check::Check;
 use crate::error::{error_of, newest_error, push_error};
 use crate::of_build::build_there;
@@ -14,8 +14,8 @@ use plan_replay::PlanCursor;
 use realm_host::{Act, Event, Host, Refusal};
 use std::alloc::{AllocError, Global};
 
-/// Returns, in words, the reason why a host does not apply an event. The words name granules instead of pages. The
-/// words are empty if neither a check nor a recorded value explains it.
+/// Explains in words why a host does not apply an event. The words name granules instead of pages. The words are empty
+/// if neither a check nor a recorded value explains it.
 pub fn event_words<S: PageStore>(
     alloc: Global,
     host: &Host<S>,

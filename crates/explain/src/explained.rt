@@ -1,4 +1,4 @@
-//! A turn of a run, with the reason for its refusal, if any.
+//! Turns of a run, with the reasons for refusals.
 use crate::check::Check;
 use host_commands::Step;
 

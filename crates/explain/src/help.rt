@@ -1,4 +1,4 @@
-//! The help for a refused step, with proposed steps in the notation of plans.
+//! The help for a refused step. It proposes steps in the notation of plans.
 use crate::check::Fact;
 use crate::help_host::{build_help, room_help, undo_help};
 use crate::help_input::input_help;
@@ -19,7 +19,8 @@ pub(crate) enum Help {
     Say(Phrase),
     /// Two phrases, one after the other.
     Both(Phrase, Phrase),
-    /// Leading words, an `exit` step for each RUNNING REC, a number of undos, and closing words.
+    /// A number of undos, between leading and closing words. An `exit` step for each RUNNING REC comes before the
+    /// undos.
     Undo(Phrase, usize, &'static str),
     /// An `exit` step for each RUNNING REC.
     Exit,
@@ -39,7 +40,7 @@ fn help_of<S: PageStore>(host: &Host<S>, build: BuildId, step: &Step, fact: Fact
     }
 }
 
-/// Appends the help for a failed check of a step, if there is any.
+/// Appends the help for a failed check of a step. Appends nothing if the check has no help.
 pub(crate) fn push_help<S: PageStore>(
     text: &mut String,
     host: &Host<S>,

@@ -12,7 +12,7 @@ use host_commands::Step;
 use page_arena::PageStore;
 use realm_host::{GranuleState, Host};
 
-/// The words for the smallest `take` that gives at least `count` pages, or `None` if no block of its size is free.
+/// Proposes the smallest `take` that gives at least `count` pages. Returns `None` if no block of its size is free.
 pub(crate) fn take_of<S: PageStore>(host: &Host<S>, build: BuildId, count: u16) -> Option<Phrase> {
     let order = order_for(count)?;
     if !has_block(host, order) {
@@ -70,7 +70,7 @@ fn realm_first<S: PageStore>(host: &Host<S>, build: BuildId, step: &Step) -> Phr
     }
 }
 
-/// The help for a `BuildFact` that does not hold.
+/// Returns the help for a `BuildFact` that does not hold.
 pub(crate) fn build_help<S: PageStore>(
     host: &Host<S>,
     build: BuildId,
@@ -126,7 +126,8 @@ fn other_block<S: PageStore>(host: &Host<S>, order: u8) -> Phrase {
     }
 }
 
-/// The help for a step that lacks room in the journal or the history, a free VMID, or a free block.
+/// Returns the help for a step that lacks free room. It lacks room in the journal or the history, a free VMID, or a
+/// free block.
 pub(crate) fn room_help<S: PageStore>(host: &Host<S>, fact: RoomFact) -> Help {
     Help::Say(match fact {
         RoomFact::Journal(_) => plain(
@@ -143,7 +144,7 @@ pub(crate) fn room_help<S: PageStore>(host: &Host<S>, fact: RoomFact) -> Help {
     })
 }
 
-/// The help for a failed check of an undo, an abort or a step `back`.
+/// Returns the help for a failed check of an undo, abort or `back`.
 pub(crate) fn undo_help<S: PageStore>(host: &Host<S>, build: BuildId, fact: UndoFact) -> Help {
     match fact {
         UndoFact::Open(_) => Help::Nothing,

@@ -1,4 +1,4 @@
-//! The help for a page or a number that is not as the RMM requires.
+//! The help for failed checks on operands. The operands are pages, IPA granules, levels and numbers of pages.
 use crate::error::protected_end;
 use crate::help::Help;
 use crate::help_host::take_of;
@@ -13,7 +13,7 @@ use realm_host::{GranuleState, Host};
 
 // ---- pages
 
-/// The help that proposes another page of the build: a DELEGATED page, or a page to delegate first.
+/// Proposes another page of the build. It is a DELEGATED page, or else a page to delegate first.
 pub(crate) fn other_page<S: PageStore>(host: &Host<S>, build: BuildId, step: &Step) -> Help {
     let delegated = other_pages(host, build, step, GranuleState::Delegated);
     if let [page, ..] = delegated.as_slice() {
@@ -145,7 +145,8 @@ fn covering_table(step: &Step, ipa: u32, level: u8) -> Phrase {
     )
 }
 
-/// The help for a page or a number that is not as a step requires.
+/// Returns the help for a failed check on an operand. The operand is a page, an IPA granule, a level or a number of
+/// pages.
 pub(crate) fn input_help<S: PageStore>(
     host: &Host<S>,
     build: BuildId,

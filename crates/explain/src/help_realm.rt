@@ -1,4 +1,4 @@
-//! The help for a realm, a REC or a translation that is not as a step requires.
+//! The help for failed checks on realms, RECs and walks of translation tables.
 use crate::help::Help;
 use crate::help_host::take_of;
 use crate::help_input::other_page;
@@ -63,7 +63,8 @@ fn other_width(rd: u16, root: u16, width: u8) -> Phrase {
     two(words, Number(rd as u64), Number(root as u64))
 }
 
-/// The help for a failed check on a realm: on its state, or on the operands of its creation.
+/// Returns the help for a failed check on a realm. The check is on the realm's state, or on the operands of its
+/// creation.
 pub(crate) fn realm_help<S: PageStore>(
     host: &Host<S>,
     build: BuildId,
@@ -101,7 +102,8 @@ fn missing_rec<S: PageStore>(host: &Host<S>, build: BuildId, number: u16) -> Hel
     Help::Rec("create it first: ")
 }
 
-/// The help for a failed check on a REC: on its existence, its state, or the pages of its creation.
+/// Returns the help for a failed check on a REC. The check is on the REC's existence, its state, or the pages of its
+/// creation.
 pub(crate) fn rec_help<S: PageStore>(
     host: &Host<S>,
     build: BuildId,
@@ -240,7 +242,7 @@ fn other_entry<S: PageStore>(host: &Host<S>, build: BuildId, step: &Step, ipa: u
     }
 }
 
-/// The help for a walk that ends at another level or entry than a step requires.
+/// Returns the help for a failed check on a walk. The check is on the level or the entry at which the walk ends.
 pub(crate) fn walk_help<S: PageStore>(
     host: &Host<S>,
     build: BuildId,

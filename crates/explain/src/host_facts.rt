@@ -1,48 +1,48 @@
 //! Facts that the host checks before it calls the RMM.
 use granule_addr::{Gran, Vmid};
 
-/// A fact about a build or a block order, on which refusals 1 to 6 (`NoBuild` to `NoRealm`) depend.
+/// A fact about a build or a block order. Refusals 1 to 6 (`NoBuild` to `NoRealm`) depend on it.
 #[derive(Clone, Copy)]
 pub enum BuildFact {
-    /// The build exists; the value is the number of builds of the host.
+    /// The build exists. The value is the number of builds of the host.
     There(u8),
     /// The build is not aborting.
     NotAborting,
-    /// The order of a block is at most 9; the value is the order.
+    /// The order of a block is at most 9. The value is the order.
     Order(u8),
-    /// The build has the page; the values are the page's number, its granule, if any, and the number of the build's
-    /// pages.
+    /// The build has the page. The values are the page's number, the page's granule, if any, and how many pages the
+    /// build has.
     Page(u16, Option<Gran>, u16),
-    /// The build has a realm; the value is the RD that was found, if any.
+    /// The build has a realm. The value is the RD that was found, if any.
     Realm(Option<Gran>),
-    /// The build has no realm; the value is the RD that was found, if any.
+    /// The build has no realm. The value is the RD that was found, if any.
     NoRealm(Option<Gran>),
 }
 
-/// A fact about free room, on which refusals 9 to 12 (`JournalFull` to `NoVmid`) depend.
+/// A fact about free room. Refusals 9 to 12 (`JournalFull` to `NoVmid`) depend on it.
 #[derive(Clone, Copy)]
 pub enum RoomFact {
-    /// Fewer than 512 operations of the build are open; the value is the number of open operations.
+    /// Fewer than 512 operations of the build are open. The value is the number of open operations.
     Journal(usize),
-    /// Enough of the build's room in the history is left; the values are the numbers of entries left and needed.
+    /// The build has enough room left in the history. The values are the numbers of entries left and needed.
     History(u16, u16),
-    /// A VMID is free; the value is the lowest free VMID, if any.
+    /// A VMID is free. The value is the lowest free VMID, if any.
     Vmid(Option<Vmid>),
-    /// An aligned block is free; the values are its order and the number of free pages.
+    /// An aligned block is free. The values are the block's order and the number of free pages.
     Block(u8, u16),
 }
 
-/// A fact about an undo, an abort or a step `back`, on which refusals 7 (`NothingToUndo`) and 8 (`RecRunning`) depend.
+/// A fact about an undo, an abort or a `back` step. Refusals 7 (`NothingToUndo`) and 8 (`RecRunning`) depend on it.
 #[derive(Clone, Copy)]
 pub enum UndoFact {
-    /// The build has operations open; the value is the number of open operations.
+    /// The build has an open operation. The value is the number of open operations.
     Open(usize),
     /// The newest open operation created no REC that is RUNNING.
     NewestRests,
-    /// The build's RECs are all READY; the value is the number of RUNNING RECs.
+    /// The build's RECs are all READY. The value is the number of RUNNING RECs.
     AllRest(u16),
     /// The build has a valid mark.
     Mark,
-    /// No open operation since the mark created a REC that is RUNNING.
+    /// No REC created after the mark is RUNNING. RECs count only if the operation that created them is still open.
     AboveRests,
 }

@@ -1,12 +1,12 @@
-//! Theorems on checks: the first failed check gives the refusal by the host.
+//! Theorems on checks: the first failed check gives the host's refusal.
 ghost use Rattle.std.specs.Prelude.{ℕ, Option};
 ghost use Rattle.host_commands.specs.declared.cmd.Cmd.{Cmd};
 ghost use Rattle.host_ledger.specs.View.{HostView};
 ghost use Rattle.host_ledger.specs.declared.mark.Mark.{Mark};
 ghost use Rattle.explain.specs.FirstFailing.{ChecksDecideUndo, ChecksDecideMark, ChecksDecideBegin, ChecksDecideBack, ChecksDecideNeeds};
 
-/// The first failed check of an undo, a mark, the beginning of an abort, or a step `back` gives the host's refusal. No
-/// check fails exactly if the host does not refuse.
+/// The first failed check gives the host's refusal. The step is an undo, a mark, the beginning of an abort or a `back`
+/// step. No check fails exactly if the host does not refuse.
 pub fn own_steps_decide()
     ensures undo { (host : HostView) (build : ℕ) → ChecksDecideUndo host build }
     ensures mark { (host : HostView) (build : ℕ) → ChecksDecideMark host build }
@@ -14,9 +14,9 @@ pub fn own_steps_decide()
     ensures back { (host : HostView) (build : ℕ) (mark : Option Mark) → ChecksDecideBack host build mark }
 {}
 
-/// The first failed check of a command's needs gives the refusal that the host returns before it calls the store or the
-/// RMM. Such refusals are 1 to 6, 9, 10 and 12. No check fails exactly if the host gives none of them. The page numbers
-/// of a `realm` command's starting tables have to be at most 65,535.
+/// The first failed check of a command's needs gives the host's refusal. Checks of needs are for refusals 1 to 6, 9, 10
+/// and 12. The host makes these checks before it calls the store or the RMM. No check fails exactly if the host gives
+/// none of these refusals. The page numbers of a `realm` command's starting tables have to be at most 65,535.
 pub fn needs_decide()
     ensures { (host : HostView) (build : ℕ) (cmd : Cmd) → ChecksDecideNeeds host build cmd }
 {}

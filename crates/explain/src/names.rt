@@ -15,7 +15,7 @@ fn rmi_name(rmi: Rmi) -> Phrase {
     }
 }
 
-/// The name of a refusal by the host, or of the result of an RMI command.
+/// Returns the name of a refusal. It is a refusal by the host, or the result of an RMI command.
 pub(crate) fn refusal_name(refusal: Refusal) -> Phrase {
     match refusal {
         Refusal::NoBuild => plain("NoBuild"),

@@ -55,7 +55,7 @@ pub(crate) fn has_block<S: PageStore>(host: &Host<S>, order: Order) -> bool
     false
 }
 
-/// The check that an aligned block of the order is free, for refusal 11 (`NoBlock`).
+/// The check that an aligned block of the order is free. The check is for refusal 11 (`NoBlock`).
 pub(crate) fn block_check<S: PageStore>(host: &Host<S>, order: Order) -> Check
     ensures { result ≡ block_check host.now order }
 {

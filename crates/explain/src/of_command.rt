@@ -193,7 +193,7 @@ fn add_monitor<S: PageStore>(
     }
 }
 
-/// Adds the checks of a command in their order.
+/// Adds the checks of a command. Those that the host makes come first, then those that the store or the RMM makes.
 #[tactic(auto, unfolding(crate::specs::Commands::command_checks))]
 pub(crate) fn add_command<S: PageStore>(
     host: &Host<S>,

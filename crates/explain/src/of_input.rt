@@ -1,4 +1,4 @@
-//! The checks on pages, IPAs and numbers that give RMI_ERROR_INPUT. RMM 1.0, RMI command conditions.
+//! Checks on pages, IPAs and numbers. The refusal of each check is RMI_ERROR_INPUT. RMM 1.0, RMI command conditions.
 ghost use Rattle.std.specs.Prelude.{◌≡◌, ◌++◌, OnOk, map, unwrap_or, option_map};
 ghost use Rattle.explain.specs.OfInput.{input_check, page_check, state_of_page, page_delegated, page_undelegated, width_of, protected, table_level, table_start, run_count, one_table};
 ghost use Rattle.granule_addr.specs.Ipa.{is_protected_at};
@@ -82,7 +82,8 @@ fn is_protected_at(ipa: u32, width: u8) -> bool
     ipa < 1 << top
 }
 
-/// The check that an IPA granule lies in the protected half of the address space of a build's realm.
+/// The check that an IPA granule is protected. A protected granule lies in the protected half of the address space of
+/// the build's realm.
 pub(crate) fn protected<S: PageStore>(host: &Host<S>, build: BuildId, ipa: u32) -> Check
     ensures { result ≡ protected host.now build ipa }
 {
@@ -114,7 +115,7 @@ pub(crate) fn table_start(ipa: u32, level: u8) -> Check
     )
 }
 
-/// The check that the number of pages to make RAM is 1 to 512.
+/// The check that the count of a `ripas` step is 1 to 512. The step sets the RIPAS of that many pages to RAM.
 pub(crate) fn run_count(count: u16) -> Check
     ensures { result ≡ run_count count }
 {
@@ -124,7 +125,7 @@ pub(crate) fn run_count(count: u16) -> Check
     )
 }
 
-/// The check that one table of level 3 serves the `count` IPA granules from `ipa` on.
+/// The check that one table of level 3 serves a range. The range is the `count` IPA granules from `ipa` on.
 pub(crate) fn one_table(ipa: u32, count: u16) -> Check
     ensures { result ≡ one_table ipa count }
 {

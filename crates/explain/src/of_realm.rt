@@ -1,5 +1,4 @@
-//! Checks on the creation of a realm, and on the state of an existing realm. RMM 1.0, RMI_REALM_CREATE, Realm
-//! attributes.
+//! Checks on the creation and the state of a realm. RMM 1.0, RMI_REALM_CREATE, Realm attributes.
 ghost use Rattle.std.specs.Prelude.{◌≡◌, ◌++◌, ◌∷◌, ◌≤◌, OnOk, length};
 ghost use Rattle.explain.specs.OfRealm.{state_of_realm, state_check, realm_new, realm_active, follow, are_adjacent, begins_right, width_check, apart_check, start_checks, realm_create_checks};
 
@@ -114,7 +113,7 @@ fn add_tables(rd: Gran, tables: &[Gran], checks: &mut Vec<Check>) -> Result<(), 
     ])
 }
 
-/// Adds the checks of RMI_REALM_CREATE for an RD and its starting tables, given by their pages and granules.
+/// Adds the checks of RMI_REALM_CREATE. The pages and the granules are those of the RD and the starting tables.
 #[tactic(auto, unfolding(crate::specs::OfRealm::realm_create_checks))]
 pub(crate) fn add_realm_create<S: PageStore>(
     host: &Host<S>,

@@ -1,5 +1,4 @@
-//! Checks on the creation of a REC, and on the existence and the state of a REC. RMM 1.0, RMI_REC_CREATE, REC
-//! attributes.
+//! Checks on the creation, the existence and the state of a REC. RMM 1.0, RMI_REC_CREATE, REC attributes.
 ghost use Rattle.std.specs.Prelude.{◌≡◌, ◌++◌, ◌∷◌, ◌≤◌, OnOk, length};
 ghost use Rattle.realm_model.specs.Command.Check.{are_distinct};
 ghost use Rattle.explain.specs.OfRec.{state_of_rec, rec_check, rec_there, rec_ready, rec_is_running, rec_create_checks};
@@ -28,7 +27,7 @@ fn are_distinct(granules: &[Gran]) -> bool
     true
 }
 
-/// Adds the checks of RMI_REC_CREATE for a REC and its auxiliaries, given by their pages and granules.
+/// Adds the checks of RMI_REC_CREATE. The pages and the granules are those of the REC and its auxiliaries.
 #[tactic(auto, unfolding(crate::specs::OfRec::rec_create_checks))]
 pub(crate) fn add_rec_create<S: PageStore>(
     host: &Host<S>,

@@ -60,7 +60,7 @@ fn begin<S: PageStore>(host: &Host<S>, build: BuildId) -> [Check; 3]
     ]
 }
 
-// The check of a step `back` that the build has a valid mark, for refusal 7 (`NothingToUndo`).
+// The check of a `back` step that the build has a valid mark, for refusal 7 (`NothingToUndo`).
 fn has_mark(fails: bool) -> Check
     ensures { result ∷ [] ≡ mark_checks fails }
 {
@@ -71,7 +71,7 @@ fn has_mark(fails: bool) -> Check
     }
 }
 
-// The checks of a step `back` to a mark, for the refusals `NoBuild`, `Aborting`, `NothingToUndo` and `RecRunning`.
+// The checks of a `back` step to a mark, for the refusals `NoBuild`, `Aborting`, `NothingToUndo` and `RecRunning`.
 fn back<S: PageStore>(host: &Host<S>, build: BuildId, mark: Mark) -> [Check; 4]
     ensures { result ≡ back_checks host.now build (Some mark) }
 {
@@ -88,7 +88,7 @@ fn back<S: PageStore>(host: &Host<S>, build: BuildId, mark: Mark) -> [Check; 4]
     ]
 }
 
-// Adds the checks of a step `back` to a mark, or the one failed check if the build has no mark.
+// Adds the checks of a `back` step to a mark, or the one failed check if the build has no mark.
 fn add_back<S: PageStore>(
     host: &Host<S>,
     build: BuildId,
@@ -123,8 +123,8 @@ fn add_step<S: PageStore>(
     }
 }
 
-/// Returns the checks of the next turn of a build's step, in their order. The cursor `place` has the number of undos
-/// that are left of the step, and the build's mark.
+/// Returns the checks of a step's next turn, in their order. The cursor `place` has the number of undos that are left
+/// of the step, and the build's mark.
 pub fn step_checks<S: PageStore>(
     alloc: Global,
     host: &Host<S>,

@@ -54,7 +54,7 @@ fn granule_of_row(row: Option<RowView>) -> Option<Gran>
     }
 }
 
-/// The check that the walk of an IPA granule towards a level ends at that level.
+/// The check that a walk towards a level ends at that level. The walk is that of an IPA granule.
 pub(crate) fn walk_ends<S: PageStore>(host: &Host<S>, build: BuildId, ipa: u32, to: Level) -> Check
     ensures { result ≡ walk_ends host.now build ipa to }
 {
@@ -63,7 +63,7 @@ pub(crate) fn walk_ends<S: PageStore>(host: &Host<S>, build: BuildId, ipa: u32, 
     rtt_check(WalkFact::Walk(ipa, to, ended), !(ended == to), ended)
 }
 
-/// The check that the entry where the walk to level 3 ends is UNASSIGNED.
+/// The check that the last entry of a walk is UNASSIGNED. The walk is to level 3.
 pub(crate) fn entry_unassigned<S: PageStore>(host: &Host<S>, build: BuildId, ipa: u32) -> Check
     ensures { result ≡ entry_unassigned host.now build ipa }
 {
@@ -73,7 +73,7 @@ pub(crate) fn entry_unassigned<S: PageStore>(host: &Host<S>, build: BuildId, ipa
     rtt_check(fact, !matches!(found, Some(EntryState::Unassigned)), level)
 }
 
-/// The check that the entry where the walk to level 3 ends is ASSIGNED.
+/// The check that the last entry of a walk is ASSIGNED. The walk is to level 3.
 pub(crate) fn entry_assigned<S: PageStore>(host: &Host<S>, build: BuildId, ipa: u32) -> Check
     ensures { result ≡ entry_assigned host.now build ipa }
 {
@@ -83,7 +83,7 @@ pub(crate) fn entry_assigned<S: PageStore>(host: &Host<S>, build: BuildId, ipa: 
     rtt_check(fact, !matches!(found, Some(EntryState::Assigned)), level)
 }
 
-/// The check that the entry where the walk towards a level ends is not TABLE.
+/// The check that the last entry of a walk is not TABLE. The walk is towards a level.
 pub(crate) fn entry_no_table<S: PageStore>(
     host: &Host<S>,
     build: BuildId,
@@ -101,7 +101,7 @@ pub(crate) fn entry_no_table<S: PageStore>(
     )
 }
 
-/// The check that the entry where the walk to level 3 ends leads to a granule.
+/// The check that the last entry of a walk leads to a granule. The walk is to level 3.
 pub(crate) fn entry_leads<S: PageStore>(host: &Host<S>, build: BuildId, ipa: u32) -> Check
     ensures { result ≡ entry_leads host.now build ipa }
 {
@@ -130,7 +130,8 @@ fn are_free<S: PageStore>(host: &Host<S>, build: BuildId, ipa: u32, count: u16) 
     true
 }
 
-/// The check that, for each of the `count` IPA granules from `ipa` on, the walk to level 3 ends at an UNASSIGNED entry.
+/// The check that `count` entries from `ipa` on are UNASSIGNED. For each of these IPA granules, the walk to level 3
+/// ends at an UNASSIGNED entry.
 pub(crate) fn entries_free<S: PageStore>(
     host: &Host<S>,
     build: BuildId,

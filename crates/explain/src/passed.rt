@@ -9,7 +9,7 @@ use crate::roles::{role_by_state, role_of};
 use host_commands::Step;
 use realm_plan::{realm_word, state_word};
 
-/// The words for a passed check of a step.
+/// Returns the words for a passed check of a step.
 pub(crate) fn passed(step: &Step, fact: Fact) -> Phrase {
     match fact {
         Fact::Build(fact) => of_build(step, fact),

@@ -12,11 +12,11 @@ use std::alloc::AllocError;
 pub(crate) enum Value {
     Number(u64),
     Word(&'static str),
-    /// A count: the number, the singular noun and the plural noun.
+    /// A count with its noun. The fields are the number, the singular noun and the plural noun.
     Many(usize, &'static str, &'static str),
-    /// A page of a build, such as `data page 5`: the role, which ends with a space, and the number.
+    /// A page of a build, such as `data page 5`. The fields are the role, which ends with a space, and the number.
     Page(&'static str, u16),
-    /// A granule, such as `data granule 5`: the role, which ends with a space, and the number.
+    /// A granule, such as `data granule 5`. The fields are the role, which ends with a space, and the number.
     Granule(&'static str, u16),
 }
 
@@ -56,12 +56,12 @@ pub(crate) fn plain(words: &'static str) -> Phrase {
     one(words, Value::Word(""))
 }
 
-/// A number of pages.
+/// Returns the value for a number of pages, such as `3 pages`.
 pub(crate) fn pages(count: u16) -> Value {
     Value::Many(count as usize, "page", "pages")
 }
 
-/// The number of a page, or a letter if there is no page.
+/// Returns a page's number, or a letter if there is no page.
 pub(crate) fn page_or(page: Option<u16>, letter: &'static str) -> Value {
     match page {
         Some(page) => Value::Number(page as u64),
@@ -88,7 +88,7 @@ fn push_named(text: &mut String, role: &str, noun: &str, number: u16) -> Result<
 }
 
 impl Value {
-    /// The granule of a page that the build has; any other value is returned unchanged.
+    /// Replaces a page of the build by its granule. Any other value is returned unchanged.
     pub(crate) fn in_granules<S: PageStore>(self, host: &Host<S>, build: BuildId) -> Value {
         let Value::Page(role, page) = self else {
             return self;
@@ -127,7 +127,7 @@ fn fill(text: &mut String, words: &str, values: &[Value]) -> Result<(), AllocErr
 }
 
 impl Phrase {
-    /// The phrase, with each page of the build replaced by its granule.
+    /// Replaces each page of the build by its granule.
     pub(crate) fn in_granules<S: PageStore>(self, host: &Host<S>, build: BuildId) -> Phrase {
         four(
             self.words,

@@ -1,4 +1,4 @@
-//! Facts that messages need beyond the values of a check, read from a host or a step.
+//! Readings of a host or a step, for messages. These messages need more than the values of a check.
 use crate::of_block::has_block;
 use crate::operands::pages_named;
 use arrayvec::ArrayVec;
@@ -7,7 +7,7 @@ use host_commands::{Cmd, Step};
 use page_arena::PageStore;
 use realm_host::{Act, EntryState, GranuleState, Host, RecState};
 
-/// The IPA granule that a step names; 0 if it names none.
+/// Returns the IPA granule that a step names. It is 0 if the step names none.
 pub(crate) fn ipa_of(step: &Step) -> u32 {
     match step {
         Step::Ask(Cmd::Rtt { ipa, .. })
@@ -19,7 +19,7 @@ pub(crate) fn ipa_of(step: &Step) -> u32 {
     }
 }
 
-/// The pages that a step names.
+/// Returns the pages that a step names.
 pub(crate) fn named_pages(step: &Step) -> ArrayVec<u16, 17> {
     match step {
         Step::Ask(cmd) => pages_named(cmd),
@@ -27,7 +27,8 @@ pub(crate) fn named_pages(step: &Step) -> ArrayVec<u16, 17> {
     }
 }
 
-/// Up to 17 pages of a build, the lowest numbers first, that are in the given state and that the step does not name.
+/// Returns pages of a build that the step does not name. They are at most 17, and in the given state. The pages with
+/// the lowest numbers come first.
 pub(crate) fn other_pages<S: PageStore>(
     host: &Host<S>,
     build: BuildId,
@@ -77,7 +78,8 @@ fn are_tables<S: PageStore>(
     true
 }
 
-/// The lowest page of a build at which `count` starting tables of a realm with the RD page `rd` can begin.
+/// Finds the lowest page at which a realm's starting tables can begin. The realm has `count` of them, and its RD is
+/// page `rd`.
 pub(crate) fn first_of_tables<S: PageStore>(
     host: &Host<S>,
     build: BuildId,
@@ -92,7 +94,7 @@ pub(crate) fn first_of_tables<S: PageStore>(
     None
 }
 
-/// The build's page number for a granule, if the granule is one of the build's pages.
+/// Returns the build's page number for a granule, if any.
 pub(crate) fn page_of<S: PageStore>(host: &Host<S>, build: BuildId, granule: Gran) -> Option<u16> {
     for page in 0..host.page_count(build) {
         if host.page_granule(build, page) == Some(granule) {
@@ -102,7 +104,7 @@ pub(crate) fn page_of<S: PageStore>(host: &Host<S>, build: BuildId, granule: Gra
     None
 }
 
-/// The order of the largest free block, if any block is free.
+/// Returns the order of the largest free block, if any.
 pub(crate) fn largest_free<S: PageStore>(host: &Host<S>) -> Option<Order> {
     let mut largest = None;
     for number in 0..10 {
@@ -115,7 +117,7 @@ pub(crate) fn largest_free<S: PageStore>(host: &Host<S>) -> Option<Order> {
     largest
 }
 
-/// The number of pages in a block of an order; 1 if no block has the order.
+/// Returns the number of pages in a block of an order. It is 1 if no block has the order.
 pub(crate) fn size_of_order(order: u8) -> u16 {
     match Order::new(order) {
         Some(order) => order.size(),
@@ -123,7 +125,7 @@ pub(crate) fn size_of_order(order: u8) -> u16 {
     }
 }
 
-/// The least order whose blocks have at least `count` pages.
+/// Returns the least order whose blocks have at least `count` pages.
 pub(crate) fn order_for(count: u16) -> Option<Order> {
     for number in 0..10 {
         if let Some(order) = Order::new(number) {
@@ -135,7 +137,7 @@ pub(crate) fn order_for(count: u16) -> Option<Order> {
     None
 }
 
-/// The number of undos up to and including the reverse of a page's delegation, or `None` if the delegation is not open.
+/// Counts the undos that it takes to undo a page's delegation. Returns `None` if the delegation is not open.
 pub(crate) fn undos_of_delegation<S: PageStore>(
     host: &Host<S>,
     build: BuildId,
@@ -153,7 +155,8 @@ pub(crate) fn undos_of_delegation<S: PageStore>(
     None
 }
 
-/// The number of undos up to and including the reverse of a realm's creation, or `None` if the creation is not open.
+/// Counts the undos that it takes to undo a realm's creation. Returns `None` if the creation of the build's realm is
+/// not open.
 pub(crate) fn undos_of_realm<S: PageStore>(host: &Host<S>, build: BuildId) -> Option<usize> {
     let open = host.open_acts(build);
     for (place, act) in open.iter().enumerate() {
@@ -164,7 +167,8 @@ pub(crate) fn undos_of_realm<S: PageStore>(host: &Host<S>, build: BuildId) -> Op
     None
 }
 
-/// The number of the REC that a build's newest open operation created, if it created one.
+/// Returns the number of the REC that a build's newest operation created. Returns `None` if the newest open operation
+/// created no REC.
 pub(crate) fn newest_rec<S: PageStore>(host: &Host<S>, build: BuildId) -> Option<u16> {
     match host.open_acts(build).last() {
         Some(Act::Rec { number, .. }) => Some(number.number()),
@@ -172,7 +176,7 @@ pub(crate) fn newest_rec<S: PageStore>(host: &Host<S>, build: BuildId) -> Option
     }
 }
 
-/// The number that the next REC of a build's realm gets; 0 if the build has no realm.
+/// Returns the number of the next REC in a build's realm. It is 0 if the build has no realm.
 pub(crate) fn next_rec<S: PageStore>(host: &Host<S>, build: BuildId) -> u16 {
     match host.realm(build) {
         Some(realm) => realm.next_number().number(),
@@ -180,7 +184,7 @@ pub(crate) fn next_rec<S: PageStore>(host: &Host<S>, build: BuildId) -> u16 {
     }
 }
 
-/// Whether the realm of a build has REC `number`, which has to be RUNNING if `only_running` is set.
+/// Whether the realm of a build has REC `number`. If `only_running` is set, the REC has to be RUNNING.
 pub(crate) fn has_rec<S: PageStore>(
     host: &Host<S>,
     build: BuildId,
@@ -193,8 +197,8 @@ pub(crate) fn has_rec<S: PageStore>(
     }
 }
 
-/// The number of RECs of a build's realm, and the highest REC number. If `only_running` is set, both are of RUNNING
-/// RECs alone.
+/// Counts the RECs of a build's realm. Returns the count, and the highest number of a REC. If `only_running` is set,
+/// both are of RUNNING RECs alone. Without such RECs, both are 0.
 pub(crate) fn count_of_recs<S: PageStore>(
     host: &Host<S>,
     build: BuildId,
@@ -210,7 +214,7 @@ pub(crate) fn count_of_recs<S: PageStore>(
     (count, last)
 }
 
-/// Whether the entry of level 3 of an IPA granule is UNASSIGNED.
+/// Whether an IPA granule has an entry of level 3 that is UNASSIGNED.
 pub(crate) fn is_unassigned<S: PageStore>(host: &Host<S>, build: BuildId, ipa: u32) -> bool {
     match host.row(build, ipa, Level::last()) {
         Some(row) => row.level.number() == 3 && matches!(row.entry.state, EntryState::Unassigned),
@@ -218,8 +222,8 @@ pub(crate) fn is_unassigned<S: PageStore>(host: &Host<S>, build: BuildId, ipa: u
     }
 }
 
-/// The first IPA granule from `from` on whose entry is UNASSIGNED if `unassigned` is set, and is not UNASSIGNED
-/// otherwise. Only the table of level 3 that serves `from` is searched.
+/// Finds the first IPA granule for which `is_unassigned` returns `unassigned`. The search begins at `from`. Only the
+/// table of level 3 that serves `from` is searched.
 pub(crate) fn first_entry<S: PageStore>(
     host: &Host<S>,
     build: BuildId,
@@ -235,12 +239,12 @@ pub(crate) fn first_entry<S: PageStore>(
     None
 }
 
-/// The number of IPA granules that a table of level 2 or 3 serves.
+/// Returns how many IPA granules a table serves. The table is of level 2 or 3.
 pub(crate) fn served(level: u8) -> u32 {
     if level == 2 { 262_144 } else { 512 }
 }
 
-/// The first IPA granule of the table of level 2 or 3 that serves an IPA granule.
+/// Returns the first IPA granule of the table that serves `ipa`. The table is of level 2 or 3.
 pub(crate) fn first_served(ipa: u32, level: u8) -> u32 {
     let served = if level == 2 { 262_144 } else { 512 };
     ipa - ipa % served

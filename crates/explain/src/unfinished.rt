@@ -11,7 +11,7 @@ use page_arena::PageStore;
 use realm_host::Host;
 use std::alloc::{AllocError, Global};
 
-/// An unfinished abort: its build, and the number of turns that it still needs, one for each open operation.
+/// An unfinished abort. It has the abort's build, and the number of turns still needed, one for each open operation.
 #[derive(Clone, Copy)]
 pub struct UnfinishedAbort {
     pub build: BuildId,
@@ -58,7 +58,8 @@ pub fn unfinished_aborts<S: PageStore>(
     Ok(aborts)
 }
 
-/// Returns the lines for unfinished aborts: how many turns each abort lacks in `order`, and how to add them.
+/// Returns an error line and a help line for each unfinished abort. The lines say how many turns the abort lacks in the
+/// plan's `order`, and how to add them.
 pub fn unfinished_lines(alloc: Global, aborts: &[UnfinishedAbort]) -> Result<String, AllocError> {
     let mut text = String::new(alloc);
     for abort in aborts {

@@ -12,7 +12,7 @@ use page_arena::PageStore;
 use realm_host::Host;
 use std::alloc::{AllocError, Global};
 
-/// Returns the error and the help for a refused step, whose failed check is the last of `checks`.
+/// Returns the error and the help for a refused step. The failed check is the last of `checks`.
 pub(crate) fn words_of<S: PageStore>(
     alloc: Global,
     host: &Host<S>,
@@ -45,8 +45,8 @@ fn push_passed(text: &mut String, step: &Step, check: &Check) -> Result<(), Allo
     text.push_str("\n")
 }
 
-/// Returns the lines below a refused turn: the failed check, the help, and the number of checks that passed before. If
-/// `all` is set, each passed check has a line too.
+/// Returns the lines below a refused turn. They say the error, the help, and the number of passed checks. If `all` is
+/// set, each passed check has a line too.
 pub fn reason_lines(alloc: Global, reason: &Explanation, all: bool) -> Result<String, AllocError> {
     let mut text = String::new(alloc);
     push_line(&mut text, "error", &reason.error)?;

@@ -4,7 +4,7 @@ ghost use Rattle.std.specs.Prelude.{◌≡◌, ◌*◌, ◌/◌, ◌^◌, ◌<�
 use crate::Gran;
 use std::marker::Model;
 
-/// The order of a block, 0 to 9: the block has 2^order granules, and begins at a multiple of 2^order.
+/// The order of a block, 0 to 9. The block has 2^order granules, and begins at a multiple of 2^order.
 #[derive(Clone, Copy, Debug, PartialEq, Eq)]
 pub struct Order(u8);
 
@@ -34,7 +34,7 @@ impl Order {
         self.0
     }
 
-    /// The number of granules of a block of this order.
+    /// Returns the number of granules in a block of this order.
     pub fn size(self) -> u16
         ensures value { result ≡ 2 ^ self }
         ensures some { 0 < result }
@@ -45,7 +45,7 @@ impl Order {
     }
 }
 
-/// The greatest multiple of 2^order that is at most `number`.
+/// Rounds `number` down to a multiple of 2^order.
 pub fn align_down(number: u16, order: Order) -> u16
     ensures { result ≡ number / 2 ^ order * 2 ^ order }
 {
@@ -53,8 +53,8 @@ pub fn align_down(number: u16, order: Order) -> u16
     number / size * size
 }
 
-/// The number of the first granule of a block's buddy, which differs from `first` in bit `order` alone. A machine may
-/// lack that granule.
+/// Returns the number of the granule at which a block's buddy begins. The number differs from `first` in bit `order`
+/// alone. A machine may lack that granule.
 pub fn buddy_of(first: Gran, order: Order) -> u16
     ensures { result ≡ bit_xor first (2 ^ order) }
 {

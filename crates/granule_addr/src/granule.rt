@@ -6,7 +6,7 @@ use std::marker::Model;
 /// The largest number of granules that a machine can have.
 pub const MOST_PAGES: u16 = 4096;
 
-/// The number of a granule: its address is the number times 4,096. RMM 1.0, Granule.
+/// The number of a granule. The granule's address is the number times 4,096. RMM 1.0, Granule.
 #[derive(Clone, Copy, Default, PartialEq, Eq)]
 pub struct Gran(u16);
 
@@ -23,7 +23,8 @@ impl Model for Gran {
 }
 
 impl Gran {
-    /// Granule `number`, if a machine of `pages` granules has it.
+    /// Creates a granule number for a machine of `pages` granules. Returns `None` if the machine does not have granule
+    /// `number`.
     pub fn new(number: u16, pages: u16) -> Option<Gran>
         ensures { result ≡ (if nat_lt number 4096 && nat_lt number pages then Some number else None) }
     {
@@ -34,7 +35,7 @@ impl Gran {
         }
     }
 
-    /// Granule `number` of a machine with the largest number of granules.
+    /// Creates a granule number for the largest machine.
     pub fn from_number(number: u16) -> Gran
         requires { number < 4096 }
         ensures { result ≡ number }

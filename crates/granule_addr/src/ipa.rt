@@ -5,7 +5,7 @@ ghost use Rattle.granule_addr.specs.Ipa.{is_width, is_in_space, is_protected_at,
 use crate::{IpaWidth, Level};
 use std::marker::Model;
 
-/// The number of an IPA granule: its IPA is the number times 4,096. RMM 1.0, Realm address space.
+/// The number of an IPA granule. The granule's IPA is the number times 4,096. RMM 1.0, Realm address space.
 #[derive(Clone, Copy, PartialEq, Eq)]
 pub struct IpaGran(u32);
 
@@ -23,7 +23,8 @@ impl Model for IpaGran {
 }
 
 impl IpaGran {
-    /// IPA granule `number`, if an address space of `width` bits has it.
+    /// Creates an IPA granule number for an address space. Returns `None` if realms have no address space of `width`
+    /// bits, or that space does not have IPA granule `number`.
     pub fn new(number: u32, width: u8) -> Option<IpaGran>
         ensures { result ≡ (if is_width width && is_in_space number width then Some number else None) }
     {
@@ -43,14 +44,16 @@ impl IpaGran {
     }
 }
 
-/// Whether the IPA is protected: it is in the lower half of the realm's address space. RMM 1.0, Protected IPA.
+/// Whether the IPA is protected. The protected IPAs are the lower half of the realm's address space. RMM 1.0, Protected
+/// IPA.
 pub fn is_protected(ipa: IpaGran, width: IpaWidth) -> bool
     ensures { result ≡ is_protected_at ipa width }
 {
     ipa.number() < 1 << (width.number() - 13)
 }
 
-/// The index, 0 to 511, of the entry that covers the IPA granule in a table of the level.
+/// Returns the index of the entry that covers the IPA granule. The entry is in a table of the level, and the index is 0
+/// to 511.
 pub fn index_at(ipa: IpaGran, level: Level) -> u16
     ensures value { result ≡ entry_index level ipa }
     ensures below { result < 512 }
@@ -64,7 +67,7 @@ pub fn index_at(ipa: IpaGran, level: Level) -> u16
     index as u16
 }
 
-/// The index of the realm's starting table that covers the IPA granule, counted from 0. RMM 1.0, RTT walk.
+/// Returns the index of the starting table that covers the IPA granule. The index is 0 to 15. RMM 1.0, RTT walk.
 pub fn start_table(ipa: IpaGran) -> u16
     ensures value { result ≡ start_index ipa }
     ensures below { result < 16 }

@@ -30,21 +30,21 @@ impl Level {
         }
     }
 
-    /// The level at which a walk starts.
+    /// Returns the level at which a walk starts.
     pub fn start() -> Level
         ensures { result ≡ 1 }
     {
         Level(1)
     }
 
-    /// The level whose entries cover one page each.
+    /// Returns the level whose entries cover one page each.
     pub fn last() -> Level
         ensures { result ≡ 3 }
     {
         Level(3)
     }
 
-    /// The level of the tables that entries of this level lead to.
+    /// Returns the level below. Entries of this level lead to tables of that level.
     pub fn below(self) -> Level
         requires { self < 3 }
         ensures { result ≡ self + 1 }
@@ -52,7 +52,7 @@ impl Level {
         Level(self.0 + 1)
     }
 
-    /// The level whose entries lead to tables of this level.
+    /// Returns the level above. Entries of that level lead to tables of this level.
     pub fn above(self) -> Level
         requires { 1 < self }
         ensures { result + 1 ≡ self }

@@ -1,4 +1,4 @@
-//! The numbers that describe a machine and its realms, and the arithmetic of these numbers.
+//! Numbers that describe a machine and its realms, with their arithmetic.
 //!
 //! Each type keeps its range: each value of it is in range. Granules, IPA granules and pages are counted in units of 4
 //! KiB; contracts see each number as it is.

@@ -20,7 +20,7 @@ impl Model for VmidSet {
 }
 
 impl VmidSet {
-    /// The empty set.
+    /// Creates the empty set.
     pub fn new() -> VmidSet
         ensures { (vmid : ℕ) → is_used result vmid ≡ false }
     {

@@ -1,4 +1,4 @@
-//! Widths of realms' address spaces, and the starting tables that they need.
+//! Widths of realms' address spaces, and starting tables.
 ghost use Rattle.std.specs.Prelude.{◌≡◌, ◌-◌, ◌^◌, ◌<◌, ◌≤◌, Some, None, if◌then◌else◌};
 ghost use Rattle.granule_addr.specs.Ipa.{is_width};
 ghost use Rattle.granule_addr.specs.Root.{start_count};
@@ -33,14 +33,14 @@ impl IpaWidth {
         }
     }
 
-    /// The least width, with one starting table.
+    /// Returns the least width, which needs one starting table.
     pub fn least() -> IpaWidth
         ensures { result ≡ 39 }
     {
         IpaWidth(39)
     }
 
-    /// The width in bits.
+    /// Returns the width in bits.
     pub fn number(self) -> u8
         ensures value { result ≡ self }
         ensures at_least { 39 ≤ result }
@@ -49,7 +49,7 @@ impl IpaWidth {
         self.0
     }
 
-    /// The number of starting tables that an address space of this width needs: 1, 2, 4, 8 or 16.
+    /// Returns how many starting tables this width needs. The number is 1, 2, 4, 8 or 16.
     pub fn start_count(self) -> u16
         ensures value { result ≡ start_count self }
         ensures some { 0 < result }
@@ -59,8 +59,8 @@ impl IpaWidth {
     }
 }
 
-/// The starting tables of a realm, in adjacent granules: the first table, and the IPA width, which determines the
-/// number of tables. RMM 1.0, Realm attributes: RTT base address and IPA width.
+/// The starting tables of a realm, in adjacent granules. `first` is the first table, and `width` determines the number
+/// of tables. RMM 1.0, Realm attributes: RTT base address and IPA width.
 #[derive(Clone, Copy, PartialEq, Eq)]
 pub struct Root {
     pub first: Gran,

@@ -2,7 +2,8 @@
 use arrayvec::ArrayVec;
 use rmi_abi::Call;
 
-/// An operation of a host on an RMM, or of the guest of a REC. Addresses are physical, but for that of a guest.
+/// An operation on an RMM. The host performs it, or the guest of a REC. Addresses are physical, but for that of a
+/// guest.
 #[derive(Drop)]
 pub enum HostAction {
     /// The host writes one value to each byte of granules.
@@ -30,7 +31,7 @@ pub enum HostAction {
         mpidr: u64,
         auxiliaries: ArrayVec<u64, 16>,
     },
-    /// A call that succeeds, with the value of X1 if the command has a known output in X1.
+    /// A call of the RMM that succeeds. `x1` is the output in X1, if that output is known beforehand.
     Call {
         call: Call,
         x1: Option<u64>,
@@ -44,7 +45,7 @@ pub enum HostAction {
     Interrupt {
         rec: u64,
     },
-    /// The guest of a REC writes a byte after the next entry of the REC.
+    /// A guest writes a byte after the next entry of its REC.
     Write {
         rec: u64,
         ipa: u64,

@@ -5,13 +5,13 @@ ghost use Rattle.history_calls.specs.Frame as frames;
 use granule_addr::Gran;
 use std::marker::Model;
 
-/// The number of pages for exits, and so the largest number of running RECs with a page of their own.
+/// The number of pages for exits from RECs. At most as many running RECs have a page of their own.
 pub const MOST_RUNS: u16 = 64;
 
-/// The number of the host's granules, which follow those of the history's machine.
+/// The number of the host's granules. They follow the granules of the history's machine.
 pub const HOST_GRANULES: u16 = 66;
 
-/// The address of granule 0, and the number of granules of the history's machine.
+/// The position of a history's machine. It is the address of granule 0, together with the machine's number of granules.
 #[derive(Clone, Copy)]
 pub struct Frame {
     base: u64,
@@ -31,7 +31,7 @@ impl Model for Frame {
 }
 
 impl Frame {
-    /// The frame of a machine with `pages` pages and with granule 0 at the address `base`.
+    /// Creates the frame of a machine with `pages` pages. Granule 0 is at the address `base`.
     pub fn new(base: u64, pages: u16) -> Frame
         requires granule { base % 4096 ≡ 0 }
         requires low { base < 2 ^ 46 }
@@ -41,21 +41,21 @@ impl Frame {
         Frame { base, pages }
     }
 
-    /// The address of granule 0, in bytes.
+    /// Returns the address of granule 0, in bytes.
     pub fn base(self) -> u64
         ensures { result ≡ self.base }
     {
         self.base
     }
 
-    /// The number of granules of the machine and the host together.
+    /// Returns the number of granules, including those of the host.
     pub fn granules(self) -> u16
         ensures { result ≡ self.pages + 66 }
     {
         self.pages + HOST_GRANULES
     }
 
-    /// The address of a granule, in bytes.
+    /// Returns the address of a granule, in bytes.
     pub fn address(self, granule: Gran) -> u64
         ensures value { result ≡ frames.address self granule }
         ensures below { result < 2 ^ 47 }
@@ -63,7 +63,7 @@ impl Frame {
         self.base + 4096 * granule.number() as u64
     }
 
-    /// The address of the host's granule `number`, in bytes.
+    /// Returns the address of the host's granule `number`, in bytes.
     pub(crate) fn host(self, number: u16) -> u64
         requires { number < 66 }
         ensures { result ≡ frames.host self number }

@@ -59,7 +59,8 @@ fn has_block<S: PageStore>(host: &Host<S>, order: Order) -> bool
     false
 }
 
-/// The refusal of a take that passed its checks, if no block of its order is free.
+/// Returns `NoBlock` if no aligned block of the order is free. It is the refusal of a Take that has passed the earlier
+/// checks.
 pub(crate) fn block_refusal<S: PageStore>(
     host: &Host<S>,
     build: BuildId,

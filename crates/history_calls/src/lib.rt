@@ -1,5 +1,5 @@
-//! The operations of a host on an RMM that is called in registers, for each event of a history and for a prepared
-//! command or undo.
+//! Operations on an RMM for events, and for prepared commands and undos. By these operations a host performs the event
+//! of a history, the command or the undo. A call passes its arguments in registers.
 //!
 //! An event names granules by their numbers in the machine of the history. A frame places that machine at an address.
 //! After it are granules of the host: one for the parameters of realms, one for those of RECs, and one for each REC that

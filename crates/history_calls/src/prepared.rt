@@ -1,4 +1,4 @@
-//! The operations on an RMM for a command or an undo that the host has yet to perform.
+//! Operations on an RMM for prepared commands and undos. The host has yet to perform the command or the undo.
 ghost use Rattle.std.specs.Prelude.{◌≡◌, ◌<◌, None};
 ghost use Rattle.realm_model.specs.Act.{reverse_of};
 ghost use Rattle.realm_model.specs.Running.{next_number};
@@ -167,7 +167,8 @@ fn actions_of_act<S: PageStore>(
     }
 }
 
-/// Returns the operations on an RMM for a command, or the refusal that the host gives before the RMM is called.
+/// Returns the operations on an RMM for a command. The error is the refusal that the host gives before the RMM is
+/// called.
 pub fn actions_asked<S: PageStore>(
     frame: Frame,
     host: &Host<S>,
@@ -202,7 +203,7 @@ fn actions_of_newest<S: PageStore>(
     }
 }
 
-/// Returns the operations on an RMM for an undo, or the refusal of the undo.
+/// Returns the operations on an RMM for an undo. The error is the refusal of the undo.
 pub fn actions_back<S: PageStore>(
     frame: Frame,
     host: &Host<S>,

@@ -1,4 +1,4 @@
-//! The refusal that a command would get, found by the model's checks without performing the command.
+//! The refusal that a command would get. The model's checks find it, and the command is not performed.
 ghost use Rattle.std.specs.Prelude.{◌≡◌, ◌+◌, ◌≤◌, None};
 ghost use Rattle.std.specs.List.{list_all};
 ghost use Rattle.realm_model.specs.Command.Check.{error_rtt, are_distinct};
@@ -402,7 +402,7 @@ fn model_refusal<S: PageStore>(
     Some(Refusal::Rmi(rmi))
 }
 
-/// Returns the refusal that the host would give to a command, without performing the command.
+/// Returns the refusal that the host would give to a command. The command is not performed.
 pub fn refusal_asked<S: PageStore>(host: &Host<S>, build: BuildId, cmd: &Cmd) -> Option<Refusal>
     ensures { result ≡ refusal_of host.now build (Ask cmd.now) }
 {

@@ -7,7 +7,7 @@ use granule_addr::Gran;
 use realm_model::Act;
 use std::marker::Model;
 
-/// The pages for the exits of running RECs, with the granule of the REC that uses each page.
+/// The pages for the exits of running RECs. Each page in use has the granule of the REC that uses it.
 ///
 /// With `MOST_RUNS` RECs running, those entered later share the last page.
 #[derive(Drop)]
@@ -36,7 +36,7 @@ fn place_of(recs: &[Option<Gran>], rec: Option<Gran>) -> Option<usize>
 }
 
 impl RunPages {
-    /// Pages of which none is in use.
+    /// Creates the pages for exits, with no page in use.
     pub fn new() -> RunPages
         ensures { result ≡ replicate 64 None }
     {
@@ -54,8 +54,8 @@ impl RunPages {
         }
     }
 
-    /// Returns the number of the page for an event of a REC, and updates which pages are in use. After an entry the
-    /// page is in use, and after an exit it is free again.
+    /// Returns the number of the page for a REC's event. The list of pages in use is updated: after an entry the page
+    /// is in use, and after an exit it is free again.
     pub fn page_for(&mut self, rec: Option<Gran>, act: &Act) -> u16
         ensures value { result ≡ runs.run_page_for rec act.now self.old }
         ensures below { result < 64 }

@@ -1,4 +1,4 @@
-//! The parser of an operation from a word and its numbers.
+//! A parser for operations. An operation is spelled as a word and numbers.
 ghost use Rattle.std.specs.Prelude.{◌≡◌, ◌≤◌};
 ghost use Rattle.decimal_text.specs.Rows.{none, one, two, three, four};
 ghost use Rattle.decimal_text.specs.Written.{u8, u16};
@@ -25,7 +25,8 @@ const U8: u32 = 255;
 
 const U16: u32 = 65_535;
 
-/// The maximum count of numbers of an operation: the granule and the number of a REC, and 16 auxiliary granules.
+/// The maximum number of operands of an operation. The operands are then a REC's granule, the REC's number, and 16
+/// auxiliary granules.
 const MOST_NUMBERS: usize = 18;
 
 fn order_of(number: u32) -> Order
@@ -232,8 +233,9 @@ fn act(word: &str, numbers: &[u32]) -> Option<Act>
         .or_else(|| rec_act(word, numbers))
 }
 
-/// The operation that the text spells: a word and its numbers, one space before each number and nothing else. The
-/// numbers are in decimal, without a sign and without leading zeros, and each in its range. No memory is taken.
+/// Parses an operation, spelled as a word and numbers. Returns `None` if the text spells no operation. The text has one
+/// space before each number and nothing else. The numbers are in decimal, without a sign and without leading zeros, and
+/// each in its range. No memory is taken.
 pub fn act_from_text(text: &str) -> Option<Act>
     ensures { result ≡ act_of_text text.now }
 {

@@ -1,4 +1,4 @@
-//! Events as lines, without the line feed that ends them.
+//! The text of an event. It is the event's line in a history, without the line feed.
 ghost use Rattle.std.specs.Prelude.{◌≡◌, ◌≢◌, ℕ, ◌<◌, [], ◌∷◌, IfSome, IfNone};
 ghost use Rattle.std.specs.Fmt.{decimal};
 ghost use Rattle.realm_model.specs.declared.act.Event.{Event};
@@ -11,7 +11,7 @@ use granule_addr::BuildId;
 use realm_model::Event;
 use std::fmt;
 
-/// An event as a history writes it.
+/// The text of an event, as in the line of a history.
 #[derive(Clone, Copy)]
 pub struct EventText<'a>(pub &'a Event);
 
@@ -40,7 +40,7 @@ fn build_of(digit: u8) -> Option<BuildId>
     BuildId::new(digit - b'0')
 }
 
-/// The event that the line spells, or `None` if it spells none. No memory is taken.
+/// Parses a line of a history as an event. Returns `None` if the line spells no event. No memory is taken.
 pub fn parse_event(line: &[u8]) -> Option<Event>
     // The event that is returned has this text.
     ensures found { IfSome result (λ event. IsEventText line.now event) }

@@ -32,7 +32,7 @@ pub fn ipa_of(number: u32) -> IpaGran
     IpaGran::new(number, WIDEST).unwrap()
 }
 
-/// The granules with these numbers, if there are at most 16 numbers and each is in range.
+/// Converts numbers to granules. Returns `None` if there are more than 16 numbers, or if a number is out of range.
 pub fn granules_of(numbers: &[u32]) -> Option<ArrayVec<Gran, MOST_AUXILIARIES>>
     ensures { result ≡ up_to 16 granule numbers.now }
 {

@@ -97,7 +97,7 @@ fn act_in_range(act: &Act)
     }
 }
 
-/// Each event has a text: its numbers are in their ranges.
+/// Each event has a text. The event's numbers are in their ranges.
 pub fn events_have_texts(event: &Event)
     ensures { IsEventText (event_text event.now) event.now }
 {

@@ -7,11 +7,11 @@ ghost use Rattle.history_text.specs.Histories.{opening_numbers, opening_maxima, 
 use decimal_text::{SpelledText, at_most, numbers_of};
 use std::fmt;
 
-/// The largest numbers of pages, VMIDs, auxiliary granules of a REC, events of a build, and builds.
+/// The maximum of each number in an opening. The order is that of the fields of `Opening`.
 const MAXIMA: [u32; 5] = [4096, 255, 16, 16_384, 8];
 
-/// The size of a history's machine: the numbers of pages, VMIDs, auxiliary granules of each REC, events of each build,
-/// and builds.
+/// The size of a machine, as in the first line of a history. The numbers are those of pages, of VMIDs, of auxiliary
+/// granules of each REC, of entries in the room of each build, and of builds.
 #[derive(Clone, Copy)]
 pub struct Opening {
     pub pages: u16,
@@ -58,9 +58,9 @@ impl Opening {
     }
 }
 
-/// The opening that the line spells, if it spells one whose numbers are in their ranges. A machine has 1 to 4,096
-/// pages, 1 to 255 VMIDs and up to 16 auxiliary granules. The room is 16 to 16,384, and there are 1 to 8 builds. No
-/// memory is taken.
+/// Parses the first line of a history. The result is `None` if the line spells no opening with its numbers in range. A
+/// machine has 1 to 4,096 pages, 1 to 255 VMIDs and up to 16 auxiliary granules of each REC. The room of each build is
+/// 16 to 16,384 entries, and there are 1 to 8 builds. No memory is taken.
 pub fn parse_opening(line: &[u8]) -> Option<Opening>
     // The opening that is returned has this text.
     ensures found { IfSome result (λ opening. IsOpeningText line.now opening) }

@@ -1,4 +1,4 @@
-//! The words and the numbers of operations, as a history spells them.
+//! The spelling of operations in a history: a word and numbers.
 ghost use Rattle.std.specs.Prelude.{◌≡◌, [], ◌∷◌, ◌≤◌, length};
 ghost use Rattle.history_text.specs.Written.{written_act};
 
@@ -6,10 +6,11 @@ use arrayvec::ArrayVec;
 use granule_addr::{Gran, IpaGran, PageOff, RecNo, Root, Vmid};
 use realm_model::Act;
 
-/// The maximum count of numbers of an operation: the granule and the number of a REC, and 16 auxiliary granules.
+/// The maximum count of numbers in the text of an operation. An operation that creates or destroys a REC can have this
+/// many: the granule and the number of the REC, and 16 auxiliary granules.
 const MOST_NUMBERS: usize = 18;
 
-/// The word of an operation.
+/// The word for an operation in the text of a history.
 pub fn word_of(act: &Act) -> &'static str
     ensures { result.now ≡ (written_act act.now).word }
 {
@@ -93,7 +94,7 @@ fn rec_numbers(granule: Gran, number: RecNo, auxiliaries: &[Gran]) -> ArrayVec<u
     numbers
 }
 
-/// The numbers of an operation, in the order in which its text has them.
+/// The numbers in the text of an operation, from left to right.
 pub fn numbers_of(act: &Act) -> ArrayVec<u32, MOST_NUMBERS>
     ensures { result.items ≡ (written_act act.now).numbers }
 {

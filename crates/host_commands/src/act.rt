@@ -132,7 +132,8 @@ fn act_on_pages(cmd: &Cmd, granules: &[Gran], allocated: Allocated) -> Option<Ac
     }
 }
 
-/// The operation that a command asks for, made from the granules of its operands and from the allocated values.
+/// Returns the operation that a command asks for. `granules` are those of the command's pages, and `allocated` has the
+/// allocated values.
 ///
 /// `None` comes if a number of the command can be in no operation. That is an IPA granule from 2^31 on, a level outside
 /// 1 to 3, a width outside 39 to 43, or starting tables that are not adjacent granules. The command is then refused

@@ -1,10 +1,10 @@
-//! The view of a host's builds that the checks of a command need.
+//! A view of a host's builds, for the checks of a command.
 ghost use Rattle.std.specs.Prelude.{◌≡◌, ◌<◌, nat_lt, IsSome};
 ghost use Rattle.host_commands.specs.BuildsSummary.{BuildsSummary, granule_of_page};
 
 use granule_addr::{BuildId, Gran};
 
-/// The state of a host's builds, as far as the checks of a command need it.
+/// A view of the builds of a host. It has what the checks of a command need.
 pub trait BuildsView {
     ghost seen: { Self → BuildsSummary };
 
@@ -33,7 +33,7 @@ pub trait BuildsView {
         requires { build < (seen self.now).builds }
         ensures { result ≡ (seen self.now).opened build };
 
-    /// The room that is left for the build in the history.
+    /// The number of history entries left for the build.
     fn room_left(&self, build: BuildId) -> u16
         requires { build < (seen self.now).builds }
         ensures { result ≡ (seen self.now).room_left build };

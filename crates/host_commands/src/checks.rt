@@ -8,7 +8,7 @@ use arrayvec::ArrayVec;
 use granule_addr::{BuildId, Gran};
 use realm_model::JOURNAL_ROOM;
 
-/// Checks that the build exists and is not being aborted; refuses with `NoBuild` or `Aborting` otherwise.
+/// Checks that the build exists and is not being aborted. Otherwise the refusal is `NoBuild` or `Aborting`.
 pub fn check_build<D: BuildsView>(view: &D, build: BuildId) -> Result<(), Refusal>
     ensures { result ≡ checked (build_checks (D.seen view.now) build) }
 {
@@ -91,8 +91,8 @@ fn check_state<D: BuildsView>(view: &D, build: BuildId, needs: &Needs) -> Result
     check_vmid(view, needs.vmid)
 }
 
-/// Checks a command's requirements on its build, and returns the granules of the command's pages in sequence. An error
-/// is the refusal with the lowest number of those that hold. Refusals 11 and 13, of the store and of the RMM, are not
+/// Checks a command's requirements on its build. Returns the granule of each page that the command names. An error is
+/// the refusal with the lowest number of those that hold. Refusals 11 and 13, of the store and of the RMM, are not
 /// checked here.
 pub fn check_needs<D: BuildsView>(
     view: &D,

@@ -14,7 +14,7 @@ pub enum Cmd {
     Take {
         order: u8,
     },
-    /// Sets every byte of a page to the value.
+    /// Sets every byte of a page to `value`.
     Fill {
         page: u16,
         value: u8,
@@ -40,12 +40,13 @@ pub enum Cmd {
         ipa: u32,
         level: u8,
     },
-    /// Sets the RIPAS of `count` IPA granules, from `ipa` on, to RAM. RMI_RTT_INIT_RIPAS
+    /// Sets the RIPAS of a range of IPA granules to RAM. The range has `count` granules, from `ipa` on.
+    /// RMI_RTT_INIT_RIPAS
     Ripas {
         ipa: u32,
         count: u16,
     },
-    /// Turns a page into memory of the realm, with the bytes of another page. RMI_DATA_CREATE
+    /// Turns a page into realm memory, with the bytes of the page `source`. RMI_DATA_CREATE
     Data {
         page: u16,
         ipa: u32,
@@ -80,7 +81,7 @@ pub enum Cmd {
     },
 }
 
-/// A step of a build: a command, an undo, an abort, a mark, or the step `back`.
+/// A step of a build. It is a command, an undo, an abort, a mark, or the step `back`.
 #[derive(Drop)]
 pub enum Step {
     Ask(Cmd),
@@ -90,7 +91,7 @@ pub enum Step {
     Abort,
     /// Sets the build's mark, to which the build can go back.
     Mark,
-    /// Reverses the operations that the build has opened since its last mark, the newest first.
+    /// Reverses the operations opened since the build's last mark, the newest first.
     Back,
 }
 

@@ -5,7 +5,8 @@ ghost use Rattle.host_commands.specs.Needs.{needs_of, needs_but_vmid, tables_nam
 use crate::Cmd;
 use granule_addr::IpaWidth;
 
-/// What a command requires of its build's realm: that there is one, that there is none, or nothing.
+/// A command's requirement on its build's realm. The command requires that there is one, that there is none, or
+/// nothing.
 #[derive(Clone, Copy)]
 pub enum RealmRequirement {
     Either,
@@ -13,21 +14,22 @@ pub enum RealmRequirement {
     NoRealm,
 }
 
-/// The requirements of a command on its build: one row of the table of all commands.
+/// The requirements of a command on its build. They are one row of a table of all commands.
 #[derive(Clone, Copy)]
 pub struct Needs {
     /// The requirement on the build's realm.
     pub realm: RealmRequirement,
-    /// Whether the operation stays open, and so needs an entry in the journal.
+    /// Whether the operation stays open. It then needs an entry in the journal.
     pub paired: bool,
-    /// The number of entries of the build's room that the command takes: for its event, and for a later reverse or
-    /// exit.
+    /// The number of history entries that the command takes. They come from the build's room. The event takes one, and
+    /// a later reverse or exit another. The command `exit` takes none: `enter` took the entry for the exit.
     pub room: u16,
     /// Whether the command needs a VMID.
     pub vmid: bool,
 }
 
-/// The number of starting tables that a command with this width names; 1 if no realm can have the width.
+/// Returns the number of starting tables that a `realm` command names. `width` is the IPA width that the command names.
+/// The result is 1 if no realm can have that width.
 pub fn tables_named(width: u8) -> u16
     ensures value { result ≡ tables_named width }
     ensures few { result ≤ 16 }

@@ -34,7 +34,7 @@ pub enum Refusal {
     /// Refusal 9: a build that has 512 operations open.
     #[error("the journal is full")]
     JournalFull,
-    /// Refusal 10: a command that would take room that the build's reverses and exits need.
+    /// Refusal 10: too few entries left in the history. The command needs more than the build has left.
     #[error("the history is full")]
     HistoryFull,
     /// Refusal 11: no free aligned block of the order.

@@ -1,4 +1,4 @@
-//! The replies to accepted commands and undos, and the values that the allocators choose.
+//! Replies to accepted commands and undos, and the values allocated for commands.
 ghost use Rattle.std.specs.Prelude.{◌≡◌};
 ghost use Rattle.host_commands.specs.Replies.{reply_of};
 
@@ -9,7 +9,7 @@ use realm_model::{Act, Kind};
 #[derive(Clone, Copy, Debug, PartialEq, Eq)]
 pub enum Reply {
     Done,
-    /// The build's own number for the first page that was taken.
+    /// The first page of the taken block, in the build's own numbering.
     FirstPage(u16),
     /// The byte that was read.
     Byte(u8),
@@ -19,7 +19,7 @@ pub enum Reply {
     Number(RecNo),
 }
 
-/// The reply to an operation of a build that had `page_count` pages before the operation.
+/// Returns the reply to an operation. `page_count` is the number of the build's pages before the operation.
 pub fn reply_of(page_count: u16, act: &Act) -> Reply
     ensures { result ≡ reply_of page_count act.now }
 {
@@ -32,20 +32,20 @@ pub fn reply_of(page_count: u16, act: &Act) -> Reply
     }
 }
 
-/// The values that the machine gives an operation: a VMID, a REC number, or a byte. Each is read by the commands that
-/// get it, and may be anything for the others.
+/// The values that the machine gives for a command's operation. They are a VMID, a REC number and a byte. Each value
+/// may be anything for a command that does not use it.
 #[derive(Clone, Copy)]
 pub struct Allocated {
-    /// The lowest VMID that no realm has, for a command that creates a realm.
+    /// The lowest free VMID, for a command that creates a realm.
     pub vmid: Vmid,
-    /// The next REC number of the realm, for a command that creates a REC.
+    /// The realm's next REC number, for a command that creates a REC.
     pub number: RecNo,
     /// The byte that was read, for a command that reads one.
     pub byte: u8,
 }
 
-/// The result of an undo: the kind of the reversed operation, and the number of operations that the build has open
-/// afterwards.
+/// The result of an undo. `kind` is that of the reversed operation, and `left` is the number of operations that the
+/// build has open afterwards.
 #[derive(Clone, Copy, Debug, PartialEq, Eq)]
 pub struct Undone {
     pub kind: Kind,

@@ -9,8 +9,8 @@ use granule_addr::Gran;
 use realm_model::Act;
 use std::alloc::{AllocError, Global};
 
-/// The record of a build: its open operations, and the number of its events in the history. It also has the RD of its
-/// realm, its RECs and how many of them run, whether it is in abort, and its mark.
+/// The record of a build. It has the build's open operations, the number of its events in the history, its mark, and
+/// whether it is in abort. Of the build's realm it has the RD, the RECs, and how many of them run.
 #[derive(Drop)]
 pub(crate) struct Build {
     pub(crate) journal: Journal,
@@ -23,7 +23,7 @@ pub(crate) struct Build {
 }
 
 impl Build {
-    /// Returns the record of a build that has no events.
+    /// Creates the record of a build that has no events.
     pub(crate) fn build(alloc: Global) -> Result<Build, AllocError>
         ensures { IfOk result (λ build. build ≡ new_build) }
     {

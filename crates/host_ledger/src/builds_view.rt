@@ -1,4 +1,4 @@
-//! The ledger as the view of builds that the checks of a command need.
+//! The implementation of `BuildsView` for the ledger of a host.
 ghost use Rattle.host_ledger.specs.Summary.{summary_of};
 
 use crate::HostLedger;

@@ -1,4 +1,4 @@
-//! The ledger of a host: the history, and records that are derived from the history.
+//! The ledger of a host: its history, and records derived from the history.
 ghost use Rattle.std.specs.Prelude.{◌≡◌, ℕ, ◌<◌, ◌≤◌, [], length, drop, replicate, true, false, nat_lt, Some, None, IfOk, IfSome, option_map, slice_index_or};
 ghost use Rattle.std.specs.Bool.{OnFalse};
 ghost use Rattle.std.specs.List.{last_or};
@@ -23,7 +23,7 @@ use realm_model::{Act, Event, RealmAndRec};
 use std::alloc::{AllocError, Global};
 use std::marker::Model;
 
-/// The events of all builds in sequence, and the record of each build.
+/// The history of all builds, and the record of each build. The history has the events of the builds in sequence.
 #[derive(Drop)]
 pub struct HostLedger {
     history: Vec<Event>,
@@ -60,8 +60,8 @@ fn new_builds(alloc: Global, count: u8) -> Result<Vec<Build>, AllocError>
     Ok(builds)
 }
 
-// Updates the list of a build's pages after an operation. The pages of a taken block follow the build's other pages, and the
-// pages of a block that is given back are removed.
+// Updates the list of a build's pages after an operation. The pages of a taken block follow the build's other pages,
+// and the pages of a block that is given back are removed.
 fn follow_pages(leases: &mut Leases, build: BuildId, act: &Act)
     requires there { build < length leases.old.stacks }
     requires can_follow { CanFollowPages leases.old build act.now }
@@ -103,8 +103,8 @@ fn follow_vmids(vmids: &mut VmidPool, act: &Act)
 }
 
 impl HostLedger {
-    /// Returns the ledger of `builds` builds that have no events, with capacity for `capacity` events of each. The
-    /// machine has `pages` pages and `vmids` VMIDs, with `aux` auxiliaries of a REC.
+    /// Creates an empty ledger for `builds` builds. Each build has a room of `capacity` entries in the history. The
+    /// machine has `pages` pages and `vmids` VMIDs, and each REC has `aux` auxiliary granules.
     pub fn build(
         alloc: Global,
         pages: u16,
@@ -147,7 +147,7 @@ impl HostLedger {
         self.history.as_slice()
     }
 
-    /// The room of each build in the history.
+    /// The room of each build in the history, in entries.
     pub fn capacity(&self) -> u16
         ensures value { result ≡ self.now.capacity }
         ensures few { result ≤ 16384 }
@@ -174,8 +174,8 @@ impl HostLedger {
         (build.number() as usize) < self.builds.len()
     }
 
-    /// Returns the room that a build has used. It is one entry for each of its events, one for each operation that it
-    /// has open, and one for each of its RECs that runs.
+    /// Returns the used part of a build's room in the history. It is one entry for each of the build's events, one for
+    /// each of its open operations, and one for each of its running RECs.
     pub fn used(&self, build: BuildId) -> u16
         requires { build < self.now.limits.builds }
         ensures value { result ≡ used self.now build }
@@ -207,7 +207,7 @@ impl HostLedger {
         kept.journal.newest()
     }
 
-    /// The open operations of a build after its first `count`, the newest last.
+    /// Returns a build's open operations without the oldest `count`. The newest is last.
     pub fn open_above(&self, build: BuildId, count: u16) -> &[Act]
         requires there { build < self.now.limits.builds }
         requires enough { count ≤ length (open_of self.now build) }
@@ -243,7 +243,8 @@ impl HostLedger {
         kept.recs.granule(number)
     }
 
-    /// The RD of a build's realm, and the granule of the realm's REC that an operation names.
+    /// Returns the realm and the REC of an operation. They are the RD of the build's realm, and the granule of the
+    /// existing REC, if any, that the operation names.
     pub fn place(&self, build: BuildId, act: &Act) -> RealmAndRec
         requires { build < self.now.limits.builds }
         ensures { IsPlaceOf (world_of self.now) build act.now result }
@@ -269,7 +270,7 @@ impl HostLedger {
         self.builds[build.number() as usize].running
     }
 
-    /// Returns the lowest VMID that no realm has, or `None` if all VMIDs are in use.
+    /// Returns the lowest free VMID, or `None` if all VMIDs are in use.
     pub fn lowest_vmid(&self) -> Option<Vmid>
         ensures { result ≡ lowest_vmid self.now }
     {
@@ -293,14 +294,14 @@ impl HostLedger {
         self.leases.count(build)
     }
 
-    /// Whether the granule is one of the machine's and is leased by the build.
+    /// Whether the machine has the granule and the build leases it.
     pub fn is_leased_by(&self, granule: Gran, build: BuildId) -> bool
         ensures { result ≡ is_leased_to (Some build) (world_of self.now).leases granule }
     {
         self.holders.is_held_by(granule, build)
     }
 
-    /// The build that leases the granule; `None` if nobody does, or if the machine does not have the granule.
+    /// The build that leases the granule. `None` comes if nobody does, or if the machine does not have the granule.
     pub fn holder(&self, granule: Gran) -> Option<BuildId>
         ensures { result ≡ slice_index_or (world_of self.now).leases granule None }
     {
@@ -328,7 +329,7 @@ impl HostLedger {
         }
     }
 
-    /// Keeps a build's mark at the current end of the history, in place of any older mark.
+    /// Sets a build's mark. `mark` is at the current end of the history. Any older mark of the build is dropped.
     pub fn keep_mark(&mut self, build: BuildId, mark: &Mark)
         requires there { build < self.old.limits.builds }
         requires now { mark.now ≡ mark_now self.old build }

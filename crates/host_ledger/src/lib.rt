@@ -1,4 +1,4 @@
-//! The ledger of a host: the history of its builds, and values that are derived from the history.
+//! The ledger of a host: its history, and values derived from the history.
 //!
 //! Contracts see of a ledger what they see of a host: limits, room, history, aborts, marks. All other values are
 //! functions of these. For each build they are its open operations, its pages, its realm's RD, its RECs by number, and

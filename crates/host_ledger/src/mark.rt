@@ -4,7 +4,7 @@ ghost use Rattle.host_ledger.specs.Marks.{is_same_mark};
 
 use granule_addr::BuildId;
 
-/// A mark to which a build can be rolled back: a number of open operations, and a position in the history.
+/// A mark to which a build can be rolled back. It has a number of open operations, and a position in the history.
 #[derive(Clone, Copy)]
 pub struct Mark {
     pub(crate) build: BuildId,

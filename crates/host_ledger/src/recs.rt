@@ -27,7 +27,7 @@ impl Model for Recs {
 }
 
 impl Recs {
-    /// Returns an empty list of RECs.
+    /// Creates an empty list of RECs.
     pub(crate) fn build(alloc: Global) -> Result<Recs, AllocError>
         ensures { IfOk result (λ recs. recs ≡ []) }
     {

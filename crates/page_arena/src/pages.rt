@@ -14,8 +14,8 @@ use granule_addr::MOST_PAGES;
 use std::alloc::{AllocError, Global};
 use std::marker::Model;
 
-/// All pages of a machine, of 4,096 bytes each, in one allocation that is freed on drop. The bytes of a page are in its
-/// slot. The slots that are used come first, and nothing is written yet after them.
+/// All pages of a machine, in one allocation. Each page has 4,096 bytes, which are in its slot. The slots that are used
+/// come first, and nothing is written yet after them. The allocation is freed on drop.
 pub struct RawPages {
     start: Start<[u8; 4096]>,
     slots: Slots,
@@ -38,8 +38,8 @@ impl Model for RawPages {
 impl RawPages {
     ghost use Rattle.page_arena.specs.LendsPage.{lends_page};
 
-    /// `pages` pages of zeros. `BadSize` comes exactly when `pages` is not 1 to 4,096; the only other error is
-    /// `Memory`.
+    /// Creates `pages` pages whose bytes are all zero. `BadSize` comes exactly when `pages` is not 1 to 4,096; the only
+    /// other error is `Memory`.
     pub fn build(alloc: Global, pages: u16) -> Result<RawPages, BuildError>
         ensures bad_size { IsErrOf result BuildError.BadSize ↔ ((pages < 1) ⊎ (4096 < pages)) }
         ensures zero { IfOk result (λ raw. raw ≡ replicate pages zero_page) }

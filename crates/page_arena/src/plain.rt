@@ -1,4 +1,4 @@
-//! The plainest store of pages: vectors, and a scan for a free block.
+//! A simple page store, which finds a free block by a linear scan.
 ghost use Rattle.std.specs.Prelude.{◌≡◌, ◌↔◌, ◌<◌, ◌⊎◌, true, replicate, IfOk, IsErrOf};
 ghost use Rattle.granule_addr.specs.Page.{zero_page};
 ghost use Rattle.page_arena.specs.Page.{IsSized};
@@ -14,7 +14,8 @@ use granule_addr::{Gran, MOST_PAGES, Order, PageOff};
 use pages::{clear_run, copy_page, fill_page, zero_pages};
 use std::alloc::Global;
 
-/// A store that keeps the pages in one vector and the flags in another, and takes the lowest free block.
+/// A simple store of pages. It has a vector of the pages, and a vector of flags that are `true` for the free pages. It
+/// takes the lowest free block of an order.
 #[derive(Drop)]
 pub struct PlainStore {
     pages: Vec<[u8; 4096]>,
@@ -23,8 +24,8 @@ pub struct PlainStore {
 }
 
 impl PlainStore {
-    /// A store of `pages` pages, all free and zero. `BadSize` comes exactly when `pages` is not 1 to 4,096; the only
-    /// other error is `Memory`.
+    /// Creates a store of `pages` pages, all free and zero. `BadSize` comes exactly when `pages` is not 1 to 4,096; the
+    /// only other error is `Memory`.
     pub fn build(alloc: Global, pages: u16) -> Result<PlainStore, BuildError>
         ensures bad_size { IsErrOf result BuildError.BadSize ↔ ((pages < 1) ⊎ (4096 < pages)) }
         ensures zero { IfOk result (λ store.

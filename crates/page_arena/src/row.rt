@@ -29,8 +29,8 @@ unsafe impl<T> Send for Start<T> {}
 
 unsafe impl<T> Sync for Start<T> {}
 
-/// The owner of a row: of its items, of the memory after them, and of the right to give the allocation back. It takes
-/// no space.
+/// The ownership of a row. It covers the row's items, the unused memory after the items, and the right to free the
+/// allocation. A `Row` takes no space.
 pub(crate) struct Row<T, A: Allocator> {
     mark: PhantomData<*const (T, A)>,
     ghost at: { Ptr },
@@ -109,7 +109,8 @@ impl<T, A: Allocator> Row<T, A> {
         unsafe { (&*start.first.add(read), &mut *start.first.add(write)) }
     }
 
-    /// Writes an item at an index: in place of the item there, or after the last.
+    /// Writes `item` at `index`. It replaces the item there, or comes after the last item if `index` is the number of
+    /// items.
     pub(crate) fn put(&mut self, start: Start<T>, index: usize, item: T)
         requires { (start.first ≡ self.old.at) × (index ≤ length self.old.items) × (index < self.old.room) × Reaches T.row self.old.room }
         ensures { (self.new.at ≡ self.old.at) × (self.new.room ≡ self.old.room) × (self.new.alloc ≡ self.old.alloc) × (self.new.items ≡ put_at self.old.items index item) }

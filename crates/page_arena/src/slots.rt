@@ -4,8 +4,8 @@ ghost use Rattle.page_arena.specs.Slots.{IsSlots};
 
 use std::alloc::{AllocError, Global};
 
-/// The slot that holds each page's bytes. All pages that were never written share slot 0, which has zeros. A page gets
-/// the next unused slot when it is first written.
+/// The slot of each page, which holds the page's bytes. All pages that were never written share slot 0, which has
+/// zeros. A page gets the next unused slot when it is first written.
 #[derive(Drop)]
 pub(crate) struct Slots {
     of: Vec<u16>,
@@ -14,7 +14,7 @@ pub(crate) struct Slots {
 }
 
 impl Slots {
-    /// The slots of `pages` pages that were never written.
+    /// Creates the slots of `pages` pages. No page was ever written.
     pub(crate) fn build(alloc: Global, pages: usize) -> Result<Slots, AllocError>
         ensures { IfOk result (λ slots. (slots.of.items ≡ replicate pages 0) × (slots.used ≡ 1)) }
     {

@@ -1,4 +1,4 @@
-//! The trait of stores of pages, and the errors of building one.
+//! The trait of page stores, and the errors of building a store.
 ghost use Rattle.std.specs.Prelude.{◌≡◌, ◌≢◌, ℕ, ◌+◌, ◌^◌, ◌<◌, ◌≤◌, ◌↔◌, Bool, true, false, List, length, filter, Option, IsTrue, IfSome, IfNone, slice_set};
 ghost use Rattle.std.specs.Bool.{OnTrue, OnFalse};
 ghost use Rattle.granule_addr.specs.Page.{page_of, zero_page};
@@ -10,17 +10,17 @@ use granule_addr::{Gran, Order, PageOff};
 use std::alloc::AllocError;
 use thiserror::Error;
 
-/// The pages of a machine, of 4,096 bytes each, and the set of free pages. RMM 1.0, Granule.
+/// A store of the pages of a machine. It has the 4,096 bytes of each page, and the set of free pages. RMM 1.0, Granule.
 ///
 /// A block of order k is 2^k pages from a multiple of 2^k on. No call takes memory, and none fails.
 pub trait PageStore {
     /// The bytes of each page.
     ghost page_bytes: { Self → List (List ℕ) };
 
-    /// For each page, whether it is free.
+    /// Whether each page is free.
     ghost free_flags: { Self → List Bool };
 
-    /// For each order, the free block that the store takes next, or `None` if there is none.
+    /// The free block that the store takes next, for each order. It is `None` if there is no free block of the order.
     ghost choice: { Self → ℕ → Option ℕ };
 
     /// The number of pages.
@@ -31,7 +31,7 @@ pub trait PageStore {
     fn free_count(&self) -> u16
         ensures { result ≡ length (filter (λ flag. flag) (free_flags self.now)) };
 
-    /// Takes a free block of an order, by the store's choice. `None` comes exactly when there is no free block of the
+    /// Chooses and takes a free block of the given order. `None` comes exactly when there is no free block of the
     /// order.
     fn take(&mut self, order: Order) -> Option<Gran>
         ensures first { result ≡ choice self.old order }
@@ -43,8 +43,8 @@ pub trait PageStore {
         ensures unchanged { IfNone result (free_flags self.new ≡ free_flags self.old) }
         ensures bytes { page_bytes self.new ≡ page_bytes self.old };
 
-    /// Takes the block that begins at granule `first`. `false`, with nothing changed, comes exactly when the block is
-    /// not aligned, not inside the machine, or not free.
+    /// Takes a given block, if the block is free. It is the block of the given order at granule `first`. `false`, with
+    /// nothing changed, comes exactly when the block is not aligned, not inside the machine, or not free.
     fn take_at(&mut self, order: Order, first: Gran) -> bool
         ensures answer { IsTrue result ↔ IsFreeBlock (free_flags self.old) order first }
         ensures taken { OnTrue result
@@ -52,7 +52,7 @@ pub trait PageStore {
         ensures unchanged { OnFalse result (free_flags self.new ≡ free_flags self.old) }
         ensures bytes { page_bytes self.new ≡ page_bytes self.old };
 
-    /// Gives a block back: its pages are zero and free from now on.
+    /// Gives a block back. Its pages are zero and free from now on.
     fn give(&mut self, first: Gran, order: Order)
         requires { IsTakenBlock (free_flags self.old) order first }
         ensures given { free_flags self.new ≡ with_given (free_flags self.old) order first }
@@ -113,8 +113,7 @@ pub trait PageStore {
             ≡ slice_set (page_bytes self.old) granule (with_bytes (page_at (page_bytes self.old) granule) offset bytes.now) }
         ensures flags { free_flags self.new ≡ free_flags self.old };
 
-    /// Writes 512 words of one kind to a page. Bits 47:0 of the first are `first`, and those of the others rise by
-    /// `step`.
+    /// Fills a page with 512 words. Word k, counted from 0, is `kind + (first + k * step) % 2^48`.
     fn write_rising(&mut self, granule: Gran, kind: u64, first: u64, step: u64)
         requires inside { granule < length (page_bytes self.old) }
         requires taken { is_free (free_flags self.old) granule ≡ false }
@@ -125,11 +124,11 @@ pub trait PageStore {
             ≡ slice_set (page_bytes self.old) granule (bytes_of_words 512 (rising_word kind first step)) }
         ensures flags { free_flags self.new ≡ free_flags self.old };
 
-    /// A store has 1 to 4,096 pages of 4,096 bytes each, and a flag for each page.
+    /// A store has 1 to 4,096 pages. Each page has 4,096 bytes and a flag.
     ghost sized: { (store : Self) → IsSized (page_bytes store) (free_flags store) };
 }
 
-/// The reason why a store is not built: a size other than 1 to 4,096 pages, or a failed allocation.
+/// The reason why a store is not built. It is a size other than 1 to 4,096 pages, or a failed allocation.
 #[derive(Clone, Copy, Debug, Error)]
 pub enum BuildError {
     #[error("a machine has 1 to 4096 pages")]

@@ -34,7 +34,7 @@ pub fn write_in(page: &mut [u8], offset: usize, bytes: &[u8])
     page[offset..offset + bytes.len()].copy_from_slice(bytes);
 }
 
-/// Writes 512 words of one kind to a page. Bits 47:0 of the first are `first`, and those of the others rise by `step`.
+/// Fills a page with 512 words. Word k, counted from 0, is `kind + (first + k * step) % 2^48`.
 pub fn write_rising_in(page: &mut [u8; 4096], kind: u64, first: u64, step: u64)
     requires kind { kind ≤ 2 ^ 60 }
     requires first { first < 2 ^ 48 }

@@ -10,7 +10,8 @@ use realm_plan::{MOST_BYTES, PlanFault};
 use std::alloc::{AllocError, Global};
 use std::str::from_utf8;
 
-/// Finds the mistakes in bytes that were rejected as a plan with this fault. The one error is that allocation failed.
+/// Finds the mistakes in bytes that are not a plan. The reader of plans refused the bytes with `fault`. The one error
+/// is that allocation failed.
 pub(crate) fn errors_in(
     alloc: Global,
     bytes: &[u8],

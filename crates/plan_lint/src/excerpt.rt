@@ -1,13 +1,15 @@
-//! Positions in a text, and excerpts: a line of the text with carets under a part of it.
+//! Positions in a text, and excerpts of a text. An excerpt is a line with carets under a part of the line.
 use std::alloc::{AllocError, Global};
 
-/// The largest number of bytes that are shown before the first caret, and from the first caret on.
+/// The longest side of an excerpt, in bytes. One side ends before the first caret, and the other begins above the
+/// caret.
 const MOST: usize = 80;
 
-/// The number of the line's bytes that are shown on a side of the first caret where the line is cut.
+/// The length to which a longer side is cut, in bytes. A side longer than `MOST` is cut, and two dots replace the other
+/// bytes.
 const LESS: usize = 78;
 
-/// A position in a text, with its line and its column, both counted from 1.
+/// A position in a text. The line and the column are counted from 1.
 #[derive(Clone, Copy)]
 pub struct Cursor {
     pub at: usize,
@@ -30,7 +32,7 @@ fn begins_char(byte: u8) -> bool {
     byte < 128 || byte >= 192
 }
 
-/// The position after the first `at` bytes. The text is gone through from the place `from` on.
+/// Returns the position after the first `at` bytes of a text. It is counted on from the earlier position `from`.
 pub(crate) fn place_at(text: &[u8], from: Cursor, at: usize) -> Cursor {
     let mut place = from;
     for byte in text.get(from.at..at).unwrap_or(&[]) {
@@ -46,7 +48,7 @@ pub(crate) fn place_at(text: &[u8], from: Cursor, at: usize) -> Cursor {
     place
 }
 
-/// The bytes as one line of text, with a space for each control character, and U+FFFD for invalid UTF-8.
+/// Returns the bytes as one line of text. A space replaces each control character, and U+FFFD replaces invalid UTF-8.
 pub(crate) fn plain_text(alloc: Global, bytes: &[u8]) -> Result<String, AllocError> {
     let mut shown = Vec::with_capacity(alloc, bytes.len())?;
     for byte in bytes {
@@ -105,7 +107,8 @@ fn push_carets(text: &mut String, before: usize, count: usize) -> Result<(), All
     text.push('\n')
 }
 
-/// Appends an excerpt of the line made of `front` and `back`, with carets under the first `len` bytes of `back`.
+/// Appends an excerpt of a line. The line is `front` followed by `back`, and the carets are under the first `len` bytes
+/// of `back`.
 pub(crate) fn push_excerpt(
     alloc: Global,
     text: &mut String,

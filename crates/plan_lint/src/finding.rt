@@ -4,7 +4,7 @@ use crate::nearest::nearest;
 use realm_plan::PlanFault;
 use std::alloc::{AllocError, Global};
 
-/// A stretch of a text, given by the byte offsets of its start and its end.
+/// A stretch of a text. Its start and its end are byte offsets.
 #[derive(Clone, Copy)]
 pub struct Span {
     pub start: usize,
@@ -22,7 +22,8 @@ impl Span {
 /// The severity of a finding.
 #[derive(Clone, Copy, PartialEq, Eq)]
 pub enum Severity {
-    /// A mistake in bytes that are not a plan, with its fault, and a second fault if the same mistake causes one.
+    /// A mistake in bytes that are not a plan. The values are the fault of the mistake, and a second fault if the
+    /// mistake causes two.
     Error(PlanFault, Option<PlanFault>),
     /// A likely slip in a plan.
     Warning,
@@ -34,7 +35,7 @@ pub struct Finding {
     pub severity: Severity,
     pub span: Span,
     pub words: String,
-    /// Lines below the excerpt, such as help.
+    /// The lines below the excerpt in a report, such as a line of help.
     pub notes: Vec<String>,
 }
 
@@ -55,7 +56,7 @@ impl Findings {
         }
     }
 
-    /// All findings. The one error is that an allocation failed.
+    /// Returns all findings, or an error if an allocation failed.
     pub(crate) fn finish(self) -> Result<Vec<Finding>, AllocError> {
         if self.has_failed {
             Err(AllocError)
@@ -105,7 +106,7 @@ impl Findings {
         self.note("help: ", words, pieces);
     }
 
-    /// Adds a line, which starts with `beginning`, to the notes of the last finding.
+    /// Adds a line to the notes of the last finding. The line starts with `beginning`.
     pub(crate) fn note(&mut self, beginning: &str, words: &str, pieces: &[Piece<'_>]) {
         let Ok(line) = filled(self.alloc, beginning, words, pieces) else {
             self.has_failed = true;
@@ -116,7 +117,7 @@ impl Findings {
         }
     }
 
-    /// The name, if any, that a misspelled word probably means.
+    /// Returns the name that a misspelled word probably means, if any.
     pub(crate) fn nearest(&mut self, names: &[&'static str], word: &str) -> Option<&'static str> {
         let Ok(near) = nearest(self.alloc, names, word) else {
             self.has_failed = true;

@@ -1,4 +1,4 @@
-//! The forms of steps, for findings on a string that is not a valid step.
+//! The forms of steps, for findings on invalid steps.
 
 /// The kind of a numeric operand of a step.
 #[derive(Clone, Copy)]
@@ -35,13 +35,13 @@ impl OperandKind {
 #[derive(Clone, Copy)]
 pub struct Form {
     pub word: &'static str,
-    /// The number and the names of the arguments, as words of a message.
+    /// The arguments in words, for a message: their number and their names.
     pub takes: &'static str,
     /// The kinds of the arguments. Further ones, if there may be any, are pages.
     pub kinds: &'static [OperandKind],
     /// The greatest number of arguments.
     pub most: usize,
-    /// The names of the step in the RMI, in traces and in histories, separated by spaces.
+    /// Other names of the step, separated by spaces. They are its names in the RMI, in traces and in histories.
     other_names: &'static str,
 }
 
@@ -90,7 +90,7 @@ const FORMS: [Form; 18] = [
     form!("back", "no argument", [], 0; ""),
 ];
 
-/// The form of the step with this word, if there is one.
+/// Finds the form of a step by its first word. The result is `None` if no step has that word.
 pub(crate) fn form_of(word: &str) -> Option<Form> {
     for form in &FORMS {
         if form.word == word {
@@ -100,7 +100,7 @@ pub(crate) fn form_of(word: &str) -> Option<Form> {
     None
 }
 
-/// The word of the step for a command that has this name in the RMI, in a trace or in a history.
+/// Finds the word of a step by the name of its command. The name is that in the RMI, in a trace or in a history.
 pub(crate) fn step_of_command(name: &str) -> Option<&'static str> {
     for form in &FORMS {
         for other in form.other_names.split_whitespace() {

@@ -1,4 +1,4 @@
-//! The findings on a document: its errors if it is not a plan, or else its likely slips.
+//! The findings on a document. They are its errors if it is not a plan, or else its likely slips.
 ghost use Rattle.std.specs.Prelude.{◌≡◌, ◌≤◌, ℕ, true, map, sum_by, All, Any, IfOk, length, vec_len};
 ghost use Rattle.std.specs.List.Sorted.{IsPermutation, IsNonDecreasingBy};
 ghost use Rattle.realm_plan.specs.PlanView.{plan_view};
@@ -18,7 +18,7 @@ pub struct Size {
     pub turns: usize,
 }
 
-/// The findings on the bytes of a document, and the size of the plan if the document is one.
+/// The result of `judge`. It has the findings on a document and, if the document is a plan, the size of the plan.
 #[derive(Drop)]
 pub struct Judged {
     /// The findings, sorted by where their spans begin.
@@ -187,8 +187,8 @@ fn in_order(mut found: Vec<Finding>) -> Result<Vec<Finding>, AllocError>
     Ok(found)
 }
 
-/// The findings on the bytes of a document, and the size of the plan if the document is one. The one error is that
-/// allocation failed.
+/// Finds the errors or the likely slips in a document. If the document is a plan, the result also has the size of the
+/// plan. The one error is that allocation failed.
 pub fn judge(alloc: Global, bytes: &[u8]) -> Result<Judged, AllocError>
     ensures { IfOk result (IsJudged bytes.now) }
 {

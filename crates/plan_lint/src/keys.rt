@@ -1,10 +1,10 @@
-//! Findings on unknown and missing keys, and on the numbers in a plan.
+//! Mistakes in the keys and in the numbers of a plan.
 use crate::finding::Findings;
 use crate::message_text::Piece::{Quoted, Whole, Words};
 use crate::outline::{Build, KeyValue, Outline, PLAN_KEYS, Value, is_among};
 use realm_plan::PlanFault;
 
-/// Whether unknown keys were probably meant as the missing keys `pages` and `build`.
+/// The missing keys that were probably meant by unknown or misplaced keys. Only `pages` and `build` are noted.
 #[derive(Clone, Copy)]
 pub struct Meant {
     pub pages: bool,
@@ -18,7 +18,7 @@ impl Meant {
     }
 }
 
-/// Reports unknown and misplaced keys, and returns which missing keys were probably meant. A key that is there several
+/// Reports unknown and misplaced keys. Returns which missing keys were probably meant. A key that is there several
 /// times in a row, as in `[machine.cpu]` below `[machine]`, is reported once.
 pub(crate) fn unknown_keys(outline: &Outline, found: &mut Findings) -> Meant {
     let mut meant = Meant {
@@ -95,7 +95,7 @@ fn is_near_steps(key: &KeyValue, found: &mut Findings) -> bool {
     found.nearest(&["steps"], key.name.as_str()).is_some()
 }
 
-/// Whether one of the keys of a build that lacks `steps` was probably meant as `steps`.
+/// Whether one of a build's keys was probably meant as `steps`. The build lacks `steps`.
 pub(crate) fn means_steps(build: &Build, found: &mut Findings) -> bool {
     for key in &build.keys {
         if is_near_steps(key, found) {
@@ -117,7 +117,7 @@ fn no_such_key(key: &KeyValue, all: &str, found: &mut Findings) {
     found.help(all, &[]);
 }
 
-/// The keys of a plan whose values are numbers, each with its least and its greatest value.
+/// The numeric keys of a plan, with their least and greatest values.
 const NUMBERS: [(&str, i64, i64); 4] = [
     ("pages", 1, 4096),
     ("vmids", 1, 255),
@@ -151,7 +151,7 @@ fn number(name: &str, low: i64, high: i64, value: &Value, found: &mut Findings) 
     }
 }
 
-/// Reports a value that should be an integer and is of another kind.
+/// Reports a value of another kind in place of an integer.
 pub(crate) fn no_integer(value: &Value, found: &mut Findings) {
     of_kind(value, "an integer", found);
     if let Some(text) = value.as_text() {

@@ -1,4 +1,4 @@
-//! Findings on a plan's text: its errors, or its likely slips, each with a message and a position.
+//! Findings on the text of a plan: errors, or likely slips. Each has a message and a position.
 //!
 //! Values to values: nothing here reads a device or knows a host. Whether bytes are a plan is for `realm_plan` to say,
 //! and its fault is always among the errors. Everything else here finds words and places. A walk over the text finds

@@ -9,7 +9,7 @@ use realm_plan::{Plan, PlanStep};
 use std::alloc::{AllocError, Global};
 use std::str::from_utf8;
 
-/// Finds the likely slips in a plan, given its bytes and the parsed plan. The one error is that allocation failed.
+/// Finds the likely slips in a plan. `bytes` are the text of the plan. The one error is that allocation failed.
 pub(crate) fn slips_in(
     alloc: Global,
     bytes: &[u8],
@@ -37,7 +37,7 @@ pub(crate) fn slips_in(
     found.finish()
 }
 
-/// A build of a plan, with the outline that has the positions of its steps in the text.
+/// A build of a plan. The outline has the spans of the build's steps in the text.
 #[derive(Clone, Copy)]
 struct PlannedBuild<'a> {
     plan: &'a Plan,
@@ -111,7 +111,8 @@ impl PlannedBuild<'_> {
         Ok(())
     }
 
-    // The number of the build's turns, and the index in `order` of its first turn beyond the limit `most`, if there is one.
+    // The number of the build's turns, and the index in `order` of its first turn beyond the limit `most`, if there is
+    // one.
     fn own_turns(&self, most: usize) -> (usize, Option<usize>) {
         let (mut count, mut further) = (0usize, None);
         for (place, turn) in self.plan.order.iter().enumerate() {

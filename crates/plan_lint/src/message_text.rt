@@ -1,7 +1,7 @@
 //! Message templates with gaps for names and numbers.
 use std::alloc::{AllocError, Global};
 
-/// The largest number of characters of a quoted text that are shown.
+/// The longest quotation in a message, in characters.
 const LONGEST: usize = 40;
 
 /// The content of a gap in a message template.
@@ -13,7 +13,7 @@ pub enum Piece<'a> {
     Count(usize),
     Number(u64),
     Whole(i64),
-    /// The plural ending of a noun, which is empty for a count of 1.
+    /// The plural ending of a noun. It is empty for a count of 1.
     Plural(usize),
 }
 
@@ -33,7 +33,7 @@ pub(crate) fn push_filled(
     text.push_str(rest)
 }
 
-/// The text `beginning`, followed by the words with each `{}` replaced by the next piece.
+/// Returns `beginning`, followed by the filled words. The next piece replaces each `{}` of the words.
 pub(crate) fn filled(
     alloc: Global,
     beginning: &str,

@@ -2,7 +2,7 @@
 use std::alloc::{AllocError, Global};
 use strsim::osa_distance;
 
-/// The greatest length, in bytes, of a word that is looked up.
+/// The longest word that is looked up, in bytes.
 const LONGEST: usize = 32;
 
 /// The name nearest to a word, if any name is near. A near name is the same but for capital letters, or differs in up

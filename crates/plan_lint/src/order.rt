@@ -7,7 +7,7 @@ use realm_plan::{MOST_TURNS, PlanFault};
 use std::alloc::AllocError;
 use std::collections::BTreeMap;
 
-/// The turns that name the same build, which does not exist: the index of the first such turn, and their count.
+/// The turns that name one missing build. `count` is the number of these turns.
 #[derive(Clone, Copy)]
 struct Stray {
     /// The index of the first turn that names the build.

@@ -5,7 +5,7 @@ use toml_parser::Scalar;
 /// All keys that a plan can have.
 pub const PLAN_KEYS: [&str; 6] = ["pages", "vmids", "aux", "history", "order", "build"];
 
-/// The kind of a value, with the content of a string or a scalar.
+/// The kind of a value. A string or a scalar has its content too.
 #[derive(Drop)]
 pub enum Content {
     Text(String),
@@ -65,7 +65,7 @@ impl Value {
 /// A key and its value.
 #[derive(Drop)]
 pub struct KeyValue {
-    /// The name of this key, or only the first part if the key is dotted.
+    /// The name of the key. Of a dotted key it is only the first part.
     pub name: String,
     pub key: Span,
     pub value: Value,
@@ -74,7 +74,7 @@ pub struct KeyValue {
 /// A build in the text of a plan: its value, its keys, and its steps.
 #[derive(Drop)]
 pub struct Build {
-    /// The header of the build, or its item in an array.
+    /// The build's header `[[build]]`, or the build's item in the array `build`.
     pub value: Value,
     pub keys: Vec<KeyValue>,
     /// The items of the build's key `steps`.
@@ -123,7 +123,7 @@ impl Outline {
         Span::new(start, 0)
     }
 
-    /// The span of the value of `order`, or `start` if the text has no `order`.
+    /// Returns the span of the value of `order`. It is `start` if the text has no `order`.
     pub(crate) fn order_span(&self) -> Span {
         match self.value("order") {
             Some(value) => value.span,
@@ -131,7 +131,7 @@ impl Outline {
         }
     }
 
-    /// The span of a turn, or `order_span` if there is no such turn.
+    /// Returns the span of a turn. It is `order_span` if there is no such turn.
     pub(crate) fn turn_span(&self, place: usize) -> Span {
         match self.turns.get(place) {
             Some(turn) => turn.span,
@@ -139,8 +139,8 @@ impl Outline {
         }
     }
 
-    /// The span of a step, or of its build if there is no such step, or the beginning of the text if there is no such
-    /// build.
+    /// Returns the span of a step. If there is no such step, it is the span of the build. If there is no such build, it
+    /// is the beginning of the text.
     pub(crate) fn step_span(&self, build: usize, step: usize) -> Span {
         match self.builds.get(build) {
             Some(build) => build.steps.get(step).unwrap_or(&build.value).span,
@@ -149,7 +149,7 @@ impl Outline {
     }
 }
 
-/// Whether `name` is one of the names.
+/// Whether `names` contains `name`.
 pub(crate) fn is_among(names: &[&'static str], name: &str) -> bool {
     for it in names {
         if *it == name {

@@ -1,5 +1,5 @@
-//! The report on a document: each finding with its line of the text, and the size if the document is a plan. Tests
-//! compare reports with stored texts.
+//! The report on a document. It has the findings with excerpts of their lines and, for a plan, the size of the plan.
+//! Tests compare reports with stored texts.
 ghost use Rattle.std.specs.Prelude.{IfOk};
 
 use crate::excerpt::{Cursor, FIRST, first_of, place_at, plain_text, push_excerpt};
@@ -9,10 +9,10 @@ use crate::message_text::Piece::{Count, Plural, Words};
 use crate::message_text::push_filled;
 use std::alloc::{AllocError, Global};
 
-/// The largest number of bytes from a finding's position on that are searched for the end of its line.
+/// The number of bytes that are searched for a line feed. The search begins at the position of a finding.
 const AHEAD: usize = 81;
 
-/// The report on a document: its text, and whether the document is a plan.
+/// The text of a report, and whether the document is a plan.
 #[derive(Drop)]
 pub struct LintReport {
     pub text: String,
@@ -107,8 +107,8 @@ fn push_size(text: &mut String, source: &str, size: Size) -> Result<(), AllocErr
 impl LintReport {
     ghost use Rattle.plan_lint.specs.Texts.{IsReport};
 
-    /// The report on bytes that were read from `source`, built completely in memory. The one error is that allocation
-    /// failed.
+    /// Returns the report on bytes that were read from `source`. The whole report is built in memory, and the one error
+    /// is that allocation failed.
     pub fn on(alloc: Global, source: &str, bytes: &[u8]) -> Result<LintReport, AllocError>
         ensures { IfOk result (IsReport source.now bytes.now) }
     {

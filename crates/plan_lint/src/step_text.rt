@@ -8,17 +8,17 @@ use realm_plan::PlanFault;
 /// The number of bytes of a page.
 const PAGE: u64 = 4096;
 
-/// The greatest length, in bytes, of a too large number that a message shows without backquotes.
+/// The longest number without backquotes in a message, in bytes.
 const LONGEST: usize = 20;
 
-/// A string in a plan that should be a step and is not one, with its fault and its position.
+/// A string in a plan that is not a valid step. The fault and the position of the string are given too.
 #[derive(Clone, Copy)]
 pub struct InvalidStep<'a> {
     pub written: &'a str,
     pub fault: PlanFault,
     /// The span of the string with its quotes.
     pub whole: Span,
-    /// Whether the document has `written` byte for byte, directly after the string's opening quote.
+    /// Whether `written` follows the string's opening quote in the document, byte for byte.
     pub inside: bool,
 }
 
@@ -48,7 +48,7 @@ impl InvalidStep<'_> {
     }
 }
 
-/// An argument of a step, which begins at the byte `at` of the step's text.
+/// An argument of a step. `at` is the offset of the argument in the step's text.
 #[derive(Clone, Copy)]
 struct Argument<'a> {
     kind: OperandKind,
@@ -56,7 +56,7 @@ struct Argument<'a> {
     text: &'a str,
 }
 
-/// Finds the first mistake in a string that is not a valid step.
+/// Finds the first mistake in an invalid step.
 pub(crate) fn of_step(step: &InvalidStep<'_>, found: &mut Findings) {
     if step.written.is_empty() {
         let words = "expected a step, found an empty string";

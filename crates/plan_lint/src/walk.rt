@@ -1,4 +1,4 @@
-//! A walk over the text of a plan, which finds its parts.
+//! The walk that finds the parts of a plan in its text.
 //!
 //! The text is one that the reader of TOML has taken, so the walk asks only what comes next. At anything that it does
 //! not expect it ends, and the parts after that place are not found.
@@ -16,7 +16,7 @@ enum Part {
     Turns,
     /// The items of `build`.
     Builds,
-    /// The last build.
+    /// The keys of the last build.
     Build,
     /// The items of `steps` in the last build.
     Steps,
@@ -40,7 +40,7 @@ impl Part {
 /// An array or an inline table that is still open.
 #[derive(Clone, Copy)]
 struct Open {
-    /// The part to which the array or table belongs; `part` is the part to which its own keys or items belong.
+    /// The part to which the array or table belongs. `part` is the part to which its own keys or items belong.
     owner: Part,
     part: Part,
     is_table: bool,
@@ -53,13 +53,13 @@ struct Walk<'a> {
     whole: usize,
     /// The text that is still to be read.
     rest: &'a str,
-    /// The part of the plan to which the keys below the last header belong.
+    /// The part to which the keys below the last header belong.
     section: Part,
     open: Vec<Open>,
     outline: Outline,
 }
 
-/// The parts of a plan's text, as far as the walk finds them.
+/// Finds the parts of a plan's text, as far as the walk gets.
 pub(crate) fn outline_of(alloc: Global, text: &str) -> Result<Outline, AllocError> {
     let mut walk = Walk {
         alloc,

@@ -1,4 +1,4 @@
-//! The answer to the step of a turn, and the text of the answer.
+//! The answer to a build's step in a turn, and the answer's text.
 ghost use Rattle.std.specs.Prelude.{◌≡◌, ◌++◌, OnOk, string_bytes, [], IfOk};
 ghost use Rattle.plan_replay.specs.Text.{turn_line};
 
@@ -9,16 +9,16 @@ use realm_plan::{KindWord, Plan, PlanStep, RefusalText, ReplyText, StepText};
 use std::alloc::{AllocError, Global};
 use std::fmt;
 
-/// The answer to the step of a turn.
+/// The answer to a build's step in a turn.
 #[derive(Clone, Copy)]
 pub enum TurnAnswer {
     /// The reply to an accepted command.
     Replied(Reply),
-    /// A mark that was set, with the number of operations open at the mark.
+    /// A mark that was set. The number is that of the operations open at the mark.
     Marked(u16),
     /// The kind of an operation that was undone. In an abort or a `back`, more are left to undo.
     Undone(Kind),
-    /// The kind of the last operation that an abort, or a `back` to a mark, had to undo.
+    /// The end of an abort or a `back`. The kind is that of the last operation undone.
     Ended(Kind),
     /// An abort or a `back` with nothing to undo.
     Nothing,
@@ -54,8 +54,8 @@ impl fmt::Display for TurnAnswer {
     }
 }
 
-/// Appends the line of a turn: the build, the step as it is in the plan, and the answer. At an `Err` the text may have
-/// a part of it.
+/// Appends the line of a turn. The line has the build, the plan's step, and the answer. At an `Err` the text may have a
+/// part of it.
 pub fn push_turn(
     text: &mut String,
     build: BuildId,
@@ -67,11 +67,11 @@ pub fn push_turn(
     writeln!(text, "{} {} = {answer}", build.number(), StepText(step))
 }
 
-/// The number of bytes that are reserved for each line of a turn or of a page. Most lines have fewer.
+/// The number of bytes to reserve for a line of output. Most lines have fewer.
 const BYTES_A_LINE: usize = 24;
 
-/// An empty string, with the capacity that the output of a run of the plan is expected to need. A text that grows is
-/// copied, and takes the memory of both meanwhile. The one error is that allocation failed.
+/// Creates an empty string for a run's output. Its capacity is estimated from the plan. A text that grows is copied,
+/// and takes the memory of both meanwhile. The one error is that allocation failed.
 pub fn text_for(alloc: Global, plan: &Plan) -> Result<String, AllocError>
     ensures { IfOk result (λ text. string_bytes text ≡ []) }
 {

@@ -6,10 +6,10 @@ use crate::answer::TurnAnswer;
 use realm_host::Mark;
 use realm_plan::MOST_STEPS;
 
-/// The step number of the abort that a build performs when it gives up. The numbers of a plan's steps are lower.
+/// The step number of a build's abort on giving up. The numbers of a plan's steps are lower.
 pub const GIVING_UP: usize = MOST_STEPS + 1;
 
-/// The number of the step that follows a finished one. A refused step of a plan that gives up leads to the abort.
+/// Returns the number of the step after step `done`. A refused step of a plan that gives up leads to the abort.
 pub fn number_after(gives_up: bool, is_refused: bool, done: usize) -> usize
     requires { done < 2 ^ 32 }
     ensures { result ≡ number_after gives_up is_refused done }
@@ -21,8 +21,9 @@ pub fn number_after(gives_up: bool, is_refused: bool, done: usize) -> usize
     }
 }
 
-/// The position of a build in its plan: the number of steps done, the undos left of the current step, and the last
-/// mark. In a plan that gives up the number may be `GIVING_UP`, and once that abort is over the next one.
+/// The position of a build in its plan. It has the number of steps done, the remaining undos of the current step, and
+/// the last mark. In a plan that gives up the number of steps may be `GIVING_UP`, and once that abort is over the next
+/// one.
 #[derive(Clone, Copy)]
 pub struct PlanCursor {
     pub done: usize,
@@ -31,7 +32,7 @@ pub struct PlanCursor {
 }
 
 impl PlanCursor {
-    /// The cursor before the first step.
+    /// Creates the cursor before the first step.
     pub fn first() -> PlanCursor
         ensures { result ≡ first_place }
     {
@@ -42,7 +43,8 @@ impl PlanCursor {
         }
     }
 
-    /// Moves to the next step after a turn with this answer, unless the step has undos left.
+    /// Moves the cursor on after a turn. The cursor goes to the next step, unless the current step has undos left. The
+    /// turn's answer decides which step is next.
     pub fn move_on(&mut self, gives_up: bool, answer: &TurnAnswer)
         requires { self.old.done ≤ giving_up }
         ensures { self.new ≡ moved_on gives_up answer.now self.old }

@@ -1,4 +1,4 @@
-//! The turns of a plan, and their lines.
+//! The turns of a plan, and the output line of each turn.
 ghost use Rattle.std.specs.Prelude.{◌≡◌, ◌<◌, ◌≤◌, OnOk, IfSome, string_bytes, vec_len, option_map};
 ghost use Rattle.realm_plan.specs.PlanView.{plan_view};
 ghost use Rattle.plan_replay.specs.Place.{giving_up};
@@ -34,8 +34,8 @@ fn step_numbered<'a>(plan: &'a Plan, steps: &'a [PlanStep], number: usize) -> Op
     }
 }
 
-/// The step of a build that follows its first `done` steps, or `None` if no step is left. After a refusal of a build
-/// that gives up this is an abort.
+/// Returns the step of a build after `done` steps. Returns `None` if no step is left. After a refusal of a build that
+/// gives up, the step is an abort.
 pub fn step_after(plan: &Plan, build: usize, done: usize) -> Option<&PlanStep>
     ensures value { option_map (λ step. step.now) result ≡ nth_step (plan_view plan.now) build done }
     ensures few { IfSome result (λ _. done ≤ giving_up) }
@@ -46,7 +46,7 @@ pub fn step_after(plan: &Plan, build: usize, done: usize) -> Option<&PlanStep>
     }
 }
 
-/// Takes one turn of a build, and returns the step that was taken, if one was left, with the host's answer.
+/// Takes one turn of a build. Returns the step with its answer, or `None` if no step was left.
 pub fn take_turn<'a, S: PageStore>(
     host: &mut Host<S>,
     plan: &'a Plan,

@@ -1,4 +1,4 @@
-//! The turns that steps take, one function for each kind of step.
+//! Functions that take a build's turn, one for each kind of step.
 ghost use Rattle.std.specs.Prelude.{◌≡◌, ◌<◌};
 ghost use Rattle.realm_plan.specs.Asked.{asked};
 ghost use Rattle.plan_replay.specs.Turn.{to_go_back, IsCommandTurn, IsUndoTurn, IsMarkTurn, IsOneOfMany, IsTurnOfMany, IsToAbort, IsAbortTurn, IsStepTurn};
@@ -151,8 +151,8 @@ fn step_turn<S: PageStore>(
     }
 }
 
-/// Takes the turn of a step of a build's plan, and returns the answer. The cursor says afterwards how many undos of the
-/// step are left.
+/// Takes a turn of a build's step, and returns the answer. The cursor says afterwards how many undos of the step are
+/// left.
 pub fn plan_turn<S: PageStore>(
     host: &mut Host<S>,
     build: BuildId,
@@ -167,7 +167,7 @@ pub fn plan_turn<S: PageStore>(
     }
 }
 
-/// The build at an index of a plan.
+/// Returns the build at an index of a plan.
 pub(crate) fn id_of(place: usize) -> BuildId
     requires { place < 8 }
     ensures { result ≡ place }

@@ -1,8 +1,8 @@
 //! The labels of a graph's edges.
 
-/// The label of an edge: its turn's build, and the turn's outcome as indices into the lists of a graph. `end` is the
-/// outcome of the step that the turn used up, if it used one up. `held` gives the numbers of pages that builds hold
-/// after the turn. `map` is the final map, if a schedule ends with the turn.
+/// The label of an edge of a graph. It has the build that takes the turn, and the turn's outcome as indices into the
+/// graph's lists. `end` is the outcome of the step that the turn used up, if it used one up. `held` gives the numbers
+/// of pages that builds hold after the turn. `map` is the final map, if a schedule ends with the turn.
 #[derive(Clone, Copy)]
 pub struct Label {
     pub build: usize,

@@ -1,4 +1,4 @@
-//! The graph of the states of a plan's runs.
+//! The state graph of a plan's runs.
 ghost use Rattle.std.specs.Prelude.{◌≡◌, ◌≤◌, ◌<◌, ◌++◌, ◌∷◌, [], Some, OnOk, IfOk, IfErr, IfSome, length, string_bytes, vec_len};
 ghost use Rattle.realm_plan.specs.PlanView.{plan_view};
 ghost use Rattle.plan_states.specs.Exploration.{AreOfRuns, IsExploration, IsFound, HasNoGraph};
@@ -23,20 +23,21 @@ use schedule_graph::Edge;
 use std::alloc::{AllocError, Global};
 use std::collections::HashMap;
 
-/// The states after the same number of turns, each as the edges that lead from it.
+/// A layer of a graph: the edges that lead from each state. The states of a layer are those after the same number of
+/// turns.
 pub type Layer = Vec<Vec<Edge<Label>>>;
 
 /// The graph of all schedules of a plan, layer by layer. Its first layer has one state.
 #[derive(Drop)]
 pub struct Graph {
     pub layers: Vec<Layer>,
-    /// The number of steps that each build has done, for each state of each layer.
+    /// The progress of the builds in each state of each layer. It is the number of steps that each build has done.
     pub progress: Vec<Vec<StepsDone>>,
-    /// The outcomes of steps.
+    /// The outcomes of steps, indexed by `Label::end`.
     pub ends: Vec<EndOfStep>,
-    /// The numbers of pages that builds hold after turns.
+    /// The builds' page counts after turns, indexed by `Label::held`.
     pub held: Vec<PagesHeld>,
-    /// The final maps.
+    /// The final maps, indexed by `Label::map`.
     pub maps: Vec<String>,
 }
 
@@ -348,8 +349,8 @@ fn search(alloc: Global, plan: &Plan, most: usize) -> Result<Option<Graph>, Faul
     }))
 }
 
-/// Explores all schedules of a plan, and returns the whole graph, or `TooMany` if it has more than `most` states. Each
-/// path of the graph is a run of the plan.
+/// Explores all schedules of a plan. Returns the whole graph, or `TooMany` if it has more than `most` states. Each path
+/// of the graph is a run of the plan.
 ///
 /// Errors. `Memory`: allocation failed. `Mismatch`: a run does not go on as another run said, a turn is missing in the
 /// graph, or an end or a map is there twice. None happens on a host that gives the same answers to the same calls.

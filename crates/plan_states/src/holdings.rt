@@ -1,4 +1,4 @@
-//! The table of the numbers of pages that builds hold.
+//! The table of builds' page counts.
 ghost use Rattle.std.specs.Prelude.{◌≡◌, IfOk, IfSome, OnOk, Some, slice_get};
 ghost use Rattle.plan_states.specs.Turned.{AreWith};
 
@@ -6,7 +6,7 @@ use crate::question::PagesHeld;
 use std::alloc::{AllocError, Global};
 use std::collections::HashMap;
 
-/// The table of the numbers of pages that builds hold after turns, each entry with its index.
+/// A table of builds' page counts after turns. Each entry has an index.
 #[derive(Drop)]
 pub(crate) struct Holdings {
     numbers: HashMap<PagesHeld, usize>,
@@ -14,7 +14,7 @@ pub(crate) struct Holdings {
 }
 
 impl Holdings {
-    /// An empty table.
+    /// Creates an empty table.
     pub(crate) fn new(alloc: Global) -> Holdings {
         Holdings {
             numbers: HashMap::new(alloc),
@@ -33,7 +33,7 @@ impl Holdings {
         }
     }
 
-    /// Finds or adds `held` in the table, and returns its index.
+    /// Finds or adds an entry, and returns its index.
     pub(crate) fn number_of(&mut self, held: PagesHeld) -> Result<usize, AllocError>
         ensures number { IfOk result (λ number. slice_get self.new.all.items number ≡ Some held) }
         ensures all { OnOk result (AreWith self.old.all.items (Some held) self.new.all.items) }
@@ -47,7 +47,7 @@ impl Holdings {
         Ok(number)
     }
 
-    /// All entries of the table, in the sequence of their indices.
+    /// Returns all entries of the table, sorted by index.
     pub(crate) fn into_all(self) -> Vec<PagesHeld>
         ensures { result ≡ self.all }
     {

@@ -1,4 +1,5 @@
-//! Theorems on the schedules of plans.
+//! Theorems on the schedules of plans. In a whole graph, each build with a step left in a state has exactly one edge
+//! from that state (`whole.rt`).
 ghost use Rattle.std.specs.Prelude.{◌≡◌, ◌+◌, ◌<◌, ◌≤◌, ℕ, Bool, true, false, List, [], All, AllPairs, Contains, length, map};
 ghost use Rattle.std.specs.List.{range_with_len};
 ghost use Rattle.realm_plan.specs.Plan.{Plan};
@@ -11,9 +12,9 @@ ghost use Rattle.plan_states.specs.Whole.{IsWholeGraph};
 ghost use Rattle.plan_states.specs.declared.edges.Label.{Label};
 ghost use Rattle.plan_states.specs.declared.graph.Graph.{Graph};
 
-/// If a rule agrees with the paths of a whole graph, the paths' schedules are exactly the rule's schedules. A rule says
-/// which of eight builds have a step left after which turns. Each schedule of the rule is the schedule of a path, and
-/// each path has a schedule of the rule.
+/// The paths of a whole graph have exactly a rule's schedules. This holds if the rule agrees with the paths. A rule
+/// says which of eight builds have a step left after which turns. Each schedule of the rule is the schedule of a path,
+/// and each path has a schedule of the rule.
 pub fn every_schedule_is_a_path()
     ensures found { (plan : Plan) (graph : Graph) (left : List ℕ → ℕ → Bool) → IsWholeGraph plan graph → IsRuleOf plan graph left
         → (order : List ℕ) → IsSchedule left [] order → Contains (map builds_of_path (paths_of graph)) order }
@@ -21,64 +22,66 @@ pub fn every_schedule_is_a_path()
         → All (IsSchedule left []) (map builds_of_path (paths_of graph)) }
 {}
 
-/// For a rule that agrees with the paths of a whole graph, the list of all schedules equals the list of the paths'
-/// schedules. That list may have schedules of more turns than the graph has layers: there are none. So a sum over the
-/// paths is the sum over all schedules.
+/// The list of a rule's schedules equals that of the paths' schedules. This holds if the rule agrees with the paths of
+/// a whole graph. The rule's list may have schedules of more turns than the graph has layers, but there are none. So a
+/// sum over the paths is the sum over all schedules.
 pub fn paths_are_all_schedules()
     ensures { (plan : Plan) (graph : Graph) (left : List ℕ → ℕ → Bool) → IsWholeGraph plan graph → IsRuleOf plan graph left
         → (most : ℕ) → length graph.layers.items ≤ most + 1 → map builds_of_path (paths_of graph) ≡ schedules_after left most [] }
 {}
 
-/// The schedules of a whole graph's paths are in strictly ascending lexicographic order. Of two paths the earlier has
-/// the lower build at the first turn at which they differ. So no two paths have the same schedule, and a count of paths
-/// is one of schedules.
+/// The paths of a whole graph are sorted by schedule. Their schedules are in strictly ascending lexicographic order. Of
+/// two paths the earlier has the lower build at the first turn at which they differ. So no two paths have the same
+/// schedule, and a count of paths is one of schedules.
 pub fn path_schedules_rise()
     ensures rise { (plan : Plan) (graph : Graph) → IsWholeGraph plan graph
         → AllPairs (λ (one other : List ℕ). is_before one other ≡ true) (map builds_of_path (paths_of graph)) }
     ensures never_twice { (order : List ℕ) → is_before order order ≡ false }
 {}
 
-/// A whole graph has a rule that agrees with its paths. After given turns, a build has a step left by the number that
-/// these turns lead to in the graph. So of any plan the paths are all schedules by this rule.
+/// Each whole graph has a rule that agrees with its paths. After given turns, a build has a step left by the number
+/// that these turns lead to in the graph. So of any plan the paths are all schedules by this rule.
 pub fn a_whole_graph_has_a_rule()
     ensures { (plan : Plan) (graph : Graph) → IsWholeGraph plan graph → IsRuleOf plan graph (own_rule plan graph) }
 {}
 
-/// The progress of a build along a path is the number of its steps that the turns use up, unless the plan gives up.
+/// A build's progress along a path is a number of turns. It counts the turns that use up a step of the build, unless
+/// the plan's builds give up.
 pub fn steps_are_counted()
     ensures { (plan : Plan) (graph : Graph) (path : Path Label) (build : ℕ) → plan.gives_up ≡ false → done_by plan graph path build ≡ used_by path build }
 {}
 
-/// Each step takes one turn if a plan has no step `abort` or `back`, and its builds do not give up. Then the rule needs
-/// no graph: a build has a step left if it had fewer turns than steps. So the paths of a whole graph are all
-/// interleavings of the builds' steps.
+/// The rule of a plan with single turns needs no graph. Each step takes one turn if the plan has no step `abort` or
+/// `back`, and its builds do not give up. Then a build has a step left if it had fewer turns than steps. So the paths
+/// of a whole graph are all interleavings of the builds' steps.
 pub fn single_turns_make_a_rule()
     ensures { (plan : Plan) (graph : Graph) → IsWholeGraph plan graph → HasSingleTurns plan → IsRuleOf plan graph (by_turns plan) }
 {}
 
-/// Each path of a whole graph ends each step of each build once, in the sequence of the plan, unless the plan gives up.
+/// Each build finishes each of its steps once, in the plan's sequence. This holds along each path of a whole graph,
+/// unless builds give up.
 pub fn paths_end_each_step()
     ensures { (plan : Plan) (graph : Graph) → IsWholeGraph plan graph → plan.gives_up ≡ false
         → All (λ (path : Path Label). (build : ℕ) → build < 8 → steps_ended graph.ends.items build path ≡ range_with_len 0 (step_number plan build))
         (paths_of graph) }
 {}
 
-/// Each path of a whole graph of any plan ends the steps of each build in sequence, until no step is left. In a plan
-/// that gives up, a step that is refused is followed by the build's abort, and nothing comes after that.
+/// Each build finishes its steps in sequence until none is left. This holds along each path of a whole graph, even if
+/// builds give up. If they do, a refused step is followed by the build's abort, and nothing comes after the abort.
 pub fn paths_end_steps_in_sequence()
     ensures { (plan : Plan) (graph : Graph) → IsWholeGraph plan graph
         → All (λ (path : Path Label). (build : ℕ) → build < 8 → AreInSequence plan build 0 (ends_of graph.ends.items build path)) (paths_of graph) }
 {}
 
-/// Each schedule of a rule that agrees with a whole graph's paths is run from boot along a path of the graph. Each turn
-/// ends its step as the path says, and the final map is the path's own.
+/// Each schedule of a rule is run along a path. This holds if the rule agrees with the paths of a whole graph, and the
+/// paths are runs from boot. Each turn ends its step as the path says, and the final map is the path's own.
 pub fn every_schedule_is_run()
     ensures { (plan : Plan) (graph : Graph) (left : List ℕ → ℕ → Bool) → IsWholeGraph plan graph → ArePathsRuns plan graph → IsRuleOf plan graph left
         → (order : List ℕ) → IsSchedule left [] order → IsRunOnPath plan graph order }
 {}
 
-/// A run of a plan along a path from boot is a run in the path's schedule. If the path's last turn names a map, no
-/// build has a step left after that turn, and the map is the final map.
+/// A run along a path is also a run in the path's schedule. Both are runs of a plan from boot. If the path's last turn
+/// names a map, no build has a step left after that turn, and the map is the final map.
 pub fn runs_on_paths_are_runs()
     ensures { (plan : Plan) (graph : Graph) (path : Path Label) → IsRunFromBoot plan graph path → IsRunOf plan graph path }
 {}

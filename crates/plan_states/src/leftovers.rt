@@ -1,4 +1,5 @@
-//! The check that a build with no open operations leaves nothing behind, which is also a theorem.
+//! The check that each build with no open operations leaves nothing behind. A theorem says that the check always
+//! succeeds.
 ghost use Rattle.std.specs.Prelude.{◌≡◌, true, [], IfOk, string_bytes};
 ghost use Rattle.host_ledger.specs.View.{open_of};
 ghost use Rattle.plan_replay.specs.Run.{map_text};
@@ -29,8 +30,8 @@ fn is_unseen(
     Ok(without.as_str() == map)
 }
 
-/// Whether a host's map stays the same if any one build with no open operations is left out of the history. A theorem
-/// says that it always does. The one error is that allocation failed.
+/// Whether builds with no open operations leave nothing behind. The host's map has to stay the same if any one of them
+/// is left out of the history. A theorem says that it always does. The one error is that allocation failed.
 pub fn leave_nothing(
     alloc: Global,
     plan: &Plan,

@@ -1,4 +1,4 @@
-//! The outcomes of all schedules of a plan, from a graph of the states that the plan's runs reach.
+//! The outcomes of all schedules of a plan. They are counted in a graph of the states that the plan's runs reach.
 //!
 //! Schedules that have led to the same state are one from there on. A state is what each build did, and which blocks
 //! were leased and given back (`state.rt`). The states after as many turns are a layer (`graph.rt`). A turn of a build

@@ -69,7 +69,7 @@ fn refusal_words(is_refused: bool) -> &'static str
     }
 }
 
-/// Appends the lines that count the schedules with a refused step, and the schedules without one.
+/// Appends the counts of schedules with and without a refused step. Each count is a line.
 pub(crate) fn push_wholes(
     text: &mut String,
     orders: &Count,
@@ -105,7 +105,7 @@ fn push_end(
     push_shown(text, orders, &tally.count, &tally.first)
 }
 
-/// Appends the lines for the outcomes of a build's step, if the plan has the step.
+/// Appends the lines for the outcomes of a build's step. Appends nothing if the plan has no such step.
 pub(crate) fn push_step(
     text: &mut String,
     plan: &Plan,
@@ -139,7 +139,8 @@ fn push_give_up(
     push_shown(text, orders, &tally.count, &tally.first)
 }
 
-/// Appends the lines for the outcomes of the abort of a build that gives up, if the plan's builds give up.
+/// Appends the lines for a build's abort on giving up. There is a line for each outcome, and none if the plan's builds
+/// do not give up.
 pub(crate) fn push_give_ups(
     text: &mut String,
     plan: &Plan,
@@ -172,7 +173,8 @@ fn push_never_refused(
     Ok(())
 }
 
-/// Appends the line that counts the schedules in which a build was never refused; the count may be 0.
+/// Appends the line `never refused` of a build. It counts the schedules in which the build was never refused. The count
+/// may be 0.
 pub(crate) fn push_smooth(
     text: &mut String,
     orders: &Count,
@@ -190,7 +192,7 @@ pub(crate) fn push_smooth(
     Ok(())
 }
 
-/// Appends a final map, after a line with the number of schedules that end with it.
+/// Appends a final map. The line before the map has the number of schedules that end with it.
 pub fn push_map<K>(
     text: &mut String,
     orders: &Count,

@@ -1,4 +1,4 @@
-//! The outcomes of schedules, counted as paths of the graph.
+//! The number of schedules with each outcome. Schedules are counted as paths of the graph.
 ghost use Rattle.std.specs.Prelude.{◌≡◌, ◌≤◌, Bool, List, [], length, map, option_map, slice_index_or, OnOk, IfOk};
 ghost use Rattle.schedule_graph.specs.First.{any_path, layers_in, path_numbers_in, shows_none, ArePathNumbers};
 ghost use Rattle.schedule_graph.specs.Paths.{paths, shows, count_at};
@@ -258,7 +258,8 @@ fn maps_of(
     Ok(maps)
 }
 
-/// The outcomes of the paths in the graph of a plan with `builds` builds. The one error is that allocation failed.
+/// Counts the outcomes of the paths of a graph. The graph is that of a plan with `builds` builds. The one error is that
+/// allocation failed.
 pub fn outcomes_of(alloc: Global, builds: usize, graph: &Graph) -> Result<Outcomes, AllocError>
     ensures { IfOk result (AreOutcomes builds graph.now) }
 {

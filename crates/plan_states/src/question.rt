@@ -14,14 +14,14 @@ use schedule_graph::Sign;
 /// The number of pages that each build holds.
 pub type PagesHeld = [u16; 8];
 
-/// A question about a schedule: the property that its last turn has to have.
+/// A question about the last turn of a schedule. It asks whether the turn has a given property.
 #[derive(Clone, Copy, Drop)]
 pub enum TurnQuestion {
     /// A refusal of step `step` of build `build`.
     Refused { build: usize, step: usize },
-    /// A refusal of a step of the build, for want of a block or a VMID, while another build holds no page.
+    /// A refusal of build `build` for lack of a block or a VMID. Meanwhile some other build holds no page.
     Waiting { build: usize },
-    /// At least `granules` granules that are leased after the turn, by all builds together.
+    /// A total of at least `granules` leased granules after the turn.
     Leased { granules: usize },
 }
 
@@ -85,8 +85,8 @@ fn all_held(held: &PagesHeld) -> usize
 }
 
 impl TurnQuestion {
-    /// Whether a turn answers the question, by its outcome and by the pages that each of `builds` builds holds after
-    /// the turn.
+    /// Whether a turn answers the question. `end` is the outcome of the step that the turn used up, if it used one up.
+    /// `held` gives the pages that builds hold after the turn, and `builds` is the number of the plan's builds.
     pub(crate) fn is_answer(&self, builds: usize, end: Option<EndOfStep>, held: &PagesHeld) -> bool
         ensures { result ≡ is_answer builds self.now end held.now }
     {
@@ -107,7 +107,8 @@ fn end_numbered(ends: &[EndOfStep], number: Option<usize>) -> Option<EndOfStep>
     ends.get(number?).copied()
 }
 
-/// A test of an edge label: whether the label's turn answers `question`. A label has indices into `ends` and `held`.
+/// A test of edge labels for answers to `question`. A label passes if its turn answers the question. A label has
+/// indices into `ends` and `held`.
 #[derive(Clone, Copy)]
 pub(crate) struct AnswerSign<'a> {
     pub(crate) ends: &'a [EndOfStep],
@@ -130,7 +131,7 @@ impl Sign<Label> for AnswerSign<'_> {
     }
 }
 
-/// The number of pages that each build of a host holds.
+/// Returns the number of pages that each build of a host holds.
 pub(crate) fn pages_of_builds<S: PageStore>(host: &Host<S>) -> PagesHeld
     ensures { result ≡ pages_of_builds host.now }
 {

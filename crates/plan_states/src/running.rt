@@ -1,4 +1,4 @@
-//! Runs of a plan from boot in a given schedule, and single turns after them.
+//! Runs of a plan from boot, in a given schedule. Single turns can follow a run.
 ghost use Rattle.std.specs.Prelude.{◌≡◌, ◌<◌, IfOk, IfErr, IfSome, length, option_map};
 ghost use Rattle.std.specs.Bool.{OnFalse};
 ghost use Rattle.host_ledger.specs.View.{world_of, pages_of_build};
@@ -27,8 +27,9 @@ pub(crate) struct Running {
     pub(crate) places: [PlanCursor; 8],
 }
 
-/// The result of a turn: the number of steps done before and after it, its refusal, and the block that it leased or
-/// gave back. After the turn, the build's realm has the VMID, and the build has `pages` pages.
+/// The result of a turn. It has the build's progress, the refusal, the block leased or given back, and the VMID and
+/// pages after the turn. `before` and `after` are the numbers of steps done before and after the turn. The VMID is that
+/// of the build's realm.
 #[derive(Clone, Copy)]
 pub(crate) struct TurnTaken {
     pub(crate) before: usize,
@@ -89,7 +90,7 @@ fn vmid_of<S: PageStore>(host: &Host<S>, build: usize) -> Option<u8>
     }
 }
 
-/// The number of pages that a build holds.
+/// Returns the number of pages that a build holds.
 pub(crate) fn pages_of<S: PageStore>(host: &Host<S>, build: usize) -> u16
     requires { build < 8 }
     ensures { result ≡ length (pages_of_build host.now build) }
@@ -97,7 +98,7 @@ pub(crate) fn pages_of<S: PageStore>(host: &Host<S>, build: usize) -> u16
     host.page_count(BuildId::new(build as u8).unwrap())
 }
 
-/// Runs a plan on a fresh host, with a turn for each build in `order`, one after another.
+/// Runs a plan on a fresh host in the schedule `order`.
 ///
 /// Errors. `Memory`: allocation failed. `Mismatch`: some turn is of a build that has no step left then.
 pub(crate) fn run_to(alloc: Global, plan: &Plan, order: &[usize]) -> Result<Running, Fault>
@@ -129,7 +130,7 @@ pub(crate) fn has_more(plan: &Plan, places: &[PlanCursor; 8]) -> bool
     false
 }
 
-/// Takes one more turn of a build; None if it has no step left.
+/// Takes one more turn of a build. Returns the result, or `None` if the build has no step left.
 pub(crate) fn take<S: PageStore>(
     host: &mut Host<S>,
     plan: &Plan,

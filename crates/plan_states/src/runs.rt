@@ -1,4 +1,5 @@
-//! The check that each path of a graph is a run of the plan whose outcomes and final map are those named by the path.
+//! The check that a graph's paths are runs of the plan. Each run has the outcomes and the final map that its path
+//! names.
 ghost use Rattle.std.specs.Prelude.{◌≡◌, ◌+◌, ◌<◌, ◌^◌, ℕ, [], IfOk, IfErr, OnOk, length, map, slice_index_or, vec_items};
 ghost use Rattle.std.specs.Bool.{OnTrue};
 ghost use Rattle.realm_plan.specs.PlanView.{plan_view};

@@ -1,7 +1,7 @@
 //! The text of a schedule in a plan.
 use std::fmt;
 
-/// The further builds of a schedule as text, each after a comma and a space.
+/// The text of a schedule's builds after the first. A comma and a space precede each build.
 #[derive(Clone, Copy)]
 struct MoreTurns<'a>(&'a [usize]);
 

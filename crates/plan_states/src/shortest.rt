@@ -24,7 +24,7 @@ use std::alloc::{AllocError, Global};
 /// The result of a search for a schedule that answers a question.
 #[derive(Drop)]
 pub enum Witness {
-    /// The builds of the turns up to the answer.
+    /// A schedule whose last turn answers the question.
     Found(Vec<usize>),
     /// A question that no turn of any schedule answers.
     Never,
@@ -175,8 +175,8 @@ pub fn answers(
     Ok(question.is_answer(plan.builds.len(), end, &held))
 }
 
-/// Finds the first of the shortest schedules whose last turn answers a question, if the graph has at most `most`
-/// states.
+/// Finds the shortest schedule that answers a question. It is the first of the shortest schedules whose last turn
+/// answers the question. The result is `TooMany` if the graph has more than `most` states.
 ///
 /// Errors. `Memory`: allocation failed. `Mismatch`: a run does not go on as another run said, a turn is missing in the
 /// graph, or an end or a map is there twice. None happens on a host that gives the same answers to the same calls.

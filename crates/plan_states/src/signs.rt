@@ -16,7 +16,7 @@ fn has_number(number: usize, other: Option<usize>) -> bool
     }
 }
 
-/// A test of an edge label: whether the label names the step outcome at this index.
+/// A test of edge labels for one step outcome. A label passes if it names the step outcome at this index.
 #[derive(Clone, Copy)]
 pub(crate) struct EndSign(pub(crate) usize);
 
@@ -30,7 +30,7 @@ impl Sign<Label> for EndSign {
     }
 }
 
-/// A test of an edge label: whether the label names the final map at this index.
+/// A test of edge labels for one final map. A label passes if it names the final map at this index.
 #[derive(Clone, Copy)]
 pub(crate) struct MapSign(pub(crate) usize);
 
@@ -44,7 +44,8 @@ impl Sign<Label> for MapSign {
     }
 }
 
-/// A test of an edge label: whether a step of `build`, or of any build if `build` is `None`, is refused in the turn.
+/// A test of edge labels for refusals. A label passes if its turn ends with the refusal of a step of `build`. If
+/// `build` is `None`, the step may be one of any build.
 #[derive(Clone, Copy)]
 pub(crate) struct RefusalSign<'a> {
     pub(crate) ends: &'a [EndOfStep],

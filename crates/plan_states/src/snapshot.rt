@@ -14,8 +14,8 @@ use realm_host::{Host, Mark};
 use realm_model::Event;
 use std::alloc::{AllocError, Global};
 
-/// The state of a build without its events: its cursor, its marks, and whether it is aborting. A mark is the number of
-/// operations that were open at it.
+/// The state of a build without its events. It has the cursor, the marks, and whether the build is aborting. A mark is
+/// the number of operations that were open at it.
 #[derive(Clone, Copy)]
 pub(crate) struct BuildPoint {
     pub(crate) done: usize,
@@ -26,14 +26,14 @@ pub(crate) struct BuildPoint {
     pub(crate) kept: Option<u16>,
 }
 
-/// The snapshot of a build: its cursor, marks and abort flag, and its events.
+/// The snapshot of a build: its point and its events. The point has the cursor, the marks and the abort flag.
 #[derive(Drop)]
 pub(crate) struct BuildSnapshot {
     pub(crate) point: BuildPoint,
     pub(crate) events: Vec<Event>,
 }
 
-/// The snapshots of the eight builds.
+/// A snapshot of a run: the snapshots of the eight builds.
 #[derive(Drop)]
 pub(crate) struct Snapshot {
     pub(crate) builds: Vec<BuildSnapshot>,
@@ -124,7 +124,7 @@ fn events_of(alloc: Global, history: &[Event], build: usize) -> Result<Vec<Event
     Ok(events)
 }
 
-/// The snapshot of a run.
+/// Takes the snapshot of a run.
 pub(crate) fn snapshot_of<S: PageStore>(
     alloc: Global,
     host: &Host<S>,

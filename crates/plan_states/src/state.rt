@@ -9,8 +9,8 @@ use crate::whole::StepsDone;
 use plan_replay::step_after;
 use realm_plan::Plan;
 
-/// The state of a build: an index for its past turns, its number of steps done, its realm's VMID, and its number of
-/// pages.
+/// The state of a build in a run. It has the index of the build's past turns in `Turns`, the number of steps done, the
+/// realm's VMID, and the number of pages.
 #[derive(Clone, Copy, PartialEq, Eq, Hash)]
 pub(crate) struct BuildState {
     pub(crate) did: usize,
@@ -19,7 +19,7 @@ pub(crate) struct BuildState {
     pub(crate) pages: u16,
 }
 
-/// The state of a run: the state of each build, and an index for the blocks that were leased and given back.
+/// The state of a run. It has the state of each build, and the index of the sequence of blocks leased and given back.
 #[derive(Clone, Copy, PartialEq, Eq, Hash)]
 pub(crate) struct State {
     pub(crate) builds: [BuildState; 8],
@@ -41,7 +41,7 @@ impl BuildState {
 }
 
 impl State {
-    /// The state before the first turn: no build did anything, and no block has moved.
+    /// Creates the state before the first turn. No build has done anything, and no block has been leased.
     pub(crate) fn first() -> State
         ensures { result ≡ first_state }
     {
@@ -58,7 +58,7 @@ impl State {
         State { builds, blocks: 0 }
     }
 
-    /// The state after a turn of a build.
+    /// Returns the state after a turn of a build.
     pub(crate) fn with(self, build: usize, after: BuildState, blocks: usize) -> State
         requires { build < 8 }
         ensures { result ≡ record { builds = slice_set self.builds build after; blocks = blocks } }
@@ -75,7 +75,7 @@ impl State {
         u16::try_from(self.builds[build].done).unwrap_or(u16::MAX)
     }
 
-    /// The number of steps that each build has done.
+    /// Returns the number of steps that each build has done.
     pub(crate) fn progress(&self) -> StepsDone {
         [
             self.done_by(0),
@@ -89,7 +89,7 @@ impl State {
         ]
     }
 
-    /// The number of pages that each build holds.
+    /// Returns the number of pages that each build holds.
     pub(crate) fn held(&self) -> PagesHeld {
         let [one, two, three, four, five, six, seven, eight] = self.builds;
         [

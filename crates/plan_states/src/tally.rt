@@ -1,8 +1,8 @@
-//! The outcomes of schedules, each with the number of schedules that have it.
+//! Outcomes, and the number of schedules with each.
 use crate::step_end::EndOfStep;
 use schedule_graph::Count;
 
-/// An outcome, the number of schedules that have it, and the first of these schedules.
+/// The tally of an outcome. It has the outcome, the number of schedules that have it, and the first of these schedules.
 #[derive(Drop)]
 pub struct PathTally<K> {
     pub thing: K,
@@ -15,11 +15,11 @@ pub struct PathTally<K> {
 pub struct StepOutcomes {
     /// The number of schedules.
     pub orders: Count,
-    /// The tallies of the schedules with a refused step, and of the schedules without one.
+    /// The tallies of schedules with and without a refused step.
     pub wholes: Vec<PathTally<bool>>,
     /// The tallies of the outcomes of steps.
     pub ends: Vec<PathTally<EndOfStep>>,
-    /// For each build, the tally of the schedules in which the build was never refused, if there are any.
+    /// The tallies of schedules in which a build was never refused. Each build has one, if there are such schedules.
     pub smooth: Vec<PathTally<usize>>,
 }
 
@@ -27,6 +27,6 @@ pub struct StepOutcomes {
 #[derive(Drop)]
 pub struct Outcomes {
     pub steps: StepOutcomes,
-    /// The tallies of the final maps, in which each map is given by its index.
+    /// The tallies of the final maps. Each map is given by its index.
     pub maps: Vec<PathTally<usize>>,
 }

@@ -1,4 +1,4 @@
-//! The text of the outcomes of all schedules of a plan.
+//! The outcomes of a plan's schedules, as text.
 ghost use Rattle.std.specs.Prelude.{◌≡◌, ◌++◌, OnOk, IfOk, IfErr, string_bytes};
 ghost use Rattle.std.specs.List.{flat_map, range_with_len};
 ghost use Rattle.realm_plan.specs.PlanView.{plan_view};
@@ -100,7 +100,7 @@ fn push_maps(
     Ok(())
 }
 
-/// Appends the text of the outcomes of steps over all schedules. It begins with the numbers of schedules with and
+/// Appends the outcomes of steps, counted over all schedules. The text begins with the numbers of schedules with and
 /// without a refused step. For each step of each build follow its outcomes, each with the number of its schedules and
 /// the first of them. For each build follows the number of schedules in which it was never refused. At an `Err`
 /// allocation failed, and the text may have a part of it.
@@ -119,8 +119,8 @@ pub fn push_step_outcomes(
     Ok(())
 }
 
-/// Appends the outcomes of all schedules of a plan: the number of schedules, the outcomes of steps, and the final maps.
-/// At an `Err` allocation failed, and the text may have a part of it.
+/// Appends the outcomes of all schedules of a plan. They are the number of schedules, the outcomes of steps, and the
+/// final maps. At an `Err` allocation failed, and the text may have a part of it.
 pub fn push_outcomes(
     text: &mut String,
     plan: &Plan,
@@ -146,7 +146,7 @@ fn graph_text(alloc: Global, plan: &Plan, graph: &Graph) -> Result<String, Alloc
     Ok(text)
 }
 
-/// The line that says that there are more than `most` states. The one error is that allocation failed.
+/// Returns the line for more than `most` states. The one error is that allocation failed.
 pub fn too_many_text(alloc: Global, most: usize) -> Result<String, AllocError>
     ensures { IfOk result (λ text. string_bytes text ≡ too_many_line most) }
 {
@@ -155,8 +155,8 @@ pub fn too_many_text(alloc: Global, most: usize) -> Result<String, AllocError>
     Ok(text)
 }
 
-/// Returns the text of the outcomes of a plan's schedules, or a line that says that the graph has more than `most`
-/// states.
+/// Returns the outcomes of a plan's schedules, as text. If the graph has more than `most` states, the text is a line
+/// that says so.
 ///
 /// Errors. `Memory`: allocation failed. `Mismatch`: a run does not go on as another one said, a turn is missing in the
 /// graph, or an end or a map is there twice. None happens on a host that gives the same answers to the same calls.

@@ -1,4 +1,4 @@
-//! The turns of builds; turns with the same inputs are run once.
+//! A cache of turns' outcomes. Turns with the same inputs are run only once.
 ghost use Rattle.std.specs.Prelude.{◌≡◌, ◌++◌, ◌<◌, [], All, OnOk, IfErr, Some};
 ghost use Rattle.realm_plan.specs.PlanView.{plan_view};
 ghost use Rattle.plan_states.specs.Exploration.{HasNoGraph};
@@ -31,8 +31,8 @@ enum Shared {
     Vmids,
 }
 
-/// A build's turns so far: an index for the turns before the last, and the last turn's outcome, block and VMID. All
-/// else follows from these.
+/// The turns of a build so far. They are given by the index of all turns but the last, and the last turn's outcome,
+/// block and VMID. All else follows from these.
 #[derive(Clone, Copy, PartialEq, Eq, Hash)]
 struct Did {
     before: usize,
@@ -41,21 +41,23 @@ struct Did {
     vmid: Option<u8>,
 }
 
-/// A sequence of blocks that were leased or given back: an index for the earlier blocks, and the last block.
+/// A sequence of blocks that were leased or given back. It is given by the index of the sequence without the last
+/// block, and that block.
 #[derive(Clone, Copy, PartialEq, Eq, Hash)]
 struct Moves {
     before: usize,
     moved: Moved,
 }
 
-/// The inputs of a turn: what its build did, and the shared resources that its step needs.
+/// The inputs of a turn. They are the past turns of the build, and the state of the shared resources that the step
+/// needs.
 #[derive(Clone, Copy, PartialEq, Eq, Hash)]
 pub(crate) struct Before {
     build: usize,
     shared: usize,
 }
 
-/// The outcome of a turn: the state of its build afterwards, the block that it moved, and the outcome of the step.
+/// The outcome of a turn. It has the build's new state, the block leased or given back, and the outcome of the step.
 #[derive(Clone, Copy)]
 pub(crate) struct After {
     build: BuildState,
@@ -63,7 +65,8 @@ pub(crate) struct After {
     pub(crate) end: Option<usize>,
 }
 
-/// The tables of what builds did in any schedule, and of the outcomes of their turns.
+/// The cache of turns. It has tables of builds' past turns, of sequences of blocks, and of the outcomes of turns and
+/// steps.
 #[derive(Drop)]
 pub(crate) struct Turns {
     builds: HashMap<Did, usize>,
@@ -97,7 +100,7 @@ fn lowest_vmid(plan: &Plan, state: &State) -> usize {
     0
 }
 
-/// The inputs of the next turn of a build; None if the build has no step left.
+/// Returns the inputs of a build's next turn. Returns `None` if the build has no step left.
 pub(crate) fn before_turn(plan: &Plan, state: &State, build: usize) -> Option<Before>
     requires { build < 8 }
 {
@@ -139,7 +142,7 @@ fn place_of_end(ends: &mut Vec<EndOfStep>, end: EndOfStep) -> Result<usize, Allo
 }
 
 impl Turns {
-    /// Empty tables.
+    /// Creates empty tables.
     pub(crate) fn new(alloc: Global) -> Turns
         ensures { result.ends.items ≡ [] }
     {
@@ -199,12 +202,12 @@ impl Turns {
         Ok(Some(place_of_end(&mut self.ends, end)?))
     }
 
-    /// The known outcome of a turn with these inputs, if there is one.
+    /// Returns the known outcome of a turn with these inputs, if any.
     pub(crate) fn known(&self, before: &Before) -> Option<After> {
         self.known.get(before).copied()
     }
 
-    /// Runs a schedule on a fresh host, then one more turn of a build, and notes that turn's outcome.
+    /// Runs one turn of a build after a schedule. The schedule is run on a fresh host. The turn's outcome is noted.
     ///
     /// Errors. `Memory`: allocation failed. `Mismatch`: the build has no step left then.
     pub(crate) fn run(
@@ -246,7 +249,7 @@ impl Turns {
         Ok(after)
     }
 
-    /// Returns the state after a turn of a build, and notes a block that the turn moved.
+    /// Returns the state after a turn of a build. Notes the block that the turn leased or gave back, if any.
     pub(crate) fn state_after(
         &mut self,
         state: &State,
@@ -266,7 +269,7 @@ impl Turns {
         Ok(state.with(build, after.build, blocks))
     }
 
-    /// The outcomes of steps that the turns had.
+    /// Returns all outcomes of steps in the tables.
     pub(crate) fn into_ends(self) -> Vec<EndOfStep>
         ensures { result ≡ self.ends }
     {

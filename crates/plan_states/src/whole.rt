@@ -1,4 +1,4 @@
-//! The check that a graph is whole: in each state, each build that has a step left has exactly one edge. Each edge
+//! The check that a graph is whole. In each state, each build that has a step left has exactly one edge. Each edge
 //! leads to a state of the next layer that fits the edge's turn.
 ghost use Rattle.std.specs.Prelude.{◌≡◌, ◌<◌, ◌^◌, [], map, filter, vec_items, slice_get, slice_index_or};
 ghost use Rattle.std.specs.Bool.{OnTrue};
@@ -16,7 +16,7 @@ use plan_replay::{number_after, step_after};
 use realm_plan::{Plan, PlanStep};
 use schedule_graph::Edge;
 
-/// The number of steps that each build has done; for a build that gave up, a number greater than that of any step.
+/// The number of steps that each build has done. For a build that gave up, it is greater than the number of any step.
 pub type StepsDone = [u16; 8];
 
 // The numbers of the eight builds.
@@ -241,7 +241,7 @@ fn is_state_whole(
     all_lead_on(plan, ends, maps, done, next, edges)
 }
 
-/// The edges of a state; none if there is no such state.
+/// Returns the edges of a state. There are none if there is no such state.
 pub(crate) fn edges_at(layer: &[Vec<Edge<Label>>], state: usize) -> &[Edge<Label>]
     ensures { result.now ≡ slice_index_or (map vec_items layer.now) state [] }
 {
@@ -284,7 +284,7 @@ fn states_at(graph: &Graph, depth: usize) -> &[StepsDone]
     }
 }
 
-/// The layer at index `depth`; empty if there is no such layer.
+/// Returns the layer at index `depth`. It is empty if there is no such layer.
 pub(crate) fn layer_at(graph: &Graph, depth: usize) -> &[Vec<Edge<Label>>]
     ensures { result.now ≡ layer_at graph.now depth }
 {
@@ -319,7 +319,7 @@ fn is_at_start(states: &[StepsDone]) -> bool
     }
 }
 
-/// Whether a graph is whole: its first layer is the start alone, and each of its layers is whole.
+/// Whether a graph is whole. Then the first layer has the start as its only state, and each layer is whole.
 pub(crate) fn is_whole(plan: &Plan, graph: &Graph) -> bool
     ensures { OnTrue result (IsWholeGraph (plan_view plan.now) graph.now) }
 {

@@ -1,4 +1,4 @@
-//! Aborts: the undo of all that a build has open.
+//! Aborts: the undo of all operations that a build has open.
 ghost use Rattle.std.specs.Prelude.{◌≡◌, ◌<◌, ◌≤◌, drop, false, length};
 ghost use Rattle.std.specs.List.{list_any};
 ghost use Rattle.std.specs.Result.{OnOk};
@@ -13,9 +13,9 @@ use host_commands::check_build;
 use page_arena::PageStore;
 
 impl<S: PageStore> Host<S> {
-    /// Begins the abort of a build, and returns the number of operations that the build has open. From then on, until
-    /// it has none, the host refuses each command of the build, and performs each undo of it, whatever other builds do.
-    /// If the build has nothing open, no abort begins.
+    /// Begins the abort of a build. Returns the number of operations that the build has open. From then on, until it
+    /// has none, the host refuses each command of the build, and performs each undo of it, whatever other builds do. If
+    /// the build has nothing open, no abort begins.
     ///
     /// Refused with NoBuild, with Aborting, or with RecRunning if a REC of the build runs. This is no event.
     pub fn begin_abort(&mut self, build: BuildId) -> Result<u16, Refusal>
@@ -31,8 +31,8 @@ impl<S: PageStore> Host<S> {
         Ok(count)
     }
 
-    /// Undoes all that a build has open, the newest first, and returns the number of operations that were undone. An
-    /// abort that was begun ends with it. The world is then that of the history without the build.
+    /// Undoes all open operations of a build, the newest first. Returns their number, and ends an abort that was begun.
+    /// The world is then that of the history without the build.
     ///
     /// Refused with NoBuild, or with RecRunning if a REC of the build runs; then nothing changes.
     pub fn abort(&mut self, build: BuildId) -> Result<u16, Refusal>

@@ -1,4 +1,4 @@
-//! The performing and recording of operations other than Take and its reverse.
+//! Operations of builds, performed and recorded. Take and its reverse are not among them.
 ghost use Rattle.realm_host.specs.Acting.{CanAct, IsActed};
 
 use crate::Host;

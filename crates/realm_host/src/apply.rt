@@ -1,4 +1,4 @@
-//! The application of recorded events, each with the block, the VMID or the REC number that it records.
+//! The application of recorded events. Each is applied with the block, the VMID or the REC number that it records.
 ghost use Rattle.std.specs.Prelude.{◌≡◌, ◌↔◌, ◌<◌, Some, true, false};
 ghost use Rattle.std.specs.Bool.{OnTrue, OnFalse};
 ghost use Rattle.std.specs.List.{list_all};
@@ -56,7 +56,7 @@ fn check_ranges(act: &Act)
 }
 
 impl<S: PageStore> Host<S> {
-    /// Applies a recorded event at the end of the history, with the block, the VMID or the REC number that it records.
+    /// Applies a recorded event at the end of the history. The block, the VMID or the REC number is the recorded one.
     /// Returns whether it was applied.
     ///
     /// Returns `false`, and changes nothing, if and only if one of three things holds. The history with the event would

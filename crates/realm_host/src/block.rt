@@ -1,4 +1,4 @@
-//! The taking and giving back of blocks of pages.
+//! The lease and return of blocks of pages.
 ghost use Rattle.std.specs.Prelude.{◌≡◌, ℕ, ◌<◌, ◌≤◌, Some, None};
 ghost use Rattle.std.specs.List.{last_or};
 ghost use Rattle.realm_model.specs.declared.act.Act.TheVariants as acts;

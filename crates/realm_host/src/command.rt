@@ -24,8 +24,8 @@ impl<S: PageStore> Host<S> {
         self.ask(build, &cmd)
     }
 
-    /// Performs a command of a build as `command` does, without taking ownership of the command. So a plan asks for its
-    /// commands without a copy.
+    /// Performs a borrowed command of a build. `ask` does what `command` does, without taking ownership of the command.
+    /// So a plan asks for its commands without a copy.
     pub fn ask(&mut self, build: BuildId, cmd: &Cmd) -> Result<Reply, Refusal>
         ensures { IsAnswer self.old build (Ask cmd.now) (replied result) self.new }
     {

@@ -1,4 +1,4 @@
-//! The host, its memory, and its readings.
+//! The host of builds, its boot, and reads of its state.
 ghost use Rattle.std.specs.Prelude.{◌≡◌, ◌<◌, ◌≤◌, ℕ, length, replicate, true, IfOk, IfErr, IfSome, option_map, sum};
 ghost use Rattle.granule_addr.specs.Page.{zero_page};
 ghost use Rattle.realm_model.specs.Machine.{cell_at};
@@ -20,7 +20,7 @@ use rmi_monitor::{Monitor, RealmDesc};
 use std::alloc::{AllocError, Global};
 use std::marker::Model;
 
-/// A host of builds over any store of pages. All its memory is taken when it is booted.
+/// A host of builds. The host keeps all pages in a store of type `S`. All its memory is taken when it is booted.
 #[derive(Drop)]
 pub struct Host<S: PageStore> {
     pub(crate) monitor: Monitor<S>,
@@ -42,8 +42,8 @@ impl<S: PageStore> Model for Host<S> {
 }
 
 impl<S: PageStore> Host<S> {
-    /// Returns a host over a store whose pages are all free and zero. If there is no memory for the host, returns the
-    /// error and the store.
+    /// Boots a new host on `store`. All pages of the store must be free and zeroed. If there is no memory for the host,
+    /// returns the error and the store.
     pub fn boot(alloc: Global, settings: Settings, store: S) -> Result<Host<S>, (AllocError, S)>
         requires zero { S.page_bytes store ≡ replicate (length (S.page_bytes store)) zero_page }
         requires free { S.free_flags store ≡ replicate (length (S.page_bytes store)) true }
@@ -86,22 +86,22 @@ impl<S: PageStore> Host<S> {
         self.ledger.history()
     }
 
-    /// Returns the ledger of the host: all that contracts see of the host, and the view for the checks of a command. It
-    /// has none of the machine's memory.
+    /// Returns the host's ledger. It is all that contracts see of the host. The checks of a command read the ledger.
+    /// The ledger has none of the machine's memory.
     pub fn ledger(&self) -> &HostLedger
         ensures { result.now ≡ self.now }
     {
         &self.ledger
     }
 
-    /// The room that each build has in the history.
+    /// Returns the room that each build has in the history.
     pub fn capacity(&self) -> u16
         ensures { result ≡ self.now.capacity }
     {
         self.ledger.capacity()
     }
 
-    /// The number of builds.
+    /// Returns the number of builds.
     pub fn build_count(&self) -> u8
         ensures value { result ≡ self.now.limits.builds }
         ensures few { result ≤ 8 }
@@ -109,7 +109,7 @@ impl<S: PageStore> Host<S> {
         self.ledger.build_count()
     }
 
-    /// Returns the number of pages of a build, and 0 if there is no such build.
+    /// Returns the number of pages of a build. Returns 0 if there is no such build.
     pub fn page_count(&self, build: BuildId) -> u16
         ensures { result ≡ length (pages_of_build self.now build) }
     {
@@ -120,7 +120,7 @@ impl<S: PageStore> Host<S> {
         }
     }
 
-    /// Returns the state of a build's page, or None if there is no such page.
+    /// Returns the state of a build's page. Returns `None` if there is no such page.
     pub fn page_state(&self, build: BuildId, page: u16) -> Option<GranuleState>
         ensures { result ≡ option_map (λ g. (cell_at (world_of self.now).machine g).state) (granule_of_page self.now build page) }
     {
@@ -128,7 +128,8 @@ impl<S: PageStore> Host<S> {
         Some(self.monitor.state(granule))
     }
 
-    /// Returns the sum of the bytes of a build's page, or None if there is no such page. The sum of a table is 0.
+    /// Returns the sum of the bytes of a build's page. Returns `None` if there is no such page. The sum of a table is
+    /// 0.
     pub fn page_sum(&self, build: BuildId, page: u16) -> Option<u32>
         ensures { result ≡ option_map (λ g. sum (cell_at (world_of self.now).machine g).bytes) (granule_of_page self.now build page) }
     {
@@ -136,7 +137,7 @@ impl<S: PageStore> Host<S> {
         Some(self.monitor.byte_sum(granule))
     }
 
-    /// Returns the state and the VMID of a build's realm, or None if the build has no realm.
+    /// Returns the state and the VMID of a build's realm. Returns `None` if the build has no realm.
     pub fn realm_view(&self, build: BuildId) -> Option<(RealmState, Vmid)>
         ensures { result ≡ realm_at (world_of self.now) build }
     {
@@ -144,7 +145,7 @@ impl<S: PageStore> Host<S> {
         Some((realm.state(), realm.vmid()))
     }
 
-    /// Returns the measurement of a build's realm, or None if the build has no realm. RMM 1.0, Realm Initial
+    /// Returns the measurement of a build's realm. Returns `None` if the build has no realm. RMM 1.0, Realm Initial
     /// Measurement.
     pub fn measurement(&self, build: BuildId) -> Option<[u8; 32]>
         ensures { result ≡ measurement_at (world_of self.now) build }
@@ -153,14 +154,14 @@ impl<S: PageStore> Host<S> {
         Some(*realm.measurement())
     }
 
-    /// The number of pages that no build leases.
+    /// Returns the number of pages that no build leases.
     pub fn free_count(&self) -> u16
         ensures { result ≡ length (free_set (world_of self.now)) }
     {
         self.monitor.free_count()
     }
 
-    /// Returns the granule of a build's page, or None if there is no such page.
+    /// Returns the granule of a build's page. Returns `None` if there is no such page.
     pub fn page_granule(&self, build: BuildId, page: u16) -> Option<Gran>
         ensures value { result ≡ granule_of_page self.now build page }
         ensures inside { IfSome result (λ g. g < self.now.limits.pages) }
@@ -172,9 +173,9 @@ impl<S: PageStore> Host<S> {
         }
     }
 
-    /// Returns the realm of a build, or None if the build has no realm. It has the realm's state, its VMID, its
-    /// starting tables with the width of its IPAs, the number of its next REC, and its measurement. A walk of its
-    /// tables begins at level 1.
+    /// Returns the realm of a build. Returns `None` if the build has no realm. The result has the realm's state, its
+    /// VMID, its starting tables with the width of its IPAs, the number of its next REC, and its measurement. A walk of
+    /// its tables begins at level 1.
     pub fn realm(&self, build: BuildId) -> Option<&RealmDesc>
         ensures { option_copied result ≡ option_map attributes_of (row_of (world_of self.now) build) }
     {

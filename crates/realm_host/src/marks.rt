@@ -1,4 +1,4 @@
-//! Marks in the open operations of a build, to which the build can roll back.
+//! Marks of builds, and the rollback to a mark. A mark is a point among a build's open operations.
 ghost use Rattle.std.specs.Prelude.{◌≡◌, ◌<◌};
 ghost use Rattle.std.specs.Bool.{OnTrue};
 ghost use Rattle.std.specs.List.{list_any};
@@ -18,8 +18,9 @@ use page_arena::PageStore;
 use realm_model::Act;
 
 impl<S: PageStore> Host<S> {
-    /// Sets a build's mark at the operations that it has open now, in place of an older mark, and returns the new mark.
-    /// The mark is dropped by the reverse that leaves the build with fewer operations open than it has now.
+    /// Sets and returns the mark of a build. The mark is at the current number of open operations. An older mark of the
+    /// build is replaced. The mark is dropped by the reverse that leaves the build with fewer operations open than it
+    /// has now.
     ///
     /// Refused with NoBuild or with Aborting. This is no event.
     pub fn mark(&mut self, build: BuildId) -> Result<Mark, Refusal>
@@ -31,8 +32,8 @@ impl<S: PageStore> Host<S> {
         Ok(mark)
     }
 
-    /// Returns the number of operations that a build has open above a mark, or the refusal that `rollback_to` would
-    /// give. If there is no refusal, the mark is valid, and the build can go back to it.
+    /// Checks whether a build can go back to a mark. Returns the number of operations that `rollback_to` would undo, or
+    /// the refusal that it would give. If there is no refusal, the mark is valid, and the build can go back to it.
     pub fn check_back(&self, build: BuildId, mark: Mark) -> Result<u16, Refusal>
         ensures value { result ≡ way_back self.now build mark }
         ensures stands { OnOk result (IsMarkOf self.now build mark) }
@@ -49,9 +50,9 @@ impl<S: PageStore> Host<S> {
         Ok(self.ledger.open_count(build) - mark.length())
     }
 
-    /// Undoes the operations that a build opened after a mark, the newest first, and returns their number. The world
-    /// then owns the same as that of the history without what the build did after the mark; what is not the build's is
-    /// exactly the same. The mark stays.
+    /// Rolls a build back to a mark. Undoes the operations that the build opened after the mark, the newest first, and
+    /// returns their number. The world then owns the same as that of the history without what the build did after the
+    /// mark; what is not the build's is exactly the same. The mark stays.
     ///
     /// Refused with NoBuild or Aborting. Refused with NothingToUndo if this is not the mark that is kept for the build,
     /// and with RecRunning if an operation above it created a REC that runs. Then nothing changes.

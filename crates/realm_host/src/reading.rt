@@ -1,4 +1,4 @@
-//! Readings of granules, of realms with their RECs and rows, and of open operations.
+//! Functions that read a host's state. They read granules, realms, RECs, RTT entries, open operations and marks.
 ghost use Rattle.std.specs.Prelude.{◌≡◌, ◌+◌, ◌<◌, IfSome, option_map};
 ghost use Rattle.granule_addr.specs.Ipa.{covered_count, first_covered, widest_space};
 ghost use Rattle.realm_model.specs.Places.{rd_of};
@@ -15,7 +15,8 @@ use realm_model::{Act, GranuleState};
 use rmi_monitor::Rec;
 use rtt::Entry;
 
-/// A granule: its state, the build that leases it, and the RD of the realm that it belongs to.
+/// The state, the build and the realm of a granule. The build leases the granule. The realm is the one that the granule
+/// belongs to, given by its RD.
 #[derive(Clone, Copy)]
 pub struct GranuleView {
     pub state: GranuleState,
@@ -23,7 +24,7 @@ pub struct GranuleView {
     pub realm: Option<Gran>,
 }
 
-/// A row of a realm's translation: its level, the first IPA granule that it covers, and its entry. RMM 1.0, RTT entry.
+/// A row of a realm's RTTs. It has the level, the first IPA granule covered, and the RTT entry. RMM 1.0, RTT entry.
 #[derive(Clone, Copy)]
 pub struct RowView {
     pub level: Level,
@@ -32,7 +33,7 @@ pub struct RowView {
 }
 
 impl RowView {
-    /// Returns the number of the first IPA granule after those that the row covers.
+    /// Returns the number of the first IPA granule after the row.
     pub fn next(&self) -> u32
         ensures { result ≡ self.now.first + covered_count self.now.level }
     {
@@ -61,22 +62,22 @@ fn first_covered(ipa: u32, level: Level) -> IpaGran
 }
 
 impl<S: PageStore> Host<S> {
-    /// The number of auxiliary granules of a REC. RMM 1.0, RMI_REC_AUX_COUNT.
+    /// Returns the number of auxiliary granules of a REC. RMM 1.0, RMI_REC_AUX_COUNT.
     pub fn rec_aux_count(&self) -> u8
         ensures { result ≡ self.now.limits.aux }
     {
         self.monitor.rec_aux_count()
     }
 
-    /// The number of pages of the machine.
+    /// Returns the number of pages of the machine.
     pub fn pages(&self) -> u16
         ensures { result ≡ self.now.limits.pages }
     {
         self.monitor.pages()
     }
 
-    /// Returns the state of a granule, the build that leases it and the realm that it belongs to. Returns `None` if the
-    /// machine has no such granule. An RD belongs to its own realm.
+    /// Returns the state, the build and the realm of a granule. The build leases the granule, and the granule belongs
+    /// to the realm. Returns `None` if the machine has no such granule. An RD belongs to its own realm.
     pub fn granule_view(&self, granule: Gran) -> Option<GranuleView>
         ensures { result ≡ granule_at (world_of self.now) granule }
     {
@@ -90,7 +91,7 @@ impl<S: PageStore> Host<S> {
         })
     }
 
-    /// The RD of a build's realm; None if the build has no realm.
+    /// Returns the RD of a build's realm. Returns `None` if the build has no realm.
     pub fn rd(&self, build: BuildId) -> Option<Gran>
         ensures value { result ≡ rd_of build (world_of self.now) }
         ensures inside { IfSome result (λ rd. rd < self.now.limits.pages) }
@@ -102,8 +103,8 @@ impl<S: PageStore> Host<S> {
         }
     }
 
-    /// Returns the granule, the state and the auxiliaries of REC `number` of a build's realm. Returns None if there is
-    /// no such REC. Each number is below that of the realm's next REC.
+    /// Returns a REC of a build's realm. The result has the granule, the state and the auxiliary granules of REC
+    /// `number`. Returns `None` if there is no such REC. Each number is below that of the realm's next REC.
     pub fn rec(&self, build: BuildId, number: RecNo) -> Option<(Gran, &Rec)>
         ensures { option_map (λ rec. (rec.0, rec.1.now)) result ≡ rec_at (world_of self.now) build number }
     {
@@ -115,9 +116,9 @@ impl<S: PageStore> Host<S> {
         Some((granule, rec))
     }
 
-    /// Returns the row of a build's realm at which the walk for an IPA granule to a given level ends. That is the first
-    /// row on the way that is not TABLE, or the one of that level. Returns None if the build has no realm, or if the
-    /// IPA granule is not in the realm's address space.
+    /// Walks the RTTs of a build's realm for an IPA granule. The walk goes down to level `to` at most, and its last row
+    /// is the result. This row is the first on the way that is not TABLE, or the row at level `to`. Returns None if the
+    /// build has no realm, or if the IPA granule is not in the realm's address space.
     ///
     /// `ipa` is the number of an IPA granule. Walks to level 3, the first from 0 and each next one from `next` of the
     /// row before, list all rows but those that are TABLE. RMM 1.0, RTT walk.
@@ -134,7 +135,7 @@ impl<S: PageStore> Host<S> {
         })
     }
 
-    /// Returns the operations that a build has open, the newest last. The list is empty if there is no such build.
+    /// Returns the open operations of a build, the newest last. The list is empty if there is no such build.
     pub fn open_acts(&self, build: BuildId) -> &[Act]
         ensures { result.now ≡ open_of self.now build }
     {
@@ -145,8 +146,8 @@ impl<S: PageStore> Host<S> {
         }
     }
 
-    /// Whether the newest operation that a build has open created a REC that runs, and so cannot be undone now. False
-    /// if there is no such build.
+    /// Whether a build's newest open operation created a running REC. Such an operation cannot be undone now. False if
+    /// there is no such build.
     pub fn is_newest_running(&self, build: BuildId) -> bool
         ensures { result ≡ is_newest_running self.now build }
     {
@@ -166,7 +167,7 @@ impl<S: PageStore> Host<S> {
         self.ledger.has_build(build) && self.ledger.is_aborting(build)
     }
 
-    /// The mark that is kept for a build, if there is one. It is valid; `check_back` says whether the build can go back
+    /// Returns the mark that is kept for a build, if any. It is valid; `check_back` says whether the build can go back
     /// to it now.
     pub fn kept_mark(&self, build: BuildId) -> Option<Mark>
         ensures value { result ≡ mark_of self.now build }

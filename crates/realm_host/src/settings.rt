@@ -3,8 +3,7 @@ ghost use Rattle.std.specs.Prelude.{◌≡◌, ◌≤◌, ◌↔◌, IsSome, IfS
 
 use realm_model::{LEAST_HISTORY, MOST_HISTORY};
 
-/// The numbers that a host is booted with: of VMIDs, of auxiliary granules for each REC, of events for each build, and
-/// of builds.
+/// The settings of a host. They are the numbers of VMIDs, auxiliary granules per REC, events per build, and builds.
 #[derive(Clone, Copy)]
 pub struct Settings {
     pub vmids: u8,
@@ -22,8 +21,8 @@ pub struct Settings {
 impl Settings {
     ghost use Rattle.realm_host.specs.Settings.{AreSettings};
 
-    /// Returns the settings with these numbers, or None if one of the numbers is out of range. The ranges are 1 to 255
-    /// VMIDs, 0 to 16 auxiliaries, 16 to 16,384 events, and 1 to 8 builds.
+    /// Creates the settings with these numbers. Returns `None` if one of the numbers is out of range. The ranges are 1
+    /// to 255 VMIDs, 0 to 16 auxiliaries, 16 to 16,384 events, and 1 to 8 builds.
     pub fn new(vmids: u8, aux: u8, history: u16, builds: u8) -> Option<Settings>
         ensures valid { IsSome result ↔ AreSettings vmids aux history builds }
         ensures value { IfSome result (λ s. (s.vmids ≡ vmids) × (s.aux ≡ aux) × (s.history ≡ history) × (s.builds ≡ builds)) }

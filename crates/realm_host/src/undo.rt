@@ -18,8 +18,8 @@ use page_arena::PageStore;
 use realm_model::{Act, kind_of};
 
 impl<S: PageStore> Host<S> {
-    /// Reverses the newest operation that a build has open, whatever other builds did since. Returns its kind and the
-    /// number of operations that are left open.
+    /// Reverses the newest open operation of a build. What other builds did since does not matter. Returns the kind of
+    /// the operation, and the number of operations that are left open.
     ///
     /// Refused with NoBuild, with NothingToUndo if the build has nothing open, or with RecRunning if that operation
     /// created a REC that runs; then nothing changes. An undo right after the operation that it reverses leads back to

@@ -7,9 +7,9 @@ use granule_addr::BuildId;
 use host_ledger::HostLedger;
 use page_arena::PageStore;
 
-/// Applies the history in a host's ledger, without the events of a build, to a host that has just been booted. That
-/// host has the same settings and as many pages. Each event is accepted in turn. It then has the history without the
-/// build, and the world without it.
+/// Applies a history without a build's events to a fresh host. `ledger` has the history. The fresh host has just been
+/// booted, with the same settings and as many pages. Each event is accepted in turn. The host then has the history
+/// without the build, and the world without it.
 pub fn apply_without<S: PageStore>(ledger: &HostLedger, build: BuildId, fresh: &mut Host<S>)
     requires { fresh.old ≡ fresh_like ledger.now }
     ensures { IsWithout ledger.now build fresh.new }

@@ -1,11 +1,12 @@
-//! Operations, their kinds, and events, which are accepted operations of builds.
+//! Operations, their kinds, and events. An event is an accepted operation and its build.
 ghost use Rattle.std.specs.Prelude.{◌≡◌, ◌↔◌, true};
 ghost use Rattle.realm_model.specs.Kind.{act_kind};
 
 use arrayvec::ArrayVec;
 use granule_addr::{BuildId, Gran, IpaGran, Level, Order, PageOff, RecNo, Root, Vmid};
 
-/// An operation: one accepted command, with the granules that it named and the answer that it got.
+/// An operation: an accepted command, or the reverse of one. It has the granules that it named and the answer that it
+/// got.
 ///
 /// `UnTake`, `Undelegate`, `UnRealm`, `UnRtt`, `UnData` and `UnRec` are reverses. `UnData` is the reverse of `Data` and
 /// of `Unknown`.
@@ -26,7 +27,7 @@ pub enum Act {
         granule: Gran,
         value: u8,
     },
-    /// The host reads a byte.
+    /// The host reads a byte of a page.
     Peek {
         granule: Gran,
         offset: PageOff,
@@ -124,7 +125,7 @@ pub struct Event {
 }
 
 impl Event {
-    /// Whether another event is the same: the same operation, of the same build.
+    /// Whether two events have the same operation and the same build.
     pub fn is_same(&self, event: &Event) -> bool
         ensures { (result ≡ true) ↔ (self.now ≡ event.now) }
     {
@@ -132,7 +133,7 @@ impl Event {
     }
 }
 
-/// A copy of the granules. No memory is taken.
+/// Copies a list of granules. No memory is taken.
 pub fn clone_granules(granules: &ArrayVec<Gran, 16>) -> ArrayVec<Gran, 16>
     ensures { result ≡ granules.now }
 {
@@ -147,14 +148,14 @@ impl Act {
     ghost use Rattle.std.specs.Prelude.{Some, None, if◌then◌else◌};
     ghost use Rattle.realm_model.specs.Act as acts;
 
-    /// Whether another operation is the same: of the same kind, with the same granules and numbers.
+    /// Whether two operations are the same. They are if they have the same kind, granules and numbers.
     pub fn is_same(&self, act: &Act) -> bool
         ensures { (result ≡ true) ↔ (self.now ≡ act.now) }
     {
         self == act
     }
 
-    /// A copy of the operation. No memory is taken.
+    /// Returns a copy of the operation. No memory is taken.
     #[tactic(auto, unfolding(crate::specs::Act::reverse_of))]
     pub fn clone(&self) -> Act
         ensures { result ≡ self.now }
@@ -281,8 +282,9 @@ impl Act {
     }
 }
 
-/// The RD of a build's realm, and the granule of the REC that an operation names; each is `None` if there is none. So
-/// the RMM searches for neither. The value of `rec` does not matter to an operation that names no REC.
+/// The granules of a build's realm and of a REC. `realm` is the RD of the realm, and `rec` is the granule of the REC
+/// that an operation names. Each is `None` if there is none. Given both, the RMM searches for neither. The value of
+/// `rec` does not matter to an operation that names no REC.
 #[derive(Clone, Copy)]
 pub struct RealmAndRec {
     pub realm: Option<Gran>,
@@ -301,7 +303,7 @@ pub enum Kind {
     Rec,
 }
 
-/// The kind of an operation, or None if the operation has no reverse.
+/// Returns the kind of an operation. Returns `None` if the operation has no reverse.
 pub fn kind_of(act: &Act) -> Option<Kind>
     ensures { result ≡ act_kind act.now }
 {

@@ -20,132 +20,143 @@ ghost use Rattle.realm_model.specs.Undoing.{NewestCanBeUndone, AllCanBeUndone, N
 ghost use Rattle.realm_model.specs.RecsOpen.{RecsAreOpen};
 ghost use Rattle.realm_model.specs.VmidsUsed.{VmidsFollowSteps};
 
-/// Without the events of a build, a legal history is still legal, and the model's world lacks only that build's part.
+/// Any build can be left out of a legal history. Without the build's events the history is still legal, and the model's
+/// world lacks only that build's part.
 pub fn builds_can_be_left_out()
     ensures { (limits : Limits) (history : List Event) (build : ℕ) → IsLegal limits history → Noninterference limits history build }
 {}
 
-/// The events of one build of a legal history are legal alone, and lead to that build's part of the model's world.
+/// The events of one build in a legal history are legal alone. They lead to the build's part of the model's world.
 pub fn builds_can_be_taken_alone()
     ensures { (limits : Limits) (history : List Event) (build : ℕ) → IsLegal limits history → IsLegalAlone limits history build }
 {}
 
-/// Two legal histories in which each build has the same sequence of events lead to the same world of the model.
+/// The world does not depend on the schedule of builds. Two legal histories in which each build has the same sequence
+/// of events lead to the same world of the model.
 pub fn schedule_does_not_matter()
     ensures { (limits : Limits) (history other : List Event) → IsLegal limits history → IsLegal limits other → HasSameEvents history other → replay limits history ≡ replay limits other }
 {}
 
-/// Two adjacent events of different builds commute, unless the second takes a granule or a VMID that the first gives
-/// back. Both sequences lead to the same world.
+/// Two adjacent events of different builds commute, with one exception. In the exception the second event takes a
+/// granule or a VMID that the first gives back. Otherwise both sequences lead to the same world.
 pub fn events_of_two_builds_commute()
     ensures { (limits : Limits) (history : List Event) (one other : Event) → EventsCommute limits history one other }
 {}
 
-/// From any world of the model that a history leads to, `step` leads exactly to the worlds that `IsStep` allows.
+/// `step` and `IsStep` agree. From any world of the model that a history leads to, `step` leads exactly to the worlds
+/// that `IsStep` allows.
 pub fn step_is_exact()
     ensures { (limits : Limits) (history : List Event) (world : World) (event : Event) → replay limits history ≡ Some world → StepIsExact limits world event }
 {}
 
-/// A stack on which each operation with a reverse is pushed, and which each reverse pops, holds exactly the operations
-/// without a matching reverse.
+/// The matching of operations and reverses is a stack. If each operation with a reverse is pushed and each reverse
+/// pops, exactly the operations without a matching reverse remain.
 pub fn matching_is_a_stack()
     ensures { (acts : List Act) → MatchingIsAStack acts }
 {}
 
-/// The pages of a build are the granules that it leases, each once.
+/// A build's pages are exactly the granules that the build leases. Each is listed once.
 pub fn pages_are_leased()
     ensures { (limits : Limits) (history : List Event) (world : World) (build : ℕ) → IsLegal limits history → replay limits history ≡ Some world → PagesAreLeased limits history build world }
 {}
 
-/// Every world of the model that a history leads to satisfies the invariant `IsReachable`.
+/// Every reached world satisfies the invariant `IsReachable`. A reached world is a world of the model that a history
+/// leads to.
 pub fn reached_worlds_are_sound()
     ensures { (limits : Limits) (history : List Event) (world : World) → replay limits history ≡ Some world → IsReachable limits world }
 {}
 
-/// The number of the next REC of a build's realm is at most the number of the build's events.
+/// A realm's next REC number never exceeds its build's number of events.
 pub fn numbers_are_few()
     ensures { (limits : Limits) (history : List Event) (world : World) (build : ℕ) → IsLegal limits history → replay limits history ≡ Some world → NumbersAreFew history world build }
 {}
 
-/// The count of a build's running RECs is 0 exactly if none of its RECs runs.
+/// A build's count of running RECs is 0 exactly if none runs.
 pub fn at_rest_is_none_running()
     ensures { (limits : Limits) (history : List Event) (world : World) (build : ℕ) → replay limits history ≡ Some world → RestIsOfAll world build }
 {}
 
-/// An accepted event adds the room of its operation to what its own build has used, and none to what others have used.
+/// An accepted event takes room from its own build alone. It takes the room of its operation.
 pub fn room_is_taken()
     ensures { (limits : Limits) (history : List Event) (world : World) (event : Event) (next : World)
         → IsLegal limits history → replay limits history ≡ Some world → RoomIsTaken limits history world event next }
 {}
 
-/// The room that a build has used is the sum of the room of its operations.
+/// A build's used room is the total room of its operations.
 pub fn room_is_a_sum()
     ensures { (limits : Limits) (history : List Event) (world : World) (build : ℕ) → IsLegal limits history → replay limits history ≡ Some world → RoomIsSum history world build }
 {}
 
-/// If another build's events are left out, a build has the same operations open, and has used the same amount of room.
+/// Leaving out a build does not change the other builds' room. If the build's events are left out of a history, every
+/// other build has the same operations open, and has used the same amount of room.
 pub fn others_keep_their_room()
     ensures { (limits : Limits) (history : List Event) (world : World) (build other : ℕ) → IsLegal limits history → replay limits history ≡ Some world → OthersKeepTheirRoom history world build other }
 {}
 
-/// If a build's events are left out of a history, each other event is accepted in sequence, from the empty history on.
-/// The machine has the same limits and room, and each build can have as many operations open.
+/// A history without a build's events is accepted in sequence. The remaining events are accepted one by one, starting
+/// from the empty history. The machine has the same limits and room, and each build can have as many operations open.
 pub fn what_is_left_is_accepted()
     ensures { (limits : Limits) (capacity most : ℕ) (history : List Event) (world : World) (build : ℕ)
         → IsLegal limits history → replay limits history ≡ Some world → WhatIsLeftIsAccepted limits capacity most history world build }
 {}
 
-/// The realm of a build is the one that the build's open Realm operation created.
+/// A build's realm is the one that its open Realm operation created.
 pub fn realms_are_open_acts()
     ensures { (limits : Limits) (history : List Event) (world : World) (build : ℕ) → IsLegal limits history → replay limits history ≡ Some world → RealmIsOpen history world build }
 {}
 
-/// The VMIDs in use are those of the Realm operations that builds have open.
+/// The VMIDs in use are those of open Realm operations.
 pub fn vmids_are_of_open_acts()
     ensures { (limits : Limits) (history : List Event) (world : World) (vmid : ℕ) → IsLegal limits history → replay limits history ≡ Some world → VmidIsOpen history world vmid }
 {}
 
-/// The reverse of a paired operation is accepted right after the operation, and restores the ownership before both.
+/// A reverse right after its operation restores the ownership. The reverse is accepted, and the ownership is that
+/// before the operation.
 pub fn pairs_lead_back()
     ensures { (limits : Limits) (history : List Event) (world : World) (build : ℕ) (act back : Act) (middle : World)
         → replay limits history ≡ Some world → PairLeadsBack limits build world act back middle }
 {}
 
-/// An operation that neither has a reverse nor is a reverse does not change the ownership.
+/// Operations without a counterpart do not change the ownership. Such an operation neither has a reverse nor is a
+/// reverse.
 pub fn other_acts_own_the_same()
     ensures { (limits : Limits) (world : World) (build : ℕ) (act : Act) (next : World) → OtherActOwnsSame limits build world act next }
 {}
 
-/// The ownership after an operation is a function of the ownership before and of the operation's fields. Worlds that
-/// own the same still do after the same operation.
+/// An operation's fields and the ownership before determine the ownership after. Worlds that own the same still do
+/// after the same operation.
 pub fn ownership_follows()
     ensures { (limits : Limits) (history past : List Event) (world twin : World) (build : ℕ) (act : Act) (next other : World)
         → replay limits history ≡ Some world → replay limits past ≡ Some twin → OwnershipFollows limits build act world twin next other }
 {}
 
-/// The newest open operation of a build can be undone, whatever other builds did since, unless it created a REC that is
-/// running.
+/// A build can undo its newest open operation, with one exception. What other builds did since does not matter. The
+/// exception is an operation that created a REC that is running.
 pub fn newest_can_be_undone()
     ensures { (limits : Limits) (history : List Event) (world : World) (build : ℕ) (act : Act)
         → IsLegal limits history → replay limits history ≡ Some world → NewestCanBeUndone limits history build world act }
 {}
 
-/// If a build has no operation open, the model's world is that of the history without the build's events.
+/// A build with no operation open leaves nothing behind. The history without the build's events leads to the same world
+/// of the model.
 pub fn nothing_open_is_noninterference()
     ensures { (limits : Limits) (history : List Event) (world : World) (build : ℕ) → IsLegal limits history → replay limits history ≡ Some world → NothingOpenIsNoninterference limits history build world }
 {}
 
-/// If no REC of a build runs, all its open operations can be undone, the newest first, and leave nothing behind.
+/// A build without running RECs can undo all its open operations. The newest is undone first, and the operations leave
+/// nothing behind.
 pub fn all_can_be_undone()
     ensures { (limits : Limits) (history : List Event) (world : World) (build : ℕ) → IsLegal limits history → replay limits history ≡ Some world → AllCanBeUndone limits history build world }
 {}
 
-/// A build without running RECs still has none after an event of another build, or after a reverse.
+/// Neither another build's event nor a reverse starts a build's RECs. A build without running RECs still has none after
+/// such an event.
 pub fn builds_stay_at_rest()
     ensures { (limits : Limits) (history : List Event) (world : World) (build : ℕ) (event : Event) (next : World) → replay limits history ≡ Some world → StaysAtRest limits world build event next }
 {}
 
-/// Each undo of an abort is accepted, whatever other builds do, and the finished abort leaves nothing behind.
+/// No other build can hold up an abort. Each undo is accepted whatever other builds do, and the finished abort leaves
+/// nothing behind.
 pub fn aborts_go_on()
     ensures { (limits : Limits) (history later : List Event) (build : ℕ) (begun world : World)
         → IsLegal limits (history ++ later) → replay limits history ≡ Some begun → replay limits (history ++ later) ≡ Some world
@@ -162,18 +173,18 @@ pub fn marks_stand_on()
     ensures { (mark : Mark) (history : List Event) (event : Event) → StaysValid mark history event }
 {}
 
-/// A build can be rolled back to a valid mark if no REC that the build created since the mark runs.
+/// A build can be rolled back to a valid mark, on one condition. No REC that the build created since the mark runs.
 pub fn marks_can_be_rolled_back_to()
     ensures { (limits : Limits) (history : List Event) (world : World) (mark : Mark) → IsLegal limits history → replay limits history ≡ Some world → CanRollBack limits history mark world }
 {}
 
-/// The RECs of a build's realm are those of its open Rec operations, whose numbers rise.
+/// A realm's RECs are those of its build's open Rec operations. A REC that was created later has a higher number.
 pub fn recs_are_open_acts()
     ensures { (limits : Limits) (history : List Event) (world : World) (build : ℕ) → IsLegal limits history → replay limits history ≡ Some world → RecsAreOpen history world build }
 {}
 
-/// The VMIDs in use after an operation are those before it, with a created realm's VMID and without a destroyed
-/// realm's.
+/// Only the creation and destruction of realms change the VMIDs in use. The creation of a realm puts the realm's VMID
+/// into use, and the destruction of the realm frees the VMID.
 pub fn vmids_follow_steps()
     ensures { (limits : Limits) (history : List Event) (world : World) (build : ℕ) (act : Act) (next : World)
         → IsLegal limits history → replay limits history ≡ Some world → VmidsFollowSteps limits history world build act next }

@@ -1,5 +1,5 @@
-//! The model of a machine that has realms: definitions of granules, realms, translation, RMM commands, events and
-//! histories, and theorems about every history.
+//! The model of a machine that has realms. It defines granules, realms, translation, RMM commands, events and
+//! histories, and has theorems about every history.
 //!
 //! `specs/` has the definitions, one subject a file. The types that contracts and code share are here. The theorems are
 //! the contracts of the functions in `law`, which do nothing.

@@ -13,7 +13,7 @@ pub enum Status {
 impl Status {
     ghost use Rattle.realm_model.specs.Rmi.{status_code};
 
-    /// The code of the status in the result word; never 0, which is RMI_SUCCESS.
+    /// Returns the code of the status in the result word. The code is never 0, which is RMI_SUCCESS.
     pub fn code(self) -> u8
         ensures { result ≡ status_code self }
     {
@@ -26,7 +26,7 @@ impl Status {
     }
 }
 
-/// A refusal by the RMM: a status and an index, which is a table's level for RMI_ERROR_RTT and 0 otherwise.
+/// A refusal by the RMM: a status and an index. The index is a table's level for RMI_ERROR_RTT, and 0 otherwise.
 #[derive(Clone, Copy, Debug, PartialEq, Eq)]
 pub struct Rmi {
     pub status: Status,
@@ -36,25 +36,25 @@ pub struct Rmi {
 impl Rmi {
     ghost use Rattle.realm_model.specs.Rmi.{result_word};
 
-    /// The refusal with the status RMI_ERROR_INPUT, which is due to an input.
+    /// The refusal with the status RMI_ERROR_INPUT. It is due to an input value of the command.
     pub const INPUT: Rmi = Rmi {
         status: Status::Input,
         index: 0,
     };
 
-    /// The refusal with the status RMI_ERROR_REALM, which is due to the state of a realm.
+    /// The refusal with the status RMI_ERROR_REALM. It is due to the state of a realm.
     pub const REALM: Rmi = Rmi {
         status: Status::Realm,
         index: 0,
     };
 
-    /// The refusal with the status RMI_ERROR_REC, which is due to the state of a REC.
+    /// The refusal with the status RMI_ERROR_REC. It is due to the state of a REC.
     pub const REC: Rmi = Rmi {
         status: Status::Rec,
         index: 0,
     };
 
-    /// The result word: the status in bits 0 to 7, the index in bits 8 to 15.
+    /// Returns the result word. It has the status in bits 0 to 7 and the index in bits 8 to 15.
     pub fn word(self) -> u64
         ensures { result ≡ result_word self }
     {

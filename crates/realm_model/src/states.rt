@@ -26,8 +26,7 @@ pub enum RecState {
     Running,
 }
 
-/// The state of an entry of a translation table: it leads to nothing, to a page or to a table. RMM 1.0, RTT entry
-/// state.
+/// The state of an RTT entry. The entry leads to nothing, to a page or to a table. RMM 1.0, RTT entry state.
 ///
 /// UNASSIGNED and ASSIGNED are also the HIPAS of what the entry maps; TABLE is no HIPAS.
 #[derive(Clone, Copy, PartialEq, Eq)]

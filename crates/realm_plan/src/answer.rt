@@ -9,11 +9,11 @@ use host_commands::{Refusal, Reply};
 use realm_model::Kind;
 use std::fmt;
 
-/// The word for the kind of an operation that was undone.
+/// The word for the kind of an undone operation.
 #[derive(Clone, Copy)]
 pub struct KindWord(pub Kind);
 
-/// The text of a refusal: its number, its name, and the numbers that it carries.
+/// The text of a refusal. It has the number and the name of the refusal, and the numbers that the refusal carries.
 #[derive(Clone, Copy)]
 pub struct RefusalText(pub Refusal);
 

@@ -1,4 +1,4 @@
-//! The contents of a plan's keys, before limits are checked.
+//! The values of a plan's keys, before any limits are checked.
 ghost use Rattle.std.specs.Prelude.{◌≡◌, List, map, Some, None, IfOk, option_map, option_and_then};
 ghost use Rattle.std.specs.List.{list_any};
 ghost use Rattle.std.specs.Str.{bytes_eq};
@@ -10,14 +10,14 @@ use std::alloc::{AllocError, Global};
 use toml::value::Array;
 use toml::{Table, Value};
 
-/// The value of a key.
+/// Returns the value of a key.
 fn value_at<'a>(table: &'a Table, key: &str) -> Option<&'a Value>
     ensures { option_map (λ v. view v.now) result ≡ get_member key.now (table_view table.now) }
 {
     table.get(key)
 }
 
-/// The array at a key.
+/// Returns the array at a key.
 fn array_at<'a>(table: &'a Table, key: &str) -> Option<&'a Array>
     ensures { option_map (λ a. array_view a.now) result
         ≡ option_and_then as_array (get_member key.now (table_view table.now)) }
@@ -25,7 +25,7 @@ fn array_at<'a>(table: &'a Table, key: &str) -> Option<&'a Array>
     value_at(table, key)?.as_array()
 }
 
-/// The integer at a key, or the default if the key is missing.
+/// Returns the integer at a key. If the key is missing, returns the default.
 fn whole_at(table: &Table, key: &str, default: Option<i64>) -> Option<i64>
     ensures { result ≡ whole_of default (get_member key.now (table_view table.now)) }
 {
@@ -44,7 +44,7 @@ struct Wholes {
     history: i64,
 }
 
-/// The integers at the keys of the document, with defaults for missing keys. There is no default for `pages`.
+/// Returns the integers at the keys of the document. Missing keys have defaults, but `pages` has none.
 #[tactic(auto, unfolding(crate::specs::Contents::wholes_at))]
 fn wholes_at(table: &Table) -> Option<Wholes>
     ensures { result ≡ wholes_at (table_view table.now) }
@@ -61,7 +61,7 @@ fn wholes_at(table: &Table) -> Option<Wholes>
     })
 }
 
-/// The integers of an array, or `None` if an element is not an integer.
+/// Returns the integers of an array. Returns `None` if an element is not an integer.
 fn wholes_of(alloc: Global, array: &Array) -> Result<Option<Vec<i64>>, AllocError>
     ensures { IfOk result (λ r. option_map (λ v. v.items) r ≡ wholes_of (array_view array.now)) }
 {
@@ -75,7 +75,7 @@ fn wholes_of(alloc: Global, array: &Array) -> Result<Option<Vec<i64>>, AllocErro
     Ok(Some(found))
 }
 
-/// The strings of an array, or `None` if an element is not a string.
+/// Returns the strings of an array. Returns `None` if an element is not a string.
 fn texts_of<'a>(alloc: Global, array: &'a Array) -> Result<Option<Vec<&'a str>>, AllocError>
     ensures { IfOk result (λ r. option_map (λ v. map (λ t. t.now) v.items) r ≡ texts_of (array_view array.now)) }
 {
@@ -112,7 +112,8 @@ fn has_only_keys(table: &Table, names: &[&str]) -> bool
     true
 }
 
-/// The texts of a build's steps, from a table whose only key is `steps`, with an array of strings.
+/// Returns the texts of a build's steps. Returns `None` if `value` is not a table with the single key `steps` and an
+/// array of strings.
 fn steps_of<'a>(alloc: Global, value: &'a Value) -> Result<Option<Vec<&'a str>>, AllocError>
     ensures { IfOk result (λ r. option_map (λ v. map (λ t. t.now) v.items) r ≡ step_texts_of (view value.now)) }
 {
@@ -128,7 +129,7 @@ fn steps_of<'a>(alloc: Global, value: &'a Value) -> Result<Option<Vec<&'a str>>,
     texts_of(alloc, array)
 }
 
-/// The step texts of each build in an array of builds.
+/// Returns the step texts of each build in an array.
 fn builds_of<'a>(alloc: Global, array: &'a Array) -> Result<Option<Vec<Vec<&'a str>>>, AllocError>
     ensures { IfOk result (λ r. option_map (λ v. map (λ b. map (λ t. t.now) b.items) v.items) r
         ≡ build_texts_of (array_view array.now)) }
@@ -143,7 +144,7 @@ fn builds_of<'a>(alloc: Global, array: &'a Array) -> Result<Option<Vec<Vec<&'a s
     Ok(Some(found))
 }
 
-/// The step texts of each build in the document.
+/// Returns the step texts of each build in the document.
 fn builds_at<'a>(alloc: Global, table: &'a Table) -> Result<Option<Vec<Vec<&'a str>>>, AllocError>
     ensures { IfOk result (λ r. option_map (λ v. map (λ b. map (λ t. t.now) b.items) v.items) r
         ≡ builds_at (table_view table.now)) }
@@ -154,7 +155,8 @@ fn builds_at<'a>(alloc: Global, table: &'a Table) -> Result<Option<Vec<Vec<&'a s
     builds_of(alloc, array)
 }
 
-/// The entries of the schedule. If the key is missing there are none.
+/// Returns the entries of a plan's schedule. Returns `None` if `value` is not an array of integers. A missing value
+/// means an empty schedule.
 fn order_of(alloc: Global, value: Option<&Value>) -> Result<Option<Vec<i64>>, AllocError>
     ensures { IfOk result (λ r. option_map (λ v. v.items) r
         ≡ order_numbers_of (option_map (λ v. view v.now) value.entry)) }
@@ -168,7 +170,7 @@ fn order_of(alloc: Global, value: Option<&Value>) -> Result<Option<Vec<i64>>, Al
     wholes_of(alloc, array)
 }
 
-/// The contents of a plan, before limits are checked.
+/// The values of a plan's keys, not checked against their limits.
 #[derive(Drop)]
 pub struct Contents<'a> {
     pub pages: i64,
@@ -183,7 +185,7 @@ impl<'a> Contents<'a> {
     ghost use Rattle.realm_plan.specs.Contents.{contents_of};
     ghost use Rattle.realm_plan.specs.ContentsView.{contents_view};
 
-    /// The contents of the document, or `None` if a key is missing, unknown or of the wrong kind.
+    /// Returns the contents of a plan's document. `None` means that a key is missing, unknown or of the wrong kind.
     #[tactic(auto, unfolding(crate::specs::Contents::contents_of))]
     pub fn of(alloc: Global, table: &'a Table) -> Result<Option<Contents<'a>>, AllocError>
         ensures { IfOk result (λ r. option_map contents_view r ≡ contents_of (table_view table.now)) }

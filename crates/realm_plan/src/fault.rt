@@ -1,4 +1,4 @@
-//! The faults of bytes that are not a valid plan.
+//! The errors of parsing a plan. An error is a fault in the plan's bytes, or a failed allocation.
 ghost use Rattle.std.specs.Prelude.{◌≡◌};
 ghost use Rattle.realm_plan.specs.declared.fault.PlanError.TheVariants.{Memory};
 
@@ -14,13 +14,15 @@ pub enum PlanFault {
     /// A key that is missing, unknown or of the wrong kind.
     #[error("plan 21 key")]
     Key,
-    /// A text that is not a step. It is the first one of the lowest build; builds and steps are counted from 0.
+    /// A text that does not spell a step. It is text `step` of build `build`, the first such text of the lowest build
+    /// that has one. Builds and steps are counted from 0.
     #[error("plan 22 step {build} {step}")]
     Step { build: usize, step: usize },
-    /// The first entry of `order` that names no build, with its index `place`, counted from 0.
+    /// An entry of `order` that names no build. It is the first such entry, and `place` is its index, counted from 0.
     #[error("plan 23 order {place}")]
     Order { place: usize },
-    /// A number or a length outside its limits. If there are too many bytes, this comes before all others.
+    /// A limit that is not met. It is a limit on a number, a list's length or the plan's size in bytes. If there are
+    /// too many bytes, this fault comes before all others.
     #[error("plan 24 limit")]
     Limit,
 }

@@ -20,7 +20,7 @@ pub const MOST_STEPS: usize = 1024;
 /// The maximum number of turns of a plan.
 pub const MOST_TURNS: usize = 16384;
 
-/// The numbers of a plan, each within its limits.
+/// The values of a plan's integer keys, each within its limits.
 #[derive(Clone, Copy)]
 pub struct Numbers {
     pub pages: u16,
@@ -29,7 +29,7 @@ pub struct Numbers {
     pub history: u16,
 }
 
-/// Returns the number if it is from `low` to `high`, and the fault `Limit` otherwise.
+/// Checks that a number is in a range. Returns `whole` if it is from `low` to `high`, and the fault `Limit` otherwise.
 fn between(low: u16, high: u16, whole: i64) -> Result<u16, PlanError>
     ensures value { Gives (λ n. n) result (between_at low high whole) }
     ensures low { IfOk result (λ n. low ≤ n) }
@@ -41,7 +41,7 @@ fn between(low: u16, high: u16, whole: i64) -> Result<u16, PlanError>
     }
 }
 
-/// Returns the fault `Limit` unless `holds`, which says that a length is within its limits.
+/// Returns the fault `Limit` if `holds` is false. `holds` is whether a length is within its limits.
 fn within(holds: bool) -> Result<(), PlanError>
     ensures value { Gives (λ n. n) result (within_at holds) }
 {
@@ -52,7 +52,8 @@ fn within(holds: bool) -> Result<(), PlanError>
     }
 }
 
-/// Returns the numbers of a plan, or the fault `Limit` if one is outside its limits.
+/// Checks the values of a plan's integer keys. Returns the values, or the fault `Limit` if one of them is outside its
+/// limits.
 #[tactic(auto, unfolding(crate::specs::Plan::plan_numbers_of))]
 pub fn numbers_of(contents: &Contents<'_>) -> Result<Numbers, PlanError>
     ensures value { Gives (λ n. n) result (plan_numbers_of (contents_view contents.now)) }
@@ -80,7 +81,8 @@ fn are_short(builds: &[Vec<PlanStep>]) -> bool
     builds.iter().all(|steps| steps.len() <= MOST_STEPS)
 }
 
-/// Returns the fault `Limit` unless the numbers of builds, steps and turns are within their limits.
+/// Checks the lengths of a plan's lists. Returns the fault `Limit` if there is no build, or if there are too many
+/// builds, turns, or steps of a build.
 #[tactic(auto, using(crate::proofs::Views::item_views), unfolding(crate::specs::Plan::lengths_of))]
 pub(crate) fn lengths_of(builds: &[Vec<PlanStep>], order: &[usize]) -> Result<(), PlanError>
     ensures value { Gives (λ n. n) result (lengths_of (map (λ b. b.items) builds.now) order.now) }

@@ -1,5 +1,5 @@
-//! Lines of a run's text that have no answer: those of idle turns, and of the map. Each is appended whole; at an `Err`
-//! the text may have a part of it.
+//! The lines of idle turns, and the lines of the map. They are the lines of a run's text that hold no answer. Each is
+//! appended whole; at an `Err` the text may have a part of it.
 ghost use Rattle.std.specs.Prelude.{◌≡◌, ◌++◌, OnOk, string_bytes};
 ghost use Rattle.realm_plan.specs.Lines.{state_word, sum_numbers, realm_word, idle_line, page_line, realm_line, free_line};
 
@@ -45,7 +45,7 @@ pub fn realm_word(state: RealmState) -> &'static str
     }
 }
 
-/// Appends the line for the turn of a build that has no step left.
+/// Appends the line of an idle turn. The turn is that of a build that has no step left.
 pub fn push_idle(text: &mut String, build: BuildId) -> Result<(), AllocError>
     ensures { OnOk result (string_bytes text.new ≡ string_bytes text.old ++ idle_line build) }
 {
@@ -86,7 +86,7 @@ pub fn push_realm(
     writeln!(text, "{build} realm {word} vmid {}", vmid.number())
 }
 
-/// Appends the last line of the map: the number of granules that no build leases.
+/// Appends the last line of the map. It has the number of granules that no build leases.
 pub fn push_free(text: &mut String, count: u16) -> Result<(), AllocError>
     ensures { OnOk result (string_bytes text.new ≡ string_bytes text.old ++ free_line count) }
 {

@@ -29,9 +29,9 @@ pub struct Plan {
     pub builds: Vec<Vec<PlanStep>>,
     /// The build of each turn.
     pub order: Vec<BuildId>,
-    /// Whether a build whose step is refused skips its remaining steps, and aborts.
+    /// Whether a build gives up when a step of it is refused. It then skips its remaining steps, and aborts.
     pub gives_up: bool,
-    /// The step of a build that gives up: an abort.
+    /// The step with which a build gives up: an abort.
     pub abort: PlanStep,
     pub ghost pages_in_limits: { (1 ≤ pages) × (pages ≤ 4096) },
     pub ghost vmids_in_limits: { 1 ≤ vmids },
@@ -70,7 +70,7 @@ impl Plan {
         }
     }
 
-    /// Returns the plan of a document's contents, or the contents' fault.
+    /// Creates a plan from its contents. The error is the reason why they are not a valid plan, or a failed allocation.
     #[tactic(auto, unfolding(crate::specs::Plan::plan_of_contents))]
     fn from_contents(alloc: Global, contents: &Contents<'_>) -> Result<Plan, PlanError>
         ensures { Gives plan_view result (plan_of_contents (contents_view contents.now)) }
@@ -92,7 +92,8 @@ impl Plan {
         })
     }
 
-    /// Returns the plan that the bytes spell, or the one fault of the bytes. `Memory` comes only if allocation failed.
+    /// Parses a plan. The error is the reason why the bytes spell no valid plan. `Memory` comes only if allocation
+    /// failed.
     #[tactic(auto, unfolding(crate::specs::Plan::plan_of))]
     pub fn from_bytes(alloc: Global, bytes: &[u8]) -> Result<Plan, PlanError>
         ensures value { Gives plan_view result (plan_of bytes.now) }
@@ -110,7 +111,7 @@ impl Plan {
         Plan::from_contents(alloc, &contents)
     }
 
-    /// The same plan, with `gives_up` set. The bytes of a plan never say so.
+    /// Returns the same plan, with `gives_up` set. The bytes of a plan never say so.
     pub fn giving_up(self) -> Plan
         ensures { plan_view result ≡ record (plan_view self) { gives_up = true } }
     {

@@ -61,7 +61,7 @@ impl fmt::Display for CmdText<'_> {
     }
 }
 
-/// A step as its plan spells it.
+/// A step's text, as the plan spells the step.
 #[derive(Clone, Copy)]
 pub struct StepText<'a>(pub &'a PlanStep);
 

@@ -14,14 +14,14 @@ use host_commands::{Cmd, Step};
 /// A step as a plan writes it.
 #[derive(Drop)]
 pub enum PlanStep {
-    /// A step whose numbers are all written.
+    /// A step that is written with all its numbers.
     Whole(Step),
-    /// A `realm` step without a width, for which the least one, 39, is used. RMI_REALM_CREATE
+    /// A `realm` step that leaves out the width. Its width is the smallest one, 39. RMI_REALM_CREATE
     WidthLeftOut { rd: u16, root: u16 },
 }
 
 impl PlanStep {
-    /// The step that is asked of the host, with all its numbers. No memory is taken.
+    /// Returns the step that the host is asked to perform. A width that was left out is filled in. No memory is taken.
     pub fn asked(&self) -> Step
         ensures { result ≡ asked self.now }
     {
@@ -40,8 +40,9 @@ impl PlanStep {
     }
 }
 
-/// The step that the text spells: a word and its numbers, one space before each number and nothing else. The numbers
-/// are in decimal, without a sign and without leading zeros, and each in its range. No memory is taken.
+/// Parses the text of a step. Returns `None` if the text spells no step. A text is a word and its numbers, with one
+/// space before each number and nothing else. The numbers are in decimal, without a sign and without leading zeros, and
+/// each in its range. No memory is taken.
 pub fn step_from_text(text: &str) -> Option<PlanStep>
     // The step that is returned is the one that the text spells.
     ensures found { IfSome result (λ step. IsStepText text.now step) }

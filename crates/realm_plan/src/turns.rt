@@ -1,4 +1,4 @@
-//! The steps of builds, and their turns.
+//! The parsing of the builds' steps and of the schedule's entries.
 ghost use Rattle.std.specs.Prelude.{◌≡◌, ◌<◌, map, All, IfOk, IfSome};
 ghost use Rattle.realm_plan.specs.Outcome.{Gives};
 ghost use Rattle.realm_plan.specs.Plan.{steps_of, builds_of, build_named as build_named_at, order_of};
@@ -8,7 +8,7 @@ use crate::{PlanStep, step_from_text};
 use granule_addr::BuildId;
 use std::alloc::{AllocError, Global};
 
-/// The steps of build `build`, parsed from their texts.
+/// Parses the steps of build `build` from their texts.
 fn steps_of(alloc: Global, build: usize, texts: &[&str]) -> Result<Vec<PlanStep>, PlanError>
     ensures { Gives (λ v. v.items) result (steps_of build 0 (map (λ t. t.now) texts.now)) }
 {
@@ -22,7 +22,7 @@ fn steps_of(alloc: Global, build: usize, texts: &[&str]) -> Result<Vec<PlanStep>
     Ok(found)
 }
 
-/// The steps of each build, parsed from their texts.
+/// Parses the steps of each build from their texts.
 pub(crate) fn builds_of(alloc: Global, texts: &[Vec<&str>]) -> Result<Vec<Vec<PlanStep>>, PlanError>
     ensures { Gives (λ v. map (λ b. b.items) v.items) result
         (builds_of 0 (map (λ b. map (λ t. t.now) b.items) texts.now)) }
@@ -35,7 +35,7 @@ pub(crate) fn builds_of(alloc: Global, texts: &[Vec<&str>]) -> Result<Vec<Vec<Pl
     Ok(found)
 }
 
-/// The build that an entry of the schedule names, among `count` builds.
+/// Returns the build that an entry of the schedule names. There are `count` builds.
 fn build_named(count: usize, entry: i64) -> Option<usize>
     ensures value { result ≡ build_named_at count entry }
     ensures below { IfSome result (λ build. build < count) }
@@ -46,7 +46,7 @@ fn build_named(count: usize, entry: i64) -> Option<usize>
     }
 }
 
-/// The build of each turn, from the entries of the schedule and the number of builds.
+/// Returns the build of each turn. The entries are those of the schedule, and `count` is the number of builds.
 pub fn order_of(alloc: Global, count: usize, entries: &[i64]) -> Result<Vec<usize>, PlanError>
     ensures value { Gives (λ v. v.items) result (order_of count 0 entries.now) }
     ensures below { IfOk result (λ v. All (λ build. build < count) v.items) }
@@ -61,7 +61,7 @@ pub fn order_of(alloc: Global, count: usize, entries: &[i64]) -> Result<Vec<usiz
     Ok(found)
 }
 
-/// The builds with the given numbers, as a byte each.
+/// Converts build numbers to values of `BuildId`.
 pub(crate) fn turns_of(alloc: Global, builds: &[usize]) -> Result<Vec<BuildId>, AllocError>
     requires { All (λ build. build < 8) builds.now }
     ensures { IfOk result (λ turns. turns.items ≡ builds.now) }

@@ -39,7 +39,8 @@ fn follow(opened: &mut Vec<Act>, act: &Act) -> Result<(), AllocError>
     Ok(())
 }
 
-/// Whether the lines of a report match the events of its build in a history, one by one.
+/// Whether a report fits a history. It fits if its lines match, one by one, the events that the history has of the
+/// report's build.
 ///
 /// The steps are the build's plan. The history is any list of events, and need not be legal. There are as many accepted
 /// lines as events of the build, and the question of each is that of its event. For a command, the event has the
@@ -70,7 +71,7 @@ pub fn fits(
     Ok(next == history.len())
 }
 
-/// Whether each report fits the history, by `fits` with the steps that are paired with the report.
+/// Whether all reports fit the history. Each report is checked with the steps that are paired with it.
 pub fn fit_all(
     alloc: Global,
     history: &[Event],

@@ -1,4 +1,4 @@
-//! The boot of hosts on stores whose pages are all free, and the trait of stores that can be built.
+//! The boot of hosts on new stores, whose pages are all free. The trait of the stores that can be built is here too.
 ghost use Rattle.std.specs.Prelude.{◌≡◌, ◌≤◌, IfOk, ◌⊎◌, ◌<◌, ◌↔◌, true, replicate, IsErrOf};
 ghost use Rattle.realm_host.specs.Host.{booted_by};
 ghost use Rattle.realm_plan.specs.PlanView.{plan_view};
@@ -11,7 +11,7 @@ use realm_host::{Host, Settings};
 use realm_plan::Plan;
 use std::alloc::{AllocError, Global};
 
-/// Boots a host with the given settings on a new store of `pages` free pages.
+/// Boots a host on a new store. The host has the given settings, and the store has `pages` free pages.
 pub fn boot_by<S: BuildableStore>(
     alloc: Global,
     settings: Settings,
@@ -32,7 +32,7 @@ pub fn boot_by<S: BuildableStore>(
     }
 }
 
-/// Boots a host of the plan's size on a new store of free pages.
+/// Boots a plan's host on a new store. The settings and the number of pages are the plan's, and all pages are free.
 pub fn boot<S: BuildableStore>(alloc: Global, plan: &Plan) -> Result<Host<S>, AllocError>
     ensures { IfOk result (λ host. host ≡ opening_host (plan_view plan.now)) }
 {
@@ -45,7 +45,7 @@ pub fn boot<S: BuildableStore>(alloc: Global, plan: &Plan) -> Result<Host<S>, Al
     boot_by(alloc, settings, plan.pages)
 }
 
-/// A store that can be built with any number of pages that a machine can have.
+/// A store of pages that can be built. It can have any number of pages that a machine can have.
 pub trait BuildableStore: PageStore + Drop {
     /// Returns a store of `pages` pages, all free and zero. `BadSize` comes exactly when `pages` is not 1 to 4,096; the
     /// only other error is `Memory`.

@@ -65,7 +65,8 @@ fn is_reply_to(opened: &[Act], reply: &Reply, act: &Act) -> bool
     }
 }
 
-/// Whether `act` and `reply` fit a command of a build whose open operations are `opened`.
+/// Whether a build's command and its reply match an operation. They do if `cmd` can be performed as `act` and answered
+/// with `reply`. The build's open operations are `opened`.
 pub(crate) fn is_replied(opened: &[Act], cmd: &Cmd, reply: &Reply, act: &Act) -> bool
     ensures { IsTrue result ↔ IsFittingReply (flat_map pages_held opened.now) cmd.now reply.now act.now }
 {

@@ -1,4 +1,4 @@
-//! The reasons why the text of a run is printed only in part, or not at all.
+//! The faults of the program. A fault is the reason why the text of a run is printed only in part, or not at all.
 ghost use Rattle.std.specs.Prelude.{◌≡◌};
 ghost use Rattle.realm_program.specs.declared.fault.Fault.TheVariants.{Memory, Device};
 
@@ -15,7 +15,7 @@ pub enum Fault {
     /// An input that is not a plan.
     #[error(transparent)]
     Plan(PlanFault),
-    /// A build that is to be left out, but is not in the plan.
+    /// A build to be left out that is not in the plan.
     #[error("erase names no build")]
     EraseNamesNoBuild,
     /// A failed allocation.
@@ -24,8 +24,8 @@ pub enum Fault {
     /// A build's worker that waited in vain for a turn.
     #[error("thread")]
     Stuck(BuildId),
-    /// Workers' reports, or the events of their seats, that do not fit the history of a run in threads. In runs of many
-    /// schedules: a schedule that cannot begin as the run before it says.
+    /// A mismatch between a run and its records. In a run in threads: the history does not match a worker's report, or
+    /// the events of a worker's seat. In runs of many schedules: a schedule cannot begin as the run before it says.
     #[error("mismatch")]
     Mismatch,
     /// A failed read or write.

@@ -1,4 +1,4 @@
-//! The program that replays a plan or runs it in threads, and prints the result.
+//! The program that runs a plan and prints the result. It replays the plan, or runs it in threads.
 //!
 //! `print` goes from the bytes of a plan to a text of it, over any reader and any writer. `Fault` is each reason not to
 //! have printed the text, with its exit status. `replay` prints the text of a run, and `run` that of a run in threads.

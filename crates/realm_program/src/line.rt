@@ -13,7 +13,7 @@ use builders::{Answer, Asked, ReportLine};
 use host_commands::{Cmd, Step};
 use realm_model::{Act, Event};
 
-/// Whether an answer is to an accepted command or undo, and so has an event.
+/// Whether an answer has an event. It has one if it is to an accepted command or undo.
 pub(crate) fn is_done(answer: &Answer) -> bool
     ensures { result ≡ is_done answer.now }
 {
@@ -70,8 +70,9 @@ fn step_fits(opened: &[Act], history: &[Event], next: usize, step: &Step, answer
     }
 }
 
-/// Whether the answer in a report's line matches the open operations and the build's next event. The event is at index
-/// `next` of the history. A line of a step that the plan does not have matches nothing.
+/// Whether a line of a report fits the history. Its answer must agree with the build's open operations `opened`, and
+/// with the build's next event. The event is at index `next` of the history. A line of a step that the plan does not
+/// have agrees with nothing.
 pub(crate) fn line_fits(
     opened: &[Act],
     history: &[Event],

@@ -40,7 +40,7 @@ fn worker_of<L: Ledgers>(
     }
 }
 
-/// Returns a new worker for each build, in sequence.
+/// Returns a new worker for each seat, in the sequence of the seats.
 pub fn workers_of<L: Ledgers>(
     alloc: Global,
     plan: &Plan,

@@ -1,4 +1,4 @@
-//! The granules of a command's pages, from the operations that a build has open.
+//! The pages of a build and their granules. They are computed from the build's open operations.
 ghost use Rattle.std.specs.Prelude.{◌≡◌, ◌↔◌, ◌+◌, ◌<◌, ◌≤◌, length, IsTrue, IfSome, IfNone};
 ghost use Rattle.std.specs.List.{flat_map, range_with_len};
 ghost use Rattle.host_commands.specs.Needs.{operands};
@@ -48,7 +48,7 @@ fn granule_at(opened: &[Act], page: usize) -> Option<Gran>
     None
 }
 
-/// Whether a build whose open operations are `opened` has exactly `count` pages.
+/// Whether a build has exactly `count` pages. The build's open operations are `opened`.
 pub(crate) fn has_pages(opened: &[Act], count: u16) -> bool
     ensures { IsTrue result ↔ (length (flat_map pages_held opened.now) ≡ count) }
 {
@@ -88,8 +88,8 @@ fn push_run(granules: &mut ArrayVec<Gran, 17>, opened: &[Act], first: u16, count
     Some(())
 }
 
-/// The granules of the pages that a command names, for a build whose open operations are `opened`. None if one of the
-/// pages is not there, or is no granule of a machine.
+/// Returns the granules of the pages that a command names. The build's open operations are `opened`. Returns `None` if
+/// one of the pages is not there, or is no granule of a machine.
 #[tactic(auto, unfolding(host_commands::specs::Needs::operands))]
 pub(crate) fn granules_of(opened: &[Act], cmd: &Cmd) -> Option<ArrayVec<Gran, 17>>
     ensures some { IfSome result (λ granules. AreGranules (flat_map pages_held opened.now) (operands cmd.now) granules.items) }

@@ -1,4 +1,4 @@
-//! The printing of a text that is made from a plan, common to all kinds of text.
+//! The printing of texts that are made from plans. It works for any kind of text.
 ghost use Rattle.std.specs.Prelude.{◌≡◌, ◌+◌, ◌≤◌, ◌↔◌, ◌⊎◌, ℕ, List, false, true, Err, IfOk, IfErr};
 ghost use Rattle.realm_plan.specs.Plan.{Plan as PlanModel};
 ghost use Rattle.realm_plan.specs.PlanView.{plan_view};
@@ -19,14 +19,14 @@ pub trait PlanText {
 
     ghost is_without: { Self → PlanModel → FaultModel → Type 0 };
 
-    /// Returns the text of a plan, complete in memory, or the reason why there is none.
+    /// Returns the text of a plan. The text is complete in memory, and the error is the reason why there is none.
     fn text_of(&self, alloc: Global, plan: &Plan) -> Result<Vec<u8>, Fault>
         ensures ok { IfOk result (λ text. is_text self.now (plan_view plan.now) text.items) }
         ensures err { IfErr result (λ fault. is_without self.now (plan_view plan.now) fault) }
         ensures kind { IfErr result IsFaultOfText };
 }
 
-/// Reads a plan, and writes the plan's text of the kind `asked`.
+/// Reads a plan, and prints a text made from it. The text is of the kind `asked`.
 ///
 /// The text is complete before any of it is written. Errors: the fault of a plan, or the reason why it has no text.
 /// `Device`: a read failed and nothing is written, or a write failed and a prefix of the text is written.

@@ -81,7 +81,7 @@ fn push_line(
     }
 }
 
-/// Appends the lines of a report as lines of turns, each with the build, the plan's step and the answer. An undo is
+/// Appends the lines of a report. Each has the form of a turn's line: the build, the step and the answer. An undo is
 /// `done` in the last line of an abort or a step back, also if the worker was stopped there. A line whose index the
 /// plan does not have is left out: no report of the plan has one. At an `Err` the text may have a part.
 pub(crate) fn push_report(

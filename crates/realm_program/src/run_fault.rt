@@ -15,7 +15,8 @@ pub enum RunFault {
     /// The lowest build whose worker waited in vain for a turn.
     #[error("thread")]
     Stuck(BuildId),
-    /// A build whose report, or whose seat's list of events, does not fit the history.
+    /// A mismatch with the history. A build's report, or the list of events of a build's seat, does not fit the
+    /// history.
     #[error("mismatch")]
     Mismatch,
 }

@@ -1,4 +1,4 @@
-//! The text of a plan's run, and of the map with one build left out.
+//! The texts of a plan's run. One is the text of the whole run, and the other is the map with one build left out.
 ghost use Rattle.std.specs.Prelude.{◌≡◌, ◌+◌, ◌<◌, ◌≤◌, ◌↔◌, ◌⊎◌, ◌≢◌, [], false, true, Err, IfOk, IfErr, string_bytes, vec_len};
 ghost use Rattle.std.specs.Result.{OnOk};
 ghost use Rattle.plan_replay.specs.Run.{IsReportedRun};
@@ -46,7 +46,8 @@ fn push_text<S: BuildableStore>(
     push_map(text, &host)
 }
 
-/// Runs the plan, and returns the text of the run, complete in memory. The one error is that allocation failed.
+/// Runs the plan, and returns the text of the run. The text is complete in memory. The one error is that allocation
+/// failed.
 pub fn text_of<S: BuildableStore>(alloc: Global, plan: &Plan) -> Result<String, AllocError>
     ensures { IfOk result (λ text. IsText (plan_view plan.now) (string_bytes text)) }
 {
@@ -65,8 +66,8 @@ fn ledger_of(alloc: Global, plan: &Plan) -> Result<HostLedger, AllocError>
     Ok(host.into_ledger())
 }
 
-/// Returns the map that a host's history leads to without the events of a build. The history is applied to a fresh host
-/// of the plan. The one error is that allocation failed.
+/// Returns the text of the map without a build. It is the map of a fresh host to which the history is applied without
+/// the events of `build`. The fresh host is booted from the plan. The one error is that allocation failed.
 pub fn map_without(
     alloc: Global,
     plan: &Plan,

@@ -53,8 +53,8 @@ fn text_of<S: PageStore>(
     Ok(text)
 }
 
-/// Returns the text of a run in threads, if each report matches the host's history. Errors: Mismatch, if one does not;
-/// Memory, if allocation failed.
+/// Returns the text of a run in threads. Errors: `Mismatch`, if a report does not match the host's history; `Memory`,
+/// if allocation failed.
 pub fn audited_text_of<S: PageStore>(
     alloc: Global,
     plan: &Plan,

@@ -17,7 +17,8 @@ use std::rt::Env;
 use std::sync::Wait;
 use std::thread::Threads;
 
-/// Performs what the command line asks for, with the plan from `input` and the text of its run to `output`.
+/// Performs what the command line asks for. Reads a plan from `input`, runs it, and writes the resulting text to
+/// `output`.
 fn perform<H: Env + AllocGlobal + Threads + Wait + Sync, R: Read, W: Write>(
     rt: &H,
     input: &mut Told<R>,
@@ -35,7 +36,7 @@ fn perform<H: Env + AllocGlobal + Threads + Wait + Sync, R: Read, W: Write>(
     Ok(())
 }
 
-/// Prints why the program stops, if it does, and returns the exit status.
+/// Returns the exit status for an outcome. If the outcome is a `Stop`, its reason is printed first.
 fn end(rt: &HostRuntime, outcome: Result<(), Stop<Fault>>) -> ExitCode
     ensures value { exit_status result ≡ status_of_outcome outcome }
     ensures stops { IfErr outcome (λ _. IsStatus (exit_status result)) }

@@ -24,7 +24,7 @@ fn awaited(asked: ViewSubcommand) -> &'static str {
     }
 }
 
-/// The kind of a subcommand's output that a terminal shows in colour, if any.
+/// Returns the `Painting` of a subcommand's output on a terminal. It is `None` if the output has no colour.
 fn painting(asked: ViewSubcommand) -> Option<Painting> {
     match asked {
         ViewSubcommand::Check | ViewSubcommand::Why { .. } => Some(Painting::Messages),
@@ -49,8 +49,8 @@ fn show(rt: &HostRuntime) -> Result<Ended<ViewOutcome>, Stop<ViewError>> {
     Ended::of_run(outcome, output.is_closed())
 }
 
-/// The exit status for an outcome. If the program stops, standard error has the reason. The faults of a plan are on
-/// standard output.
+/// Returns the exit status for an outcome. If the program stops, standard error has the reason. The faults of a plan
+/// are on standard output.
 fn end(rt: &HostRuntime, outcome: Result<Ended<ViewOutcome>, Stop<ViewError>>) -> ExitCode
     ensures value { exit_status result ≡ view_exit_status outcome }
     ensures stops { IfErr outcome (λ _. IsStatus (exit_status result)) }

@@ -42,8 +42,8 @@ pub extern "C" fn rhm_begin_abort(
     call_build(alloc, handle, build, BuildCall::BeginAbort, value)
 }
 
-/// Undoes all open operations of a build in one call, the newest first. Returns 0, with the number of operations in
-/// `value`.
+/// Undoes all open operations of a build in one call. The newest is undone first. Returns 0, with the number of
+/// operations in `value`.
 ///
 /// Else nothing changes: 1 and 8 are the refusals, and 14 a closed handle.
 #[unsafe(no_mangle)]

@@ -5,7 +5,7 @@ ghost use Rattle.rhm_c.specs.Action as shown;
 use history_calls::HostAction;
 use rmi_abi::{Call, Registers, encode_call};
 
-/// A host's operation on an RMM: its kind, its registers if it is a call, and its operands. Fields that the kind does
+/// A host's operation on an RMM. It has a kind, the registers if it is a call, and operands. Fields that the kind does
 /// not use are 0.
 #[repr(C)]
 #[derive(Clone, Copy)]
@@ -29,8 +29,8 @@ pub struct RawAction {
     pub aux: [u64; 16],
 }
 
-/// The operations, at most 5, by which a host performs a command or an undo on its RMM. `expected` is the model's X0: 0
-/// if the model performs the call, or else the word of the refusal.
+/// The operations on an RMM for one command or undo. A host performs at most 5 of them on its RMM. `expected` is the
+/// model's X0: 0 if the model performs the call, or else the word of the refusal.
 #[repr(C)]
 #[derive(Clone, Copy)]
 pub struct RawActions {
@@ -93,7 +93,7 @@ fn address_at(auxiliaries: &[u64], place: usize) -> u64
     }
 }
 
-/// The addresses of auxiliary granules, padded with zeros to 16.
+/// Returns the addresses of auxiliary granules, padded with zeros to 16.
 pub(crate) fn padded(auxiliaries: &[u64]) -> [u64; 16]
     ensures { result ≡ shown.padded auxiliaries.now }
 {
@@ -200,7 +200,7 @@ fn raw_at(actions: &[HostAction], place: usize) -> RawAction
     }
 }
 
-/// The C form of operations, with the model's X0.
+/// Returns the C form of a list of operations. `expected` is the model's X0.
 pub(crate) fn raw_actions(actions: &[HostAction], expected: u64) -> RawActions
     ensures { result ≡ shown.raw_actions expected actions.now }
 {

@@ -4,7 +4,7 @@ ghost use Rattle.rhm_c.specs.Answer as answers;
 
 use host_commands::{Refusal, Reply};
 
-/// The answer to a call: a status, and a value, which is 0 if the status has none.
+/// The answer to a call. It has a status, and a value, which is 0 if the status has none.
 #[derive(Clone, Copy)]
 pub(crate) struct CallAnswer {
     pub(crate) status: u64,
@@ -17,21 +17,21 @@ pub(crate) const NO_BUILD: u64 = 1;
 /// The status of a call on a closed handle.
 pub(crate) const CLOSED: u64 = 14;
 
-/// The answer to a call on a closed handle.
+/// Returns the answer to a call on a closed handle.
 pub(crate) fn closed() -> CallAnswer
     ensures { result ≡ answers.closed }
 {
     only(CLOSED)
 }
 
-/// An answer with a status and no value.
+/// Returns an answer with a status and no value.
 pub(crate) fn only(status: u64) -> CallAnswer
     ensures { result ≡ answers.only status }
 {
     CallAnswer { status, value: 0 }
 }
 
-/// The answer to a call that is done, with a value.
+/// Returns the answer to a successful call. It has status 0 and the given value.
 pub(crate) fn done(value: u64) -> CallAnswer
     ensures { result ≡ answers.done value }
 {
@@ -84,7 +84,7 @@ pub(crate) fn refusal_value(refusal: &Refusal) -> u64
     }
 }
 
-/// A refusal, as an answer.
+/// Returns a refusal as an answer.
 pub(crate) fn refused(refusal: &Refusal) -> CallAnswer
     ensures { result ≡ answers.refused_as refusal.now }
 {
@@ -94,7 +94,7 @@ pub(crate) fn refused(refusal: &Refusal) -> CallAnswer
     }
 }
 
-/// A number of operations, or a refusal, as an answer.
+/// Returns the answer to a call that counts operations. The call returns a count, or is refused.
 pub(crate) fn counted(count: &Result<u16, Refusal>) -> CallAnswer
     ensures { result ≡ answers.counted_as count.now }
 {

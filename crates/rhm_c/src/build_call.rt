@@ -1,4 +1,4 @@
-//! Calls that concern a build and are not commands: undos, aborts, marks and rollbacks.
+//! Calls on a build that are not commands. They are undos, aborts, marks and rollbacks.
 ghost use Rattle.std.specs.Prelude.{◌≡◌};
 ghost use Rattle.rhm_c.specs.Command.{build_in};
 ghost use Rattle.rhm_c.specs.Answer.{IsOnHandle};
@@ -15,7 +15,7 @@ use crate::undo::undo;
 use granule_addr::BuildId;
 use std::alloc::Global;
 
-/// A call that concerns a build and is not a command.
+/// A call on a build that is not a command.
 #[derive(Clone, Copy)]
 pub(crate) enum BuildCall {
     Undo,

@@ -7,7 +7,7 @@ use arrayvec::ArrayVec;
 use granule_addr::{BuildId, PageOff, RecNo};
 use host_commands::Cmd;
 
-/// The kind and the operands of a build's command. An operand that the kind does not use has to be in its range, too.
+/// A build's command: its kind and its operands. An operand that the kind does not use has to be in its range, too.
 #[repr(C)]
 #[derive(Drop)]
 pub struct RawCommand {

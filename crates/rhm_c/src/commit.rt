@@ -16,7 +16,8 @@ use history_calls::{Actions, Frame, HostAction, actions_asked, actions_back, ref
 use host_commands::Refusal;
 use std::alloc::Global;
 
-/// The registers X0 and X1 with which the RMM answered the prepared call. They do not matter if no call was to be made.
+/// The RMM's answer to the prepared call. It is in the registers X0 and X1. They do not matter if no call was to be
+/// made.
 #[repr(C)]
 #[derive(Drop)]
 pub struct FirmwareAnswer {
@@ -160,8 +161,8 @@ fn commit_undo(
     }
 }
 
-/// Commits a prepared command of a build, with the registers of the RMM's answer. If the model's answer is the same,
-/// does and returns what `rhm_ask` would.
+/// Commits a prepared command of a build. `answer` has the registers of the RMM's answer. If the model's answer is the
+/// same, does and returns what `rhm_ask` would.
 ///
 /// Else nothing changes. 16: X0 is not the model's, which is `value`: 0 if the model performs the call, and else the word
 /// of its refusal. 17: X0 is the model's, and X1 is not the output that the host knows.
@@ -185,8 +186,8 @@ pub extern "C" fn rhm_commit(
     given(committed, value)
 }
 
-/// Commits a prepared undo of a build, as `rhm_commit` commits a command. Returns 0, with the number of operations that
-/// are left open in `value`.
+/// Commits a prepared undo of a build. `rhm_commit` commits a command in the same way. Returns 0, with the number of
+/// operations that are left open in `value`.
 #[unsafe(no_mangle)]
 pub extern "C" fn rhm_commit_undo(
     alloc: Global,

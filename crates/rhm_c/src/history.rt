@@ -14,7 +14,7 @@ use history_calls::Frame;
 use realm_model::{Act, Event};
 use std::alloc::Global;
 
-/// The C form of an event: its build, its kind and its operands. Operands that the kind does not have are 0.
+/// The C form of an event. It has a build, a kind and operands. Operands that the kind does not have are 0.
 ///
 /// `granule` is the address of the granule that the operation names first, and `second` that of the first starting table
 /// or of the source. `count` is a number of granules or of IPA granules. `aux` has the addresses of a REC's auxiliaries.
@@ -248,7 +248,7 @@ fn event_at(frame: Frame, host: &PlainHost, number: u64) -> Option<RawEvent>
     Some(raw_event(frame, event))
 }
 
-/// The number of events in the history; 0 for a closed handle.
+/// Returns the number of events in the history; 0 for a closed handle.
 #[unsafe(no_mangle)]
 pub extern "C" fn rhm_event_count(alloc: Global, handle: &mut HostHandle) -> u64
     ensures count { result ≡ histories.event_count handle.old.held.host }
@@ -262,8 +262,8 @@ pub extern "C" fn rhm_event_count(alloc: Global, handle: &mut HostHandle) -> u64
     count
 }
 
-/// Writes event `number` of the history, counted from 0, to `reading`. Returns false, and writes nothing, if there is
-/// no such event, and for a closed handle.
+/// Writes an event of the history to `reading`. `number` is the event's index, counted from 0. Returns false, and
+/// writes nothing, if there is no such event, and for a closed handle.
 #[unsafe(no_mangle)]
 pub extern "C" fn rhm_read_event(
     alloc: Global,

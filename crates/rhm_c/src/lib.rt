@@ -1,4 +1,5 @@
-//! The functions of `include/rhm.h`, through which C code uses a host. The contract of a function states its result.
+//! The C interface of a host. Its functions are those of `include/rhm.h`, through which C code uses a host. The
+//! contract of a function states its result.
 //!
 //! C keeps a handle, and the handle owns a host on the heap. `rhm_open` alone takes memory. No call has a precondition
 //! but those of its pointers, which `include/rhm.h` has at each function.

@@ -59,8 +59,8 @@ pub extern "C" fn rhm_mark(
     call_build(alloc, handle, build, BuildCall::Mark, value)
 }
 
-/// Undoes in one call the operations that a build opened after its mark, the newest first. Returns 0, with the number
-/// of operations in `value`. The mark stays.
+/// Undoes the operations that a build opened after its mark. All are undone in one call, the newest first. Returns 0,
+/// with the number of operations in `value`. The mark stays.
 ///
 /// Else nothing changes: 1, 2, 7 and 8 are the refusals, of which the first that holds comes, and 14 a closed handle. 7
 /// comes if the build has no mark.

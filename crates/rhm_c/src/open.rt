@@ -14,7 +14,7 @@ const NO_MEMORY: u64 = 2;
 
 const ALREADY_OPEN: u64 = 3;
 
-/// Opens a closed handle, and gives it a new host with these settings. Each granule is UNDELEGATED and nobody's.
+/// Opens a closed handle with a new host. The host has the given settings. Each granule is UNDELEGATED and nobody's.
 ///
 /// Returns 0 if the handle is open now; else nothing changes. 3 comes exactly if it was open, and 2 if allocation
 /// failed. 1 comes exactly if it was closed and a setting is out of its range.

@@ -11,7 +11,7 @@ use std::alloc::Global;
 /// A host over a plain store of pages.
 pub(crate) type PlainHost = Host<PlainStore>;
 
-/// A host, with the frame that gives the addresses of its granules.
+/// A host with its frame. The frame has the address of granule 0 and the number of granules.
 #[derive(Drop)]
 pub struct PlacedHost {
     pub(crate) host: Host<PlainStore>,
@@ -19,7 +19,7 @@ pub struct PlacedHost {
 }
 
 impl PlacedHost {
-    /// Opens a new host with these settings. `None` comes if there is no memory.
+    /// Creates a host with the given settings. `None` comes if there is no memory.
     pub(crate) fn open(alloc: Global, settings: &HostSettings) -> Option<PlacedHost>
         requires { are_settings settings.now ≡ true }
         ensures { IfSome result (λ placed. placed ≡ opened_host settings.now) }

@@ -1,4 +1,4 @@
-//! The preparation of commands and undos: the operations that the hypervisor is to perform on its RMM.
+//! The preparation of commands and undos. It gives the operations that the hypervisor is to perform on its RMM.
 ghost use Rattle.std.specs.Prelude.{◌≡◌};
 ghost use Rattle.rhm_c.specs.Preparing as preparing;
 
@@ -90,8 +90,8 @@ pub extern "C" fn rhm_prepare(
     status
 }
 
-/// Prepares an undo of a build, as `rhm_prepare` prepares a command. The refusals are 1, 7 and 8, and 14 is a closed
-/// handle.
+/// Prepares an undo of a build. `rhm_prepare` prepares a command in the same way. The refusals are 1, 7 and 8, and 14
+/// is a closed handle.
 #[unsafe(no_mangle)]
 pub extern "C" fn rhm_prepare_undo(
     alloc: Global,

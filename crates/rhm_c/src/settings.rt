@@ -2,7 +2,7 @@
 ghost use Rattle.std.specs.Prelude.{◌≡◌};
 ghost use Rattle.rhm_c.specs.Settings.{are_settings};
 
-/// The numbers that a host is opened with, and the address of its granule 0.
+/// The settings of a new host. They are its sizes and limits, and the address of its granule 0.
 #[repr(C)]
 #[derive(Drop)]
 pub struct HostSettings {

@@ -21,8 +21,8 @@ pub(crate) fn undo(host: &mut PlainHost, build: BuildId) -> CallAnswer
     }
 }
 
-/// Reverses the newest open operation of a build, whatever other builds did since. Returns 0, with the number of
-/// operations that are left open in `value`.
+/// Reverses the newest open operation of a build. It does so whatever other builds have done since. Returns 0, with the
+/// number of operations that are left open in `value`.
 ///
 /// Else nothing changes: 1, 7 and 8 are the refusals, and 14 a closed handle.
 #[unsafe(no_mangle)]

@@ -215,7 +215,7 @@ fn decode_last(r: Registers) -> Option<Call>
     }
 }
 
-/// The call in registers, by the function identifier in X0; `None` if no command has that identifier.
+/// Decodes a call from registers. Returns `None` if X0 is the function identifier of no command.
 pub fn decode_call(r: Registers) -> Option<Call>
     ensures { result ≡ calls.call_in r }
 {
@@ -243,7 +243,7 @@ fn registers(function: u64, x1: u64, x2: u64, x3: u64, x4: u64) -> Registers
     }
 }
 
-/// The registers of a call: the function identifier in X0, the operands from X1 on, and zeros in the rest.
+/// Encodes a call in registers. X0 has the function identifier, the operands follow from X1 on, and the rest is 0.
 pub fn encode_call(call: Call) -> Registers
     ensures { result ≡ calls.registers_of call }
 {

@@ -4,7 +4,7 @@ ghost use Rattle.rmi_abi.specs.Features as features;
 
 use crate::{Layout, Platform};
 
-/// The value of the feature register with an index. RMM 1.0, RmiFeatureRegister0; a register of any other index is 0.
+/// The value of feature register `index`. RMM 1.0, RmiFeatureRegister0; a register of any other index is 0.
 #[tactic(auto, unfolding(crate::specs::Features::feature_register))]
 pub fn feature_register(platform: &Platform, index: u64) -> u64
     ensures { result ≡ features.feature_register platform.now index }

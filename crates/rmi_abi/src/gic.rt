@@ -1,14 +1,15 @@
-//! The GIC fields of a run page: gicv3_hcr, followed by 16 list registers.
+//! The GIC fields of a run page. They are gicv3_hcr, followed by 16 list registers.
 ghost use Rattle.std.specs.Prelude.{◌≡◌, ◌<◌, length};
 ghost use Rattle.rmi_abi.specs.Gic as gic;
 
 use page_arena::word_in;
 
-/// Functions that read and check the GIC fields that a host sets in a run page for an entry. RMM 1.0, RmiRecEnter.
+/// Functions on the GIC fields of a run page. They read and check the fields that a host sets for an entry. RMM 1.0,
+/// RmiRecEnter.
 pub struct GicFields;
 
 impl GicFields {
-    /// gicv3_hcr of a run page.
+    /// Returns gicv3_hcr of a run page.
     pub fn hcr(page: &[u8]) -> u64
         requires { length page.now ≡ 4096 }
         ensures { result ≡ gic.gicv3_hcr_in page.now }
@@ -16,7 +17,7 @@ impl GicFields {
         word_in(page, 96)
     }
 
-    /// List register `k` of a run page.
+    /// Returns list register `k` of a run page.
     pub fn lr(page: &[u8], k: u8) -> u64
         requires page { length page.now ≡ 4096 }
         requires below { k < 16 }
@@ -32,8 +33,8 @@ impl GicFields {
         hcr % 2 == 0 && hcr / 0x100 % 0x40 == 0 && hcr / 0x8000 == 0
     }
 
-    /// Whether a host may set list register `k` to its value in a run page. `num_lrs` is the number of the last list
-    /// register.
+    /// Whether a host may set list register `k` to its value. The value is the one in the run page. `num_lrs` is the
+    /// number of the last list register.
     pub fn is_lr(num_lrs: u8, page: &[u8], k: u8) -> bool
         requires page { length page.now ≡ 4096 }
         requires below { k < 16 }

@@ -12,14 +12,13 @@ pub fn calls_come_back()
     ensures { (call : Call) → call_in (registers_of call) ≡ Some call }
 {}
 
-/// Registers that decode to a call equal the registers of that call, once the registers after its operands are set to
-/// zero.
+/// Encoding a decoded call gives the registers back. After the call's operands, they have zeros.
 pub fn registers_come_back()
     ensures { (r : Registers) (call : Call) → call_in r ≡ Some call
         → with_operands (operand_count call) r ≡ registers_of call }
 {}
 
-/// The default settings are in range, as those of a platform have to be.
+/// The default settings are in range, as `Platform` requires.
 pub fn defaults_are_a_platform()
     ensures values { RmmSettings.DEFAULT ≡ default_settings }
     ensures in_range { is_platform RmmSettings.DEFAULT ≡ true }

@@ -1,4 +1,5 @@
-//! The Realm Management Interface of RMM 1.0 as values: registers, calls, result words, parameter pages and settings.
+//! The Realm Management Interface of RMM 1.0, as values. The values are registers, calls, result words, parameter pages
+//! and settings.
 //!
 //! Nothing here has a state. A call is decoded from the registers X0 to X6, and encoded into them.
 #![tactic(auto)]

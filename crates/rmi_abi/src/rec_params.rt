@@ -4,7 +4,8 @@ ghost use Rattle.rmi_abi.specs.RecParams as params;
 
 use page_arena::word_in;
 
-/// Functions that read the page of parameters with which a host creates a REC. RMM 1.0, RmiRecParams.
+/// Functions on the parameters of a REC. They read the page of parameters with which a host creates the REC. RMM 1.0,
+/// RmiRecParams.
 ///
 /// Flags but RUNNABLE are ignored.
 pub struct RecParams;

@@ -1,14 +1,14 @@
-//! The run page of a REC: what a host gives at an entry, and what it gets at an exit.
+//! The run page of a REC. It has what a host gives at an entry, and what the host gets at an exit.
 ghost use Rattle.std.specs.Prelude.{◌≡◌, ◌<◌, length};
 ghost use Rattle.rmi_abi.specs.RecRun as runs;
 
 use page_arena::word_in;
 
-/// Functions that read the flags that a host gives at an entry. RMM 1.0, RmiRecEnterFlags.
+/// Functions on the flags of an entry. They read the flags that a host gives. RMM 1.0, RmiRecEnterFlags.
 pub struct EnterFlags;
 
 impl EnterFlags {
-    /// The flags in a run page.
+    /// Returns the flags in a run page.
     pub fn read(page: &[u8]) -> u64
         requires { length page.now ≡ 4096 }
         ensures { result ≡ runs.flags_in page.now }
@@ -47,7 +47,8 @@ impl EnterFlags {
     }
 }
 
-/// The value of general-purpose register `k` that a host gives at an entry. RMM 1.0, RmiRecEnter.
+/// Returns the entry value of general-purpose register `k`. A host gives the value in the run page. RMM 1.0,
+/// RmiRecEnter.
 pub fn entry_gpr(page: &[u8], k: u8) -> u64
     requires page { length page.now ≡ 4096 }
     requires below { k < 31 }
@@ -66,7 +67,7 @@ pub enum ExitReason {
     HostCall,
 }
 
-/// An exit of a REC. RMM 1.0, RmiRecExit; the words that are no field here are 0.
+/// An exit from a REC. RMM 1.0, RmiRecExit; the words that are no field here are 0.
 #[derive(Clone, Copy)]
 pub struct RecExit {
     pub reason: ExitReason,
@@ -98,7 +99,7 @@ impl ExitReason {
 }
 
 impl RecExit {
-    /// An exit whose fields are 0, apart from its reason.
+    /// Returns an exit with the given reason, whose other fields are 0.
     pub fn only(reason: ExitReason) -> RecExit
         ensures { result ≡ runs.only_reason reason }
     {
@@ -118,7 +119,7 @@ impl RecExit {
         }
     }
 
-    /// Word `k` of the run page that has this exit, for `k` from 256 on.
+    /// Returns a 64-bit word of a run page that holds this exit. `k` is the index of the word, from 256 on.
     pub fn word(&self, k: u16) -> u64
         ensures { result ≡ runs.exit_word self.now k }
     {

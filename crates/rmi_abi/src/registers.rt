@@ -27,7 +27,7 @@ pub struct SmcResult {
 }
 
 impl SmcResult {
-    /// An answer whose outputs are 0.
+    /// Returns an answer whose outputs are 0.
     pub fn only(word: Word) -> SmcResult
         ensures { result ≡ answers.only word }
     {
@@ -41,7 +41,7 @@ impl SmcResult {
     }
 }
 
-/// The registers after a call: its answer in X0 to X4, and X5 and X6 unchanged.
+/// Returns the registers after a call. X0 to X4 have the answer, and X5 and X6 are unchanged.
 pub fn answer_registers(regs: Registers, answer: SmcResult) -> Registers
     ensures { result ≡ answers.with_answer regs answer }
 {
@@ -56,7 +56,7 @@ pub fn answer_registers(regs: Registers, answer: SmcResult) -> Registers
     }
 }
 
-/// The registers after a call of an unknown function: X0 is -1, NOT_SUPPORTED. SMCCC 1.2.
+/// Returns the registers after a call of an unknown function. X0 is -1, NOT_SUPPORTED. SMCCC 1.2.
 pub fn unknown_registers(regs: Registers) -> Registers
     ensures { result ≡ answers.not_supported regs }
 {

@@ -4,7 +4,7 @@ ghost use Rattle.rmi_abi.specs.Settings as ranges;
 
 use std::marker::Model;
 
-/// The layout of feature register 0: that of RMM 1.0-rel0, or of the drafts up to 1.0-eac5.
+/// The layout of feature register 0. It is that of RMM 1.0-rel0, or of the drafts up to 1.0-eac5.
 #[derive(Clone, Copy)]
 pub enum Layout {
     Rel0,
@@ -16,7 +16,7 @@ pub enum Layout {
 pub struct RmmSettings {
     /// The address of the first granule.
     pub base: u64,
-    /// The address of the first granule that cannot be delegated; `secure_count` is the number of such granules.
+    /// The address of the first secure granule. There are `secure_count` secure granules, which cannot be delegated.
     pub secure_base: u64,
     pub secure_count: u16,
     /// The number of auxiliary granules of a REC.
@@ -27,7 +27,7 @@ pub struct RmmSettings {
     pub max_recs_order: u8,
     /// The smallest level number that a block can have.
     pub block_level: u8,
-    /// NUM_BPS of feature register 0; NUM_WPS and GICV3_NUM_LRS are in the next two fields.
+    /// The value of NUM_BPS in feature register 0. The next two fields are the values of NUM_WPS and GICV3_NUM_LRS.
     pub bps: u8,
     pub wps: u8,
     pub lrs: u8,
@@ -40,13 +40,15 @@ pub struct RmmSettings {
     pub ignores_data_flags: bool,
     /// Whether DATA_CREATE requires that the RIPAS is RAM.
     pub data_needs_ram: bool,
-    /// Whether `top` of a live entry is the address at which the entry begins.
+    /// Whether a command aligns its output `top` for an address in a live entry. If so, `top` is the start of that
+    /// entry; if not, `top` is the address itself.
     pub aligns_live_top: bool,
     /// Whether a PSCI exit shows only the function and the target.
     pub shows_target_alone: bool,
-    /// Whether a host may choose bits 9:8 of a descriptor, except the value 0b01.
+    /// Whether a host may set the shareability of a descriptor. Bits 9:8 may then be 0b10 or 0b11, and not only 0.
     pub takes_shareability: bool,
-    /// Whether fields of RmiRealmParams that exceed those of feature register 0 are refused.
+    /// Whether REALM_CREATE checks its parameters against feature register 0. It then refuses a number of breakpoints
+    /// or watchpoints, or a vector length, above that of the register.
     pub checks_params: bool,
     /// Whether REC_ENTER checks gicv3_hcr and gicv3_lrs.
     pub checks_gic: bool,
@@ -132,7 +134,7 @@ impl Model for Platform {
 }
 
 impl Platform {
-    /// The platform with these settings, or `None` if a setting is out of its range.
+    /// Creates a platform with the given settings. Returns `None` if a setting is out of its range.
     pub fn new(settings: RmmSettings) -> Option<Platform>
         ensures { result ≡ (if ranges.is_platform settings then Some settings else None) }
     {

@@ -2,7 +2,7 @@
 ghost use Rattle.std.specs.Prelude.{◌≡◌};
 ghost use Rattle.rmi_abi.specs.Word as words;
 
-/// A result word: a status, and an index with RMI_ERROR_REALM or RMI_ERROR_RTT. RMM 1.0, RmiCommandReturnCode.
+/// A result word. It has a status, and an index with RMI_ERROR_REALM or RMI_ERROR_RTT. RMM 1.0, RmiCommandReturnCode.
 #[derive(Clone, Copy)]
 pub enum Word {
     Success,
@@ -10,13 +10,14 @@ pub enum Word {
     ErrorRealm(u8),
     ErrorRec,
     ErrorRtt(u8),
-    /// The word of a REC_ENTER that has not returned because its REC runs on. It is this RMM's own word, and not one of
-    /// the standard.
+    /// The word of a REC_ENTER that has not returned. Its REC is still running. The word is this RMM's own, and not one
+    /// of the standard.
     Running,
 }
 
 impl Word {
-    /// The value of X0 for a word: the status in bits 7:0 and the index in bits 15:8, or -2 for `Running`.
+    /// Returns the value of X0 for a word. The status is in bits 7:0 and the index in bits 15:8; the value for
+    /// `Running` is -2.
     pub fn number(self) -> u64
         ensures { result ≡ words.number self }
     {
@@ -30,7 +31,7 @@ impl Word {
         }
     }
 
-    /// The word that a value of X0 encodes, or `None` if the value encodes no word.
+    /// Decodes a word from a value of X0. Returns `None` if the value encodes no word.
     pub fn from_number(number: u64) -> Option<Word>
         ensures { result ≡ words.word_of number }
     {

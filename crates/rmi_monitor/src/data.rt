@@ -14,8 +14,8 @@ use realm_model::{Ripas, Rmi};
 use rtt::Tables;
 
 impl<S: PageStore> Monitor<S> {
-    /// Maps a DELEGATED granule into a NEW realm as a data page, with the bytes of an UNDELEGATED granule, and extends
-    /// the realm's measurement.
+    /// Maps a DELEGATED granule into a NEW realm as a data page. The page gets the bytes of an UNDELEGATED granule, and
+    /// the realm's measurement is extended.
     ///
     /// RMM 1.0, RMI_DATA_CREATE. RMI_ERROR_INPUT comes if `rd` is no RD, `page` is not DELEGATED, `source` is not
     /// UNDELEGATED, or the IPA granule `ipa` is not protected. RMI_ERROR_REALM comes if the realm is not NEW.
@@ -77,7 +77,8 @@ impl<S: PageStore> Monitor<S> {
         Ok(at)
     }
 
-    /// Maps a DELEGATED granule into a realm as a data page of zeros, and leaves the RIPAS unchanged.
+    /// Maps a DELEGATED granule into a realm as a data page. The bytes of the page are zero, and the RIPAS stays
+    /// unchanged.
     ///
     /// RMM 1.0, RMI_DATA_CREATE_UNKNOWN. RMI_ERROR_INPUT comes if `rd` is no RD, `page` is not DELEGATED, or the IPA
     /// granule `ipa` is not protected. RMI_ERROR_RTT comes with the level at which the walk ended, unless that is 3 and
@@ -97,7 +98,7 @@ impl<S: PageStore> Monitor<S> {
         Ok(())
     }
 
-    /// Unmaps a data page of a realm, and makes the page's granule zero and DELEGATED. If the RIPAS of the IPA granule
+    /// Unmaps a data page of a realm. The page's granule becomes zero and DELEGATED. If the RIPAS of the IPA granule
     /// was RAM, it becomes DESTROYED.
     ///
     /// RMM 1.0, RMI_DATA_DESTROY. RMI_ERROR_INPUT comes if `rd` is no RD, or the IPA granule `ipa` is not protected.

@@ -9,39 +9,42 @@ ghost use Rattle.realm_model.specs.declared.act.RealmAndRec.{RealmAndRec};
 ghost use Rattle.rmi_monitor.specs.Blocks.{TakenIsStep, GivenBackIsStep};
 ghost use Rattle.rmi_monitor.specs.Mirror.{FreshIsMirror, AskedIsReady, PerformedIsStep, NewestIsAccepted, UnRecNamesItsRec};
 
-/// An RMM that has just been built agrees with the model after the empty history.
+/// A new RMM agrees with the model. The RMM has just been built, and the history of the model is empty.
 pub fn a_fresh_monitor_mirrors_nothing()
     ensures { (limits : Limits) → FreshIsMirror limits }
 {}
 
-/// An operation that meets the requirements on a build's command can be performed on the RMM.
+/// What a build may ask for can be performed. An operation that meets the requirements on a build's command also meets
+/// the precondition of `perform`. If it creates a REC, its build must have fewer than 65,535 events.
 pub fn what_is_asked_can_be_performed()
     ensures { (limits : Limits) (history : List Event) (world : World) (monitor : MonitorView) (build : ℕ) (act : Act) (place : RealmAndRec) → AskedIsReady limits history world monitor build act place }
 {}
 
-/// A command that the RMM performs is a step of the model, and the model refuses each command that the RMM refuses.
+/// The RMM and the model agree on commands. A command that the RMM performs is a step of the model, and the model
+/// refuses each command that the RMM refuses.
 pub fn what_is_performed_is_a_step()
     ensures { (limits : Limits) (history : List Event) (world : World) (monitor : MonitorView) (build : ℕ) (act : Act) (place : RealmAndRec) → PerformedIsStep limits history world monitor build act place }
 {}
 
-/// The RMM does not refuse the reverse of the newest operation that a build has open, unless that operation created a
-/// REC that runs.
+/// The RMM does not refuse to reverse a build's newest open operation. This holds unless the operation created a REC
+/// that runs.
 pub fn newest_is_accepted()
     ensures { (limits : Limits) (history : List Event) (world : World) (monitor : MonitorView) (build : ℕ) (act back : Act) (place : RealmAndRec)
         → NewestIsAccepted limits history world monitor build act back place }
 {}
 
-/// The granule of the REC that an UnRec operation destroys is the granule that the operation names.
+/// An UnRec operation destroys the REC in the granule that it names.
 pub fn rec_taken_away_is_the_one_named()
     ensures { (limits : Limits) (world : World) (build : ℕ) (act : Act) → UnRecNamesItsRec limits world build act }
 {}
 
-/// Taking a free block from the store is a step of the model, for each build that exists.
+/// A Take of a free block is a step of the model. The Take is by any build, and the block has any order from 0 to 9.
 pub fn what_is_taken_is_a_step()
     ensures { (limits : Limits) (history : List Event) (world : World) (monitor : MonitorView) (build order first : ℕ) → TakenIsStep limits history world monitor build order first }
 {}
 
-/// The block of a Take that is a build's newest open operation can be given back, which is a step of the model.
+/// A block can be given back, as a step of the model. This holds if the block's Take is a build's newest open
+/// operation.
 pub fn what_is_given_back_is_a_step()
     ensures { (limits : Limits) (history : List Event) (world : World) (monitor : MonitorView) (build order first : ℕ) → GivenBackIsStep limits history world monitor build order first }
 {}

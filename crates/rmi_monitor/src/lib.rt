@@ -1,5 +1,5 @@
-//! The simulated RMM over any store of pages: commands named after the Realm Management Interface, and attributes of
-//! realms and RECs. The operations of a history are performed on it.
+//! The simulated RMM, over any store of pages. It has commands named after the Realm Management Interface, and
+//! attributes of realms and RECs. The operations of a history are performed on it.
 //!
 //! An RMM is seen as the machine of the definitions, with a flag for each granule that says whether it is free. The
 //! answer and the effect of each command are those of its definition on the named granules; a refusal changes nothing.

@@ -12,7 +12,7 @@ const RIPAS: u8 = 2;
 
 const REC: u8 = 3;
 
-/// The measurement after an event: SHA-256 of the old measurement followed by the event's bytes.
+/// Returns the measurement after an event. It is SHA-256 of the old measurement followed by the event's bytes.
 ///
 /// RMM 1.0, Realm measurement.
 #[tactic(auto, unfolding(realm_model::specs::Measurement::measurement_after))]
@@ -25,7 +25,8 @@ pub fn extend_measurement(old: &[u8; 32], event: &[u8]) -> [u8; 32]
     hasher.finalize()
 }
 
-/// The bytes of a data event: 1, the IPA granule of the page as four bytes, big endian, and SHA-256 of the page.
+/// Returns the bytes of a data event. They are the tag 1, the page's IPA granule, and the SHA-256 digest of the page.
+/// The IPA granule is four bytes, big endian.
 ///
 /// RMM 1.0, Realm measurement, RMI_DATA_CREATE; the bytes are this profile's own.
 #[tactic(auto, unfolding(realm_model::specs::Measurement::data_event))]
@@ -39,8 +40,8 @@ pub fn data_event(ipa: IpaGran, page: &[u8]) -> [u8; 37]
     event
 }
 
-/// The bytes of a RIPAS event: the tag 2, the first IPA granule, and the number of IPA granules that become RAM. The
-/// last two are four bytes each, big endian.
+/// Returns the bytes of a RIPAS event. They are the tag 2, the first IPA granule, and the number of IPA granules that
+/// become RAM. The last two are four bytes each, big endian.
 ///
 /// RMM 1.0, Realm measurement, RMI_RTT_INIT_RIPAS; the bytes are this profile's own.
 #[tactic(auto, unfolding(realm_model::specs::Measurement::ripas_event))]
@@ -54,7 +55,7 @@ pub fn ripas_event(ipa: IpaGran, count: u16) -> [u8; 9]
     event
 }
 
-/// The bytes of a REC event: 3, and the number of the REC as four bytes, big endian.
+/// Returns the bytes of a REC event. They are the tag 3, and the number of the REC as four bytes, big endian.
 ///
 /// RMM 1.0, Realm measurement, RMI_REC_CREATE; the bytes are this profile's own.
 #[tactic(auto, unfolding(realm_model::specs::Measurement::rec_event))]

@@ -48,8 +48,8 @@ impl<S: PageStore> Model for Monitor<S> {
 }
 
 impl<S: PageStore> Monitor<S> {
-    /// Returns an RMM over a store whose pages are all free and zero. The RMM has `vmids` VMIDs, 1 to 255, and `aux`
-    /// auxiliary granules for each REC, 0 to 16. If there is no memory for it, returns the error and the store.
+    /// Creates an RMM over a store of pages. The pages are all free and zero. The RMM has `vmids` VMIDs, 1 to 255, and
+    /// `aux` auxiliary granules for each REC, 0 to 16. If there is no memory for it, returns the error and the store.
     pub fn build(alloc: Global, vmids: u8, aux: u8, store: S) -> Result<Monitor<S>, (AllocError, S)>
         requires some_vmid { 1 ≤ vmids }
         requires few_auxiliaries { aux ≤ 16 }
@@ -80,7 +80,7 @@ impl<S: PageStore> Monitor<S> {
         }
     }
 
-    /// Takes a free block of 2^order granules and returns its first granule, or `None` if there is no such block. The
+    /// Takes a free block of 2^order granules. Returns its first granule, or `None` if there is no such block. The
     /// contract leaves open which block that is.
     pub fn take(&mut self, order: Order) -> Option<Gran>
         ensures block { IfSome result (IsFreeBlock self.old.free order) }
@@ -91,7 +91,7 @@ impl<S: PageStore> Monitor<S> {
         self.store.take(order)
     }
 
-    /// Takes the block that begins at a granule, and returns whether it was taken. Returns `false`, and changes
+    /// Takes the block that begins at a granule. Returns whether the block was taken. Returns `false`, and changes
     /// nothing, if and only if the block is not aligned, not inside the machine, or not free.
     pub fn take_at(&mut self, order: Order, first: Gran) -> bool
         ensures answer { IsTrue result ↔ IsFreeBlock self.old.free order first }
@@ -101,7 +101,7 @@ impl<S: PageStore> Monitor<S> {
         self.store.take_at(order, first)
     }
 
-    /// Gives a block of UNDELEGATED granules back to the store, which makes them zero and free.
+    /// Gives a block of UNDELEGATED granules back to the store. The granules become zero and free.
     pub fn give(&mut self, first: Gran, order: Order)
         requires { IsGivable self.old order first }
         ensures { self.new ≡ without_block self.old order first }
@@ -109,14 +109,14 @@ impl<S: PageStore> Monitor<S> {
         self.store.give(first, order)
     }
 
-    /// The number of free granules.
+    /// Returns the number of free granules.
     pub fn free_count(&self) -> u16
         ensures { result ≡ length (filter (λ flag. flag) self.now.free) }
     {
         self.store.free_count()
     }
 
-    /// The number of granules, 1 to 4,096.
+    /// Returns the number of granules, 1 to 4,096.
     pub fn pages(&self) -> u16
         ensures value { result ≡ length self.now.machine }
         ensures some { 1 ≤ result }
@@ -125,7 +125,7 @@ impl<S: PageStore> Monitor<S> {
         self.store.pages()
     }
 
-    /// The state of a granule.
+    /// Returns the state of a granule.
     pub fn state(&self, granule: Gran) -> GranuleState
         requires { granule < length self.now.machine }
         ensures { result ≡ (cell_at self.now.machine granule).state }
@@ -133,8 +133,8 @@ impl<S: PageStore> Monitor<S> {
         self.granules.state(granule)
     }
 
-    /// The 4,096 bytes of a granule that is not a table. The contract says nothing of a table's bytes: its contents are
-    /// rows.
+    /// Returns the 4,096 bytes of a granule that is not a table. The contract says nothing of a table's bytes: its
+    /// contents are rows.
     pub fn bytes(&self, granule: Gran) -> &[u8]
         requires { granule < length self.now.machine }
         ensures count { length result.now ≡ 4096 }
@@ -143,7 +143,7 @@ impl<S: PageStore> Monitor<S> {
         self.store.bytes(granule)
     }
 
-    /// The store, for reading. The page of a table has the words of its realm's rows.
+    /// Returns a shared reference to the store of pages. The page of a table has the words of its realm's rows.
     pub fn store(&self) -> &S
         ensures size { length (S.page_bytes result.now) ≡ length self.now.machine }
         ensures free { S.free_flags result.now ≡ self.now.free }
@@ -155,7 +155,7 @@ impl<S: PageStore> Monitor<S> {
         &self.store
     }
 
-    /// The sum of the bytes of a granule; 0 for a table.
+    /// Returns the sum of a granule's bytes; 0 for a table.
     pub fn byte_sum(&self, granule: Gran) -> u32
         requires { granule < length self.now.machine }
         ensures { result ≡ sum (cell_at self.now.machine granule).bytes }

@@ -8,8 +8,8 @@ use crate::realm_operation::in_realm;
 use page_arena::PageStore;
 use realm_model::{Act, RealmAndRec, Rmi};
 
-/// Performs an operation of a build as an RMM command, with the granules and numbers that the operation names. An
-/// answer in the operation, a byte that is read or the number of a REC, is taken as it is.
+/// Performs an operation of a build as an RMM command. The command has the granules and numbers that the operation
+/// names. An answer in the operation, a byte that is read or the number of a REC, is taken as it is.
 ///
 /// The answer and the machine after it are those of the operation's definition. A refusal changes nothing.
 #[tactic(auto, unfolding(realm_model::specs::Act::named, realm_model::specs::Outcome::outcome_of))]

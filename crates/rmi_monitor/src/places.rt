@@ -1,4 +1,4 @@
-//! Checks on granules that are to become a page or a REC, and changes of the states of granules.
+//! Checks and changes of the states of granules. The checks are on granules that are to become a page or a REC.
 ghost use Rattle.std.specs.Prelude.{◌≡◌, ◌<◌, ◌&&◌, ◌∷◌, All, IsTrue, length, Some, None, option_map, slice_set};
 ghost use Rattle.std.specs.List.{list_all};
 ghost use Rattle.granule_addr.specs.Page.{zero_page};

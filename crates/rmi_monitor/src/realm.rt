@@ -68,7 +68,8 @@ impl<S: PageStore> Monitor<S> {
         Ok(())
     }
 
-    /// Creates a realm whose RD and starting tables are DELEGATED granules, and whose IPAs have `width` bits.
+    /// Creates a realm from DELEGATED granules. They become its RD and its starting tables, and its IPAs have `width`
+    /// bits.
     ///
     /// `root` is the first starting table; there are 2^(width - 39), one after another. RMM 1.0, RMI_REALM_CREATE.
     ///
@@ -102,8 +103,8 @@ impl<S: PageStore> Monitor<S> {
         Ok(())
     }
 
-    /// Destroys a realm that has no REC and no table below its starting tables. The starting tables and the RD are then
-    /// zero and DELEGATED.
+    /// Destroys a realm without RECs or tables below its starting tables. The starting tables and the RD are then zero
+    /// and DELEGATED.
     ///
     /// RMM 1.0, RMI_REALM_DESTROY. RMI_ERROR_INPUT comes if the granule is no RD, RMI_ERROR_REALM if the realm has a
     /// REC, or an entry of a starting table is TABLE.
@@ -128,8 +129,7 @@ impl<S: PageStore> Monitor<S> {
         Ok(())
     }
 
-    /// The realm with RD `rd`: its state, its VMID, its starting tables, the number of its next REC, and its
-    /// measurement.
+    /// Returns the descriptor of the realm with RD `rd`; `None` if no realm has this RD.
     pub fn realm(&self, rd: Gran) -> Option<&RealmDesc>
         requires { rd < length self.now.machine }
         ensures { option_copied result ≡ option_map attributes_of (cell_at self.now.machine rd).descriptor }

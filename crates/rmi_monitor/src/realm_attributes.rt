@@ -13,7 +13,8 @@ use granule_addr::{RecNo, Root, Vmid};
 use realm_model::RealmState;
 use std::marker::Model;
 
-/// A realm descriptor: the attributes of a realm other than its RECs and its tables.
+/// The descriptor of a realm. It has the realm's state, VMID, starting tables and measurement, and the number of the
+/// realm's next REC.
 ///
 /// RMM 1.0, Realm attributes.
 #[derive(Drop)]
@@ -40,7 +41,7 @@ impl Model for RealmDesc {
 }
 
 impl RealmDesc {
-    /// The descriptor of a new realm: NEW, with no REC yet, and a measurement of 32 zero bytes.
+    /// Creates the descriptor of a new realm. The realm is NEW and has no RECs. Its measurement is 32 zero bytes.
     ///
     /// `root` has its starting tables. RMM 1.0, RMI_REALM_CREATE.
     #[tactic(auto, unfolding(realm_model::specs::Measurement::zero_measurement, realm_model::specs::Command::Realm::new_realm))]
@@ -77,7 +78,7 @@ impl RealmDesc {
         self.state = RealmState::Active;
     }
 
-    /// The starting tables, and with them the IPA width.
+    /// The starting tables and the IPA width of the realm.
     pub fn root(&self) -> Root
         ensures { result ≡ self.now.root }
     {
@@ -91,7 +92,7 @@ impl RealmDesc {
         &self.measurement
     }
 
-    /// Extends the measurement by the bytes of an event. RMM 1.0, Realm measurement.
+    /// Extends the realm's measurement with the bytes of an event. RMM 1.0, Realm measurement.
     pub fn measure(&mut self, event: &[u8])
         ensures { self.new ≡ record self.old {
           measurement = measurement_after self.old.measurement event.now;
@@ -107,7 +108,7 @@ impl RealmDesc {
         self.next
     }
 
-    /// Returns the number of the realm's next REC, and then increments the stored number.
+    /// Returns the number of the realm's next REC. The stored number is incremented.
     ///
     /// RMM 1.0, RMI_REC_CREATE.
     pub fn next_rec(&mut self) -> RecNo

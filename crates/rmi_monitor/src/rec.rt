@@ -37,8 +37,8 @@ impl<S: PageStore> Monitor<S> {
         self.aux
     }
 
-    /// Creates a REC of a NEW realm, with DELEGATED granules for the REC and its auxiliaries, and returns the REC's
-    /// number.
+    /// Creates a REC of a NEW realm from DELEGATED granules. One granule is for the REC, and the others are auxiliary.
+    /// Returns the REC's number.
     ///
     /// RMM 1.0, RMI_REC_CREATE. RMI_ERROR_INPUT comes if the first granule is no RD, one of the others is not
     /// DELEGATED, or two of these are the same. It also comes if there are not as many auxiliaries as each REC has.
@@ -83,8 +83,8 @@ impl<S: PageStore> Monitor<S> {
         Ok(number)
     }
 
-    /// Destroys a READY REC, and makes its granule and its auxiliaries zero and DELEGATED. Its number is not used
-    /// again.
+    /// Destroys a READY REC. Its granule and its auxiliary granules are cleared and become DELEGATED. The number of the
+    /// REC is not used again.
     ///
     /// RMM 1.0, RMI_REC_DESTROY. RMI_ERROR_INPUT comes if the granule is no REC, RMI_ERROR_REC if it is not READY.
     pub fn rec_destroy(&mut self, rec: Gran) -> Result<(), Rmi>
@@ -110,7 +110,8 @@ impl<S: PageStore> Monitor<S> {
         Ok(())
     }
 
-    /// The granule of REC `number` of a realm, and the REC itself; `None` if and only if there is no such realm or REC.
+    /// Finds REC `number` of a realm. Returns the REC's granule and the REC itself; `None` if and only if there is no
+    /// such realm or REC.
     pub fn rec(&self, rd: Gran, number: RecNo) -> Option<(Gran, &Rec)>
         requires { rd < length self.now.machine }
         ensures value { option_map (λ r. rec_row r.0 r.1.now) result ≡ rec_in self.now.machine rd number }

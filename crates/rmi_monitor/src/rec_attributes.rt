@@ -8,7 +8,7 @@ use granule_addr::{Gran, RecNo};
 use realm_model::RecState;
 use std::marker::Model;
 
-/// A realm execution context (REC): its attributes other than its granule.
+/// The attributes of a realm execution context (REC), other than its granule.
 ///
 /// RMM 1.0, REC attributes.
 #[derive(Drop)]
@@ -31,7 +31,7 @@ impl Model for Rec {
 }
 
 impl Rec {
-    /// A new REC: READY, with the given number in its realm and the given auxiliary granules.
+    /// Creates a READY REC. `number` is its number in its realm, and `auxiliaries` are its auxiliary granules.
     ///
     /// RMM 1.0, RMI_REC_CREATE.
     pub fn new(number: RecNo, auxiliaries: ArrayVec<Gran, 16>) -> Rec
@@ -55,7 +55,8 @@ impl Rec {
         self.number
     }
 
-    /// The auxiliary granules, in the order in which the REC got them. RMM 1.0, Auxiliary granules.
+    /// The auxiliary granules of the REC. They are in the order given when the REC was created. RMM 1.0, Auxiliary
+    /// granules.
     pub fn auxiliaries(&self) -> &[Gran]
         ensures value { result.now ≡ self.now.auxiliaries }
         ensures few { length result.now ≤ 16 }
@@ -77,7 +78,7 @@ impl Rec {
         matches!(self.state, RecState::Ready)
     }
 
-    /// Enters the REC, which becomes RUNNING. The caller checks that it is READY, and its realm ACTIVE. RMM 1.0,
+    /// Enters the REC. It becomes RUNNING. The caller checks that it is READY, and its realm ACTIVE. RMM 1.0,
     /// RMI_REC_ENTER.
     pub fn enter(&mut self)
         ensures { self.new ≡ record self.old { state = Running } }
@@ -85,7 +86,7 @@ impl Rec {
         self.state = RecState::Running;
     }
 
-    /// Stops the REC, which becomes READY. The caller checks that it is RUNNING. RMM 1.0, REC exit.
+    /// Stops the REC. It becomes READY. The caller checks that it is RUNNING. RMM 1.0, REC exit.
     pub fn exit(&mut self)
         ensures { self.new ≡ record self.old { state = Ready } }
     {

@@ -1,4 +1,4 @@
-//! The run of a REC: its entry, the writes of its guest, and its exit.
+//! Commands that run RECs: entries, writes by guests, and exits.
 ghost use Rattle.realm_model.specs.Command.Rec as command;
 ghost use Rattle.rmi_monitor.specs.View.{IsTaken, IsOnRec};
 
@@ -10,7 +10,7 @@ use realm_model::Rmi;
 use rtt::Rtt;
 
 impl<S: PageStore> Monitor<S> {
-    /// Enters a READY REC of an ACTIVE realm, which makes the REC RUNNING.
+    /// Enters a READY REC of an ACTIVE realm. The REC becomes RUNNING.
     ///
     /// RMM 1.0, RMI_REC_ENTER. RMI_ERROR_INPUT comes if the granule is no REC, RMI_ERROR_REALM if its realm is not
     /// ACTIVE, RMI_ERROR_REC if it is not READY.
@@ -33,8 +33,8 @@ impl<S: PageStore> Monitor<S> {
         Ok(())
     }
 
-    /// Writes a byte to a page of a realm on behalf of a RUNNING REC, whatever the RIPAS of its IPA is. This profile's
-    /// own, for guest instructions.
+    /// Writes a byte to a realm's page for a RUNNING REC. The RIPAS of the page's IPA does not matter. The command is
+    /// this profile's own, for guest instructions.
     ///
     /// `ipa` is the number of an IPA granule. RMI_ERROR_INPUT comes if the granule is no REC or the IPA is not
     /// protected, and RMI_ERROR_REC if the REC is not RUNNING. RMI_ERROR_RTT comes with the level at which the walk
@@ -68,7 +68,7 @@ impl<S: PageStore> Monitor<S> {
         Ok(())
     }
 
-    /// Stops a RUNNING REC, which becomes READY.
+    /// Stops a RUNNING REC. It becomes READY.
     ///
     /// RMM 1.0, REC exit; as a command of its own it is this profile's. RMI_ERROR_INPUT comes if the granule is no REC,
     /// RMI_ERROR_REC if it is not RUNNING.

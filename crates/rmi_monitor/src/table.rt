@@ -15,7 +15,7 @@ use realm_model::Rmi;
 use rtt::Tables;
 
 impl<S: PageStore> Monitor<S> {
-    /// Creates a table of level 2 or 3 of a realm in a DELEGATED granule.
+    /// Creates a realm's table of level 2 or 3 in a DELEGATED granule.
     ///
     /// `ipa` is the first IPA granule that the table serves. RMM 1.0, RMI_RTT_CREATE. RMI_ERROR_INPUT comes if `rd` is
     /// no RD, `table` is not DELEGATED, no table of that level starts at `ipa`, or `ipa` is not protected.
@@ -39,7 +39,7 @@ impl<S: PageStore> Monitor<S> {
         Ok(())
     }
 
-    /// Destroys a table of level 2 or 3 of a realm, and makes the table's granule zero and DELEGATED.
+    /// Destroys a realm's table of level 2 or 3. Its granule is cleared and becomes DELEGATED.
     ///
     /// `ipa` is the first IPA granule that the table serves. RMM 1.0, RMI_RTT_DESTROY. RMI_ERROR_INPUT comes if `rd` is
     /// no RD, no table of that level starts at `ipa`, or `ipa` is not protected. RMI_ERROR_RTT comes with the level at

@@ -1,6 +1,6 @@
-//! The program that answers, explains, names or checks the RMI calls of a trace. The lines of a trace come from a file
-//! or from standard input. They go to standard output with their answers, by names, or with the reasons of refusals; or
-//! they are compared.
+//! The `rmitrace` program, for traces of RMI calls. It answers, explains, names or checks the calls of a trace. The
+//! lines of a trace come from a file or from standard input. They go to standard output with their answers, by names,
+//! or with the reasons of refusals; or they are compared.
 #![tactic(auto)]
 
 ghost use Rattle.std.specs.Prelude.{◌≡◌, IfErr};
@@ -12,7 +12,7 @@ use command_line::{Ended, Input, Output, Painting, Stop, arguments};
 use std::process::ExitCode;
 use trace_program::{TraceError, TraceSubcommand, TraceVerdict, run};
 
-/// The kind of output text that a terminal shows in colour, if any.
+/// Returns how a subcommand's output is coloured on a terminal; `None` if the output is not coloured.
 fn painting(asked: &TraceSubcommand) -> Option<Painting> {
     match asked {
         TraceSubcommand::Answer | TraceSubcommand::Names => None,
@@ -36,8 +36,8 @@ fn serve(rt: &HostRuntime) -> Result<Ended<TraceVerdict>, Stop<TraceError>> {
     Ended::of_run(outcome, output.is_closed())
 }
 
-/// Prints why the program stops, if it does, and returns the exit status. The reason goes to standard error; a wrong
-/// line is on standard output.
+/// Returns the exit status. If an error stopped the program, the reason is printed to standard error; a wrong line is
+/// on standard output.
 fn end(rt: &HostRuntime, outcome: Result<Ended<TraceVerdict>, Stop<TraceError>>) -> ExitCode
     ensures value { exit_status result ≡ trace_exit_status outcome }
     ensures stops { IfErr outcome (λ _. IsTraceStatus (exit_status result)) }

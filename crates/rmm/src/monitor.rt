@@ -36,7 +36,7 @@ use rmm_granules::Granules;
 use rmm_model::{Queued, RmmGranuleState, StepWords};
 use std::marker::Model;
 
-/// The RMM of a platform, with the platform's memory in a store of pages. It is seen as its machine.
+/// The RMM of a platform. The platform's memory is in a store of pages. An RMM is seen as its machine.
 #[derive(Drop)]
 pub struct Rmm<S: PageStore> {
     granules: Granules<S>,
@@ -54,7 +54,7 @@ impl<S: PageStore> Model for Rmm<S> {
 }
 
 impl<S: PageStore> Rmm<S> {
-    /// An RMM with the given granules.
+    /// Creates an RMM with the given granules.
     pub fn over(granules: Granules<S>) -> Rmm<S>
         ensures { result ≡ granules }
     {
@@ -68,7 +68,7 @@ impl<S: PageStore> Rmm<S> {
         self.granules.settings()
     }
 
-    /// The granules of an RMM, with what no call shows to a host.
+    /// The granules of the RMM. Their attributes and pages include those that no call shows to a host.
     pub fn granules(&self) -> &Granules<S>
         ensures { result.now ≡ self.now }
     {
@@ -89,7 +89,8 @@ impl<S: PageStore> Rmm<S> {
         load(&self.granules, address)
     }
 
-    /// Loads `count` bytes from an address on; `None` if the host faults, or if the bytes are not all in one granule.
+    /// Loads the `count` bytes that start at an address; `None` if the host faults, or if the bytes are not all in one
+    /// granule.
     pub fn load_bytes(&self, address: u64, count: usize) -> Option<&[u8]>
         ensures bytes { option_copied result ≡ loaded_bytes self.now address count }
         ensures count { IfSome result (λ bytes. length bytes.now ≡ count) }
@@ -97,16 +98,16 @@ impl<S: PageStore> Rmm<S> {
         load_bytes(&self.granules, address, count)
     }
 
-    /// The state of the granule that begins at an address, with its realm or its REC; `None` if no granule begins
-    /// there. No host sees it.
+    /// The state of the granule that begins at an address; `None` if no granule begins there. The state includes the
+    /// attributes of a realm or REC. No host sees it.
     pub fn state(&self, address: u64) -> Option<RmmGranuleState>
         ensures { result ≡ state_shown self.now address }
     {
         state(&self.granules, address)
     }
 
-    /// Word `index` of the granule that begins at an address, whatever its state; `None` if there is no such word. No
-    /// host sees it.
+    /// Word `index` of the granule that begins at an address; `None` if there is no such word. The granule may be in
+    /// any state. No host sees the word.
     pub fn word(&self, address: u64, index: u16) -> Option<u64>
         ensures { result ≡ word_shown self.now address index }
     {
@@ -121,8 +122,8 @@ impl<S: PageStore> Rmm<S> {
         store(&mut self.granules, address, word)
     }
 
-    /// Stores bytes from an address on; `false`, with nothing changed, if the host faults, or if the bytes do not fit
-    /// in one granule.
+    /// Stores bytes that start at an address; `false`, with nothing changed, if the host faults, or if the bytes do not
+    /// fit in one granule.
     pub fn store_bytes(&mut self, address: u64, bytes: &[u8]) -> bool
         ensures answer { result ≡ can_access_bytes self.old address (length bytes.now) }
         ensures machine { self.new ≡ after_store_bytes self.old address bytes.now }
@@ -145,14 +146,15 @@ impl<S: PageStore> Rmm<S> {
         queue(&mut self.granules, rec, step)
     }
 
-    /// Ends the run of a REC by an interrupt of the host; `None` if there is no such REC, or if it does not run.
+    /// Ends the run of a REC with a host interrupt. Returns the result word of the REC's RMI_REC_ENTER; `None` if no
+    /// REC runs at the address.
     pub fn interrupt(&mut self, rec: u64) -> Option<rmi_abi::Word>
         ensures { (result, self.new) ≡ interrupted self.old rec }
     {
         interrupt(&mut self.granules, rec)
     }
 
-    /// Performs the call in the given registers, and returns the registers after it.
+    /// Performs the call in the given registers. Returns the registers after the call.
     #[tactic(auto, unfolding(rmm_model::specs::Call::rmi))]
     pub fn smc(&mut self, regs: Registers) -> Registers
         ensures { (result, self.new) ≡ rmi regs self.old }

@@ -1,4 +1,5 @@
-//! Copies of registers between a REC's page and its run page, and writes of exits.
+//! The RMM's accesses to run pages. Registers are copied between a REC's page and its run page, and exits are written
+//! to run pages.
 ghost use Rattle.std.specs.Prelude.{◌≡◌, ◌+◌, ◌<◌, ◌≤◌, ◌⊎◌, length};
 ghost use Rattle.rmm_model.specs.Machine.{granule_count, page_in, with_page};
 ghost use Rattle.rmm_model.specs.Table.{with_words_from};

@@ -1,4 +1,4 @@
-//! Writes of the entries at which walks end.
+//! Writes of entries to the tables at which walks end.
 ghost use Rattle.std.specs.Prelude.{◌≡◌, ◌<◌};
 ghost use Rattle.rmm_model.specs.Machine.{granule_count};
 ghost use Rattle.rmm_model.specs.Walk as walks;

@@ -158,7 +158,8 @@ fn answer_repeat<S: PageStore>(reply: &mut TraceReply, rmm: &mut Rmm<S>, words: 
     answer_rounds(reply, rmm, rest(words), more);
 }
 
-/// Performs what a question asks of an RMM, and writes the answer to `reply`. A platform is no command here.
+/// Answers a question to an RMM. What the question asks is performed, and the answer is written to `reply`. A platform
+/// is no command here.
 #[tactic(auto, unfolding(crate::specs::Answering::answered_on))]
 pub fn answer_on<S: PageStore>(rmm: &mut Rmm<S>, question: &[TraceWord], reply: &mut TraceReply)
     ensures { (reply.new, rmm.new) ≡ specs.answered_on question.now rmm.old }
@@ -187,8 +188,8 @@ fn call_in(question: &[TraceWord]) -> &[TraceWord]
     }
 }
 
-/// The evaluated checks of the call that a reply refuses. The machine is still the one at the call, since a refusal
-/// changes nothing.
+/// Returns the evaluated checks of a refused call. `reply` is the reply to that call. The machine is still the one at
+/// the call, since a refusal changes nothing.
 #[tactic(auto, unfolding(crate::specs::Answering::refused_checks))]
 pub fn checks_on<S: PageStore>(
     rmm: &Rmm<S>,

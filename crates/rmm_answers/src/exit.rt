@@ -1,4 +1,4 @@
-//! Exits of RECs, as the host reads them in a run page.
+//! Exits from RECs, appended to answers. An exit is read in the run page, as the host reads it.
 ghost use Rattle.std.specs.Prelude.{◌≡◌, ◌+◌, ◌<◌, ◌≤◌, length};
 ghost use Rattle.rmm_answers.specs.Exit as exits;
 

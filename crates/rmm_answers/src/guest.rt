@@ -1,4 +1,5 @@
-//! Guests: their steps, the end of their runs, and the results of their steps.
+//! Answers to questions about guests. The questions are about steps of guests, the ends of their runs, and the results
+//! of steps.
 ghost use Rattle.std.specs.Prelude.{◌≡◌, ◌==◌, ◌+◌, ◌<◌, ◌≤◌, length, []};
 ghost use Rattle.std.specs.List.{position_from};
 ghost use Rattle.rmm_answers.specs.Guest as guests;
@@ -22,7 +23,7 @@ use rmm_trace::place::{
 };
 use rmm_trace::{Atom, Sentence, TraceWord, operand};
 
-/// The names of a guest's steps, indexed by the number of the step's kind.
+/// The name of each kind of guest step. It is given by its place in the table of names.
 pub const STEPS: [usize; 15] = [
     WRITE,
     READ,

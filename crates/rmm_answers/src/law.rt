@@ -10,20 +10,20 @@ ghost use Rattle.rmm_answers.specs.Call.{is_refused};
 ghost use Rattle.rmm_answers.specs.Places.{has_name, are_answer_places_named, are_outputs_named};
 ghost use Rattle.rmm_answers.specs.Places.{are_fields_named, are_steps_named};
 
-/// Each constant for a name in answers is the place of that name in the table of names.
+/// Each constant of module `place` has the right name. It is the place of that name in the table of names.
 pub fn answer_places_are_of_their_names()
     ensures { are_answer_places_named ≡ true }
 {}
 
-/// The tables of command outputs, of page fields with their offsets, and of guest steps have the right names at each
-/// place.
+/// The tables of outputs, page fields and guest steps have the right names. The outputs are those of commands. Each
+/// field has the right offset too.
 pub fn tables_are_of_their_names()
     ensures outputs { are_outputs_named ≡ true }
     ensures fields { are_fields_named ≡ true }
     ensures steps { are_steps_named ≡ true }
 {}
 
-/// The name of each check in answers is the check's name in brackets.
+/// The table of names has each check's name in parentheses.
 pub fn checks_are_of_their_names()
     ensures { (c : Condition) → has_name (179 + condition_number c) (codes "(" ++ (name_of c ++ codes ")")) ≡ true }
 {}

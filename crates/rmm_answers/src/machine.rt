@@ -14,7 +14,8 @@ use rmm_trace::TraceWord;
 use std::alloc::{AllocError, Global};
 use std::marker::Model;
 
-/// The machine of a trace, if a platform has already opened one.
+/// The machine of a trace. It is the RMM that a `platform` question opened; before the first such question there is
+/// none.
 #[derive(Drop)]
 pub struct TraceMachine {
     rmm: Option<Rmm<PlainStore>>,
@@ -34,7 +35,7 @@ impl Model for TraceMachine {
 }
 
 impl TraceMachine {
-    /// The state before the first platform: no machine.
+    /// Creates a trace machine without an RMM. It is the machine before the first `platform` question.
     pub fn new() -> TraceMachine
         ensures { result ≡ None }
     {
@@ -71,9 +72,9 @@ impl TraceMachine {
         }
     }
 
-    /// Performs what a question asks of the machine, and writes the answer to `reply`. A platform opens a fresh
-    /// machine, and it alone takes memory: an error leaves the machine as it is. Before the first platform any other
-    /// question is no command.
+    /// Answers a question. What the question asks of the machine is performed, and the answer is written to `reply`. A
+    /// platform opens a fresh machine, and it alone takes memory: an error leaves the machine as it is. Before the
+    /// first platform any other question is no command.
     #[tactic(auto, unfolding(crate::specs::Answering::answered))]
     pub fn answer(
         &mut self,
@@ -91,8 +92,8 @@ impl TraceMachine {
         Ok(())
     }
 
-    /// The evaluated checks of the call that a reply refuses. The machine is still the one at the call, since a refusal
-    /// changes nothing.
+    /// Returns the evaluated checks of a refused call. `reply` is the reply to that call. The machine is still the one
+    /// at the call, since a refusal changes nothing.
     pub fn checks(&self, question: &[TraceWord], reply: &TraceReply) -> Option<EvaluatedChecks>
         ensures { result ≡ option_and_then (specs.refused_checks question.now reply.now) self.now }
     {

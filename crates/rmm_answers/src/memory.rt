@@ -1,4 +1,4 @@
-//! Answers to loads and stores of the host.
+//! Answers to memory accesses by the host.
 ghost use Rattle.std.specs.Prelude.{◌≡◌, ◌+◌, ◌<◌, length};
 ghost use Rattle.rmm_answers.specs.Memory as memory;
 ghost use Rattle.rmm_answers.specs.Put.{put_word};

@@ -8,7 +8,7 @@ use crate::words::rest;
 use rmm_trace::place::{PLATFORM, PSCI_DENIED, PSCI_SUCCESS};
 use rmm_trace::{Atom, Sentence, TraceWord, atom_number, operand};
 
-/// The form of an operand: absent, a number in decimal or hexadecimal, or a status of PSCI.
+/// The form of an operand. The operand is absent, a number in decimal or hexadecimal, or a PSCI status.
 #[derive(Clone, Copy)]
 pub enum OperandForm {
     Absent,
@@ -19,8 +19,8 @@ pub enum OperandForm {
 
 use self::OperandForm::{Absent, Decimal, Hexadecimal, Psci};
 
-/// The forms of the operands X1 to X5 of each command, indexed by the place of the command's name. RMM 1.0, RMI
-/// commands.
+/// The forms of each command's operands X1 to X5. The index of a command is the place of its name in the table of
+/// names. RMM 1.0, RMI commands.
 pub const OPERANDS: [[OperandForm; 5]; 23] = [
     // rmi_version to rmi_granule_undelegate
     [Hexadecimal, Absent, Absent, Absent, Absent],
@@ -169,8 +169,8 @@ fn answer_by(place: usize, x0: u64, written: &[TraceWord]) -> Sentence
     answer
 }
 
-/// The named answer to a raw call, from its raw answer `X0 X1 ..`; `None` if X0 is not written. Outputs that are not
-/// written are left out.
+/// The named form of a raw answer `X0 X1 ..`; `None` if X0 is not written. `question` is the raw call that it answers.
+/// Outputs that are not written are left out.
 #[tactic(auto, unfolding(crate::specs::Naming::named_answer))]
 pub fn named_answer(question: &[TraceWord], written: &[TraceWord]) -> Option<Sentence>
     ensures { option_map (λ answer. answer.items) result ≡ naming.named_answer question.now written.now }

@@ -1,4 +1,4 @@
-//! The outputs of commands by name.
+//! Outputs of commands. The file has their names, and functions that append outputs to an answer.
 ghost use Rattle.std.specs.Prelude.{◌≡◌, ◌==◌, ◌+◌, ◌<◌, ◌≤◌, length, slice_index_or};
 ghost use Rattle.std.specs.List.{position_from};
 ghost use Rattle.rmm_answers.specs.Outputs as specs;
@@ -15,8 +15,8 @@ use rmm_trace::{Atom, FUNCTIONS, Sentence, index_of, status_of};
 // The place that means no output. No output has the name at this place.
 pub const NO_OUTPUT: usize = 0;
 
-/// The names of the outputs X1 to X4 of each command, indexed by the place of the command's name; 0 is no output. RMM
-/// 1.0, RMI commands.
+/// The names of each command's outputs X1 to X4. A name is given by its place in the table of names; 0 is no output.
+/// The index of a command is the place of the command's own name. RMM 1.0, RMI commands.
 pub const OUTPUTS: [[usize; 4]; 23] = [
     // rmi_version to rmi_granule_undelegate
     [LOWER, HIGHER, 0, 0],

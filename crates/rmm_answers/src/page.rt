@@ -13,7 +13,7 @@ use rmm_trace::place::{
 };
 use rmm_trace::{Atom, TraceWord, after_name, operand};
 
-/// The fields of RmiRealmParams with their offsets.
+/// The fields of RmiRealmParams. A field is the place of its name in the table of names, and its offset in the page.
 pub const REALM_FIELDS: [(usize, u64); 12] = [
     (FLAGS, 0x0),
     (S2SZ, 0x8),
@@ -29,7 +29,8 @@ pub const REALM_FIELDS: [(usize, u64); 12] = [
     (RTT_NUM_START, 0x818),
 ];
 
-/// The fields of RmiRecParams with their offsets. NUM_AUX is the number of values of `aux`.
+/// The fields of RmiRecParams without NUM_AUX. A field is the place of its name in the table of names, and its offset
+/// in the page. NUM_AUX is the number of values of `aux`.
 pub const REC_FIELDS: [(usize, u64); 5] = [
     (FLAGS, 0x0),
     (MPIDR, 0x100),
@@ -38,7 +39,7 @@ pub const REC_FIELDS: [(usize, u64); 5] = [
     (AUX, 0x808),
 ];
 
-/// The fields of RmiRecEnter with their offsets.
+/// The fields of RmiRecEnter. A field is the place of its name in the table of names, and its offset in the page.
 pub const RUN_FIELDS: [(usize, u64); 4] = [
     (FLAGS, 0x0),
     (GPRS, 0x200),

@@ -1,4 +1,4 @@
-//! Platforms, and the settings that the words of a question give them.
+//! Platforms that traces open. The settings are read from a `platform` question, and the RMM of the platform is opened.
 ghost use Rattle.std.specs.Prelude.{◌≡◌, ◌<◌, ◌≤◌, ◌==◌, IfOk, Some, replicate};
 ghost use Rattle.granule_addr.specs.Page.{zero_page};
 ghost use Rattle.rmm_granules.specs.Inside.{platform_machine};
@@ -115,7 +115,7 @@ fn open(alloc: Global, words: &[TraceWord]) -> Result<Option<Rmm<PlainStore>>, A
     }
 }
 
-/// Whether a question is a platform, which opens a fresh machine.
+/// Whether the first word of a question is `platform`. Such a question opens a fresh machine.
 pub fn is_platform(question: &[TraceWord]) -> bool
     ensures { result ≡ (first_place question.now == PLATFORM) }
 {

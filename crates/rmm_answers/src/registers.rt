@@ -1,4 +1,4 @@
-//! The comparison of a written raw answer with the model's answer, register by register.
+//! The comparison of raw answers, register by register. A written answer is compared with the model's answer.
 ghost use Rattle.std.specs.Prelude.{◌≡◌};
 ghost use Rattle.rmm_answers.specs.Registers as specs;
 

@@ -24,7 +24,7 @@ pub enum Digest {
 pub struct TraceReply {
     pub words: Sentence,
     pub rim: Option<Digest>,
-    /// The round of the refused call, which is 0 for a call without `repeat`. None comes if no call is refused.
+    /// The round in which a call was refused. It is 0 for a call without `repeat`, and `None` if no call was refused.
     pub refused: Option<u64>,
 }
 
@@ -80,7 +80,7 @@ fn are_words(
 }
 
 impl TraceReply {
-    /// The empty answer, which is the answer to a platform.
+    /// Creates an empty reply. It is the answer to a `platform` question.
     pub fn new() -> TraceReply
         ensures { result ≡ replies.no_answer }
     {
@@ -100,7 +100,7 @@ impl TraceReply {
         self.refused = None;
     }
 
-    /// Sets the answer to `no command`, which is the answer to a line that is not a command.
+    /// Sets the answer to `no command`. It is the answer to a line that is not a command.
     #[tactic(auto, unfolding(crate::specs::Replies::no_command))]
     pub fn no_command(&mut self)
         ensures { self.new ≡ replies.no_command }

@@ -1,4 +1,4 @@
-//! The rounds of a repeated call or fill, up to the first round that does not succeed.
+//! The rounds of a repeated call or fill. They end at the first round that does not succeed.
 ghost use Rattle.std.specs.Prelude.{◌≡◌};
 ghost use Rattle.rmm_answers.specs.Rounds as rounds;
 

@@ -19,7 +19,7 @@ pub struct RawStep {
     pub d: u64,
 }
 
-/// The result of a guest's step: its kind, and its value, or 0 if it has no value.
+/// The result of a guest's step: its kind, and its value. The value of a result without one is 0.
 #[repr(C)]
 #[derive(Drop)]
 pub struct GuestStepResult {
@@ -80,7 +80,7 @@ fn interrupt(plain: &mut PlainRmm, rec: u64) -> Option<u64>
     Some(word.number())
 }
 
-/// Ends the run of a REC, and writes the result word of its RMI_REC_ENTER to `word`. Returns false, and changes
+/// Ends the run of a REC. The result word of its RMI_REC_ENTER is written to `word`. Returns false, and changes
 /// nothing, if the REC does not run.
 #[unsafe(no_mangle)]
 pub extern "C" fn rmm_interrupt(
@@ -115,8 +115,8 @@ fn result_of(plain: &PlainRmm, rec: u64, number: u64) -> Option<GuestStepResult>
     })
 }
 
-/// Writes result `number` of the guest's results since the last entry of its REC to `outcome`. Returns false, and
-/// writes nothing, if there is no such result.
+/// Writes result `number` of a guest to `outcome`. Results are counted from 0 since the last entry of the guest's REC.
+/// Returns false, and writes nothing, if there is no such result.
 #[unsafe(no_mangle)]
 pub extern "C" fn rmm_result(
     alloc: Global,

@@ -1,4 +1,4 @@
-//! The handles through which C programs keep RMMs.
+//! Handles of RMMs, for C programs.
 ghost use Rattle.std.specs.Prelude.{◌≡◌, Some, None, IfSome, IfNone, is_some};
 
 use crate::{HeldRmm, PlainRmm};
@@ -6,8 +6,8 @@ use box_parts::BoxParts;
 use std::alloc::Global;
 use std::mem::replace;
 
-/// A handle through which a C program keeps an RMM. A closed handle has no RMM. A handle whose bytes are all 0 is
-/// closed.
+/// A C program's handle of an RMM. The program keeps an RMM through it. A closed handle has no RMM. A handle whose
+/// bytes are all 0 is closed.
 #[repr(C)]
 #[derive(Drop)]
 pub struct RmmHandle {

@@ -1,4 +1,4 @@
-//! Judgements of calls: the check that decides a call, and the result words that an RMM may return.
+//! Judgements of calls. They are the check that decides a call, and the result words that an RMM may return.
 ghost use Rattle.std.specs.Prelude.{◌≡◌};
 ghost use Rattle.std.specs.List.{list_any};
 ghost use Rattle.rmi_abi.specs.Call.{call_in};
@@ -81,11 +81,11 @@ fn is_allowed(plain: &PlainRmm, registers: Registers, x0: u64) -> bool
     }
 }
 
-/// The number of the check that decides a call with these registers in the machine's current state. The call is not
-/// performed.
+/// Returns the number of the check that decides a call. The call has these registers, and the machine is in its current
+/// state. The call is not performed.
 ///
-/// It is 0 if no check fails, for a function that is no command, and on a closed handle. The numbers are those of the
-/// failure conditions in `rmm_model::Condition`, from 1 on.
+/// The number is 0 if no check fails, for a function that is no command, and on a closed handle. The numbers are those
+/// of the failure conditions in `rmm_model::Condition`, from 1 on.
 #[unsafe(no_mangle)]
 pub extern "C" fn rmm_deciding_check(
     alloc: Global,
@@ -104,10 +104,10 @@ pub extern "C" fn rmm_deciding_check(
     check
 }
 
-/// Whether an RMM may return this X0 for a call with these registers in the machine's current state. The call is not
-/// performed.
+/// Whether an RMM may return this X0 for a call. The call has these registers, and the machine is in its current state.
+/// The call is not performed.
 ///
-/// It may be the word of each check that is made and fails, and RMI_SUCCESS if none does. For a function that is no
+/// X0 may be the word of each check that is made and fails, and RMI_SUCCESS if none does. For a function that is no
 /// command, and on a closed handle, it is NOT_SUPPORTED alone. RMM 1.0, failure conditions and their ordering.
 #[unsafe(no_mangle)]
 pub extern "C" fn rmm_is_allowed(

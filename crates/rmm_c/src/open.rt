@@ -14,7 +14,8 @@ const NO_MEMORY: u64 = 2;
 
 const ALREADY_OPEN: u64 = 3;
 
-/// Opens a closed handle with a fresh RMM that has these settings. Each granule is UNDELEGATED, and its bytes are 0.
+/// Opens a closed handle with a fresh RMM. The RMM has these settings. Each granule is UNDELEGATED, and its bytes are
+/// 0.
 ///
 /// Returns 0 if the handle is open now; else nothing changes. 3 comes exactly if it was open, and 2 if allocation
 /// failed. 1 comes exactly if it was closed and no machine has these settings.

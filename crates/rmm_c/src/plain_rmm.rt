@@ -28,7 +28,7 @@ impl Model for PlainRmm {
 }
 
 impl PlainRmm {
-    /// Opens an RMM over `count` UNDELEGATED granules, whose bytes are 0. `None` comes if there is no memory, or if
+    /// Opens an RMM over `count` UNDELEGATED granules. Their bytes are 0. `None` comes if there is no memory, or if
     /// `count` is out of range.
     pub(crate) fn open(alloc: Global, platform: Platform, count: u16) -> Option<PlainRmm>
         ensures { IfSome result (λ plain.

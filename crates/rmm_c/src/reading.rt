@@ -95,8 +95,8 @@ pub extern "C" fn rmm_read_word(
     report(found, word)
 }
 
-/// Writes to `realm` the attributes of the realm whose RD is at an address. Returns false, and writes nothing, if no RD
-/// is there.
+/// Writes the attributes of a realm to `realm`. The RD of the realm is at address `rd`. Returns false, and writes
+/// nothing, if no RD is there.
 #[unsafe(no_mangle)]
 pub extern "C" fn rmm_read_realm(
     alloc: Global,

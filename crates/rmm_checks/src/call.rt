@@ -25,7 +25,8 @@ use page_arena::PageStore;
 use rmi_abi::Call;
 use rmm_granules::Granules;
 
-/// The checks of a call on a machine, each with its outcome, in the sequence of the command's definition.
+/// Evaluates the checks of a call on a machine. Each check comes with its outcome, in the order of the command's
+/// definition.
 ///
 /// The first that was made and failed is the one that decides. An RMM may answer with the word of each that was made
 /// and failed; where there is none, with RMI_SUCCESS alone.

@@ -14,11 +14,11 @@ use std::marker::Model;
 pub enum CheckOutcome {
     NotMade,
     Passed,
-    /// A failed check, with the answer that the command gives if this check decides.
+    /// A failed check. It has the answer that the command gives if this check decides.
     Failed(SmcResult),
 }
 
-/// A check of a call, given by its failure condition, with its outcome.
+/// A check of a call: its failure condition, and its outcome.
 #[derive(Clone, Copy)]
 pub struct EvaluatedCheck {
     pub condition: Condition,
@@ -34,7 +34,7 @@ impl Default for EvaluatedCheck {
     }
 }
 
-/// The checks of a call with their outcomes, in the sequence of the command's definition.
+/// The checks of a call, each with its outcome. They are in the order of the checks in the command's definition.
 #[derive(Drop)]
 pub struct EvaluatedChecks {
     rows: ArrayVec<EvaluatedCheck, 18>,
@@ -82,7 +82,7 @@ fn is_made(rows: &[EvaluatedCheck], after: &[Condition]) -> bool
 }
 
 impl EvaluatedChecks {
-    /// An empty list of checks.
+    /// Creates an empty list of checks.
     pub fn new() -> EvaluatedChecks
         ensures { result ≡ [] }
     {
@@ -91,7 +91,7 @@ impl EvaluatedChecks {
         }
     }
 
-    /// The checks, one after another.
+    /// The checks as a slice. They are in the order in which they were added.
     pub fn rows(&self) -> &[EvaluatedCheck]
         ensures { result.now ≡ self.now }
     {

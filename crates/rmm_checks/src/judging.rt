@@ -1,4 +1,4 @@
-//! The answers to a call that its evaluated checks allow.
+//! The answers that the evaluated checks of a call allow.
 ghost use Rattle.std.specs.Prelude.{◌≡◌, None};
 ghost use Rattle.std.specs.List.{list_any};
 ghost use Rattle.rmm_checks.specs.Evaluated as specs;
@@ -74,7 +74,8 @@ fn has_word(rows: &[EvaluatedCheck], word: Word) -> bool
 }
 
 impl EvaluatedChecks {
-    /// The refusal by the check that decides, which is the first one that was made and failed.
+    /// The refusal by the deciding check; `None` if there is no such check. The deciding check is the first that was
+    /// made and failed.
     pub fn deciding(&self) -> Option<FailedCondition>
         ensures { result ≡ specs.first_failed self.now }
     {

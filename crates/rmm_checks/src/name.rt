@@ -180,7 +180,7 @@ fn find_named(text: &str, conditions: &[Condition]) -> Option<Condition>
     None
 }
 
-/// The condition with the name `text`, or `None` if no condition has it.
+/// The condition with the name `text`; `None` if no condition has it.
 #[tactic(auto, unfolding(crate::specs::Names::condition_named))]
 pub fn condition_named(text: &str) -> Option<Condition>
     ensures { result ≡ names.condition_named text.now }

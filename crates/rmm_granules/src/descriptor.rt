@@ -12,7 +12,7 @@ fn is_shareability(settings: &RmmSettings, desc: u64) -> bool
     sh == 0 || (settings.takes_shareability && sh != 1)
 }
 
-/// Whether all bits of a descriptor except its address have values that the host may choose.
+/// Whether a host may choose the attributes of a descriptor. The attributes are all bits outside the address field.
 pub fn has_attributes(settings: &RmmSettings, desc: u64) -> bool
     ensures { result ≡ mapping.has_attributes settings.now desc }
 {

@@ -1,4 +1,4 @@
-//! Granules by their numbers and addresses, and their realms.
+//! Lookups of granules and realms, and a comparison of owners.
 ghost use Rattle.std.specs.Prelude.{◌≡◌, ◌+◌, ◌<◌, IfSome};
 ghost use Rattle.rmm_model.specs.Granule.{realm_of};
 ghost use Rattle.rmm_model.specs.Machine.{granule_count, granule_at};
@@ -11,7 +11,7 @@ use granule_addr::Gran;
 use page_arena::PageStore;
 use rmm_model::RmmRealm;
 
-/// The granule whose number is `k` above that of `first`.
+/// The granule `k` after `first`. Its number is `k` above that of `first`.
 pub fn granule_after(first: Gran, k: u16) -> Gran
     requires { first + k < 4096 }
     ensures { result ≡ first + k }
@@ -19,7 +19,7 @@ pub fn granule_after(first: Gran, k: u16) -> Gran
     Gran::from_number(first.number() + k)
 }
 
-/// The granule of the machine in which an address lies.
+/// The granule in which an address lies; `None` if the address lies in no granule of the machine.
 #[tactic(auto, unfolding(rmm_model::specs::Walk::granule_named))]
 pub fn granule_named<S: PageStore>(granules: &Granules<S>, address: u64) -> Option<Gran>
     ensures value { result ≡ walks.granule_named granules.now address }

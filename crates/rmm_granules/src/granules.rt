@@ -27,7 +27,8 @@ use std::marker::Model;
 // The number of 16-bit VMIDs.
 const VMIDS: u32 = 0x1_0000;
 
-/// The granules of a platform, each with attributes and a page of a store, and the set of VMIDs that realms have.
+/// The granules of a platform. Each has attributes and a page of a store. The set of VMIDs that realms have is kept
+/// too.
 #[derive(Drop)]
 pub struct Granules<S: PageStore> {
     platform: Platform,
@@ -75,8 +76,8 @@ fn rows(alloc: Global, count: u16, vmids: u32) -> Result<(Vec<RmmGranule>, Vec<b
 }
 
 impl<S: PageStore> Granules<S> {
-    /// The granules of a platform, all UNDELEGATED, with the pages of a store. There are as many as the store has
-    /// pages. An error returns the store as it was.
+    /// Opens the granules of a platform over a store of pages. All are UNDELEGATED, and there are as many as the store
+    /// has pages. An error returns the store as it was.
     pub fn open(
         alloc: Global,
         platform: Platform,
@@ -107,7 +108,7 @@ impl<S: PageStore> Granules<S> {
         self.platform.settings()
     }
 
-    /// The platform: the settings, known to be in range.
+    /// The platform. Its settings are in range.
     pub fn platform(&self) -> &Platform
         ensures { result.now ≡ self.now.settings }
     {
@@ -275,8 +276,7 @@ impl<S: PageStore> Granules<S> {
         self.store.write(granule, offset, bytes);
     }
 
-    /// Writes 512 words of one kind to a granule's page. Bits 47:0 of the first are `first`, and those of the others
-    /// rise by `step`.
+    /// Fills a granule's page with 512 words. Word k, counted from 0, is `kind + (first + k * step) % 2^48`.
     pub fn write_rising(&mut self, granule: Gran, kind: u64, first: u64, step: u64)
         requires inside { granule < granule_count self.old }
         requires kind { kind ≤ 2 ^ 60 }
@@ -308,7 +308,7 @@ impl<S: PageStore> Granules<S> {
         self.store.fill(granule, value);
     }
 
-    /// Copies the bytes of one granule's page to that of another.
+    /// Copies the page of `source` to the page of `target`. The two granules are different.
     pub fn copy(&mut self, target: Gran, source: Gran)
         requires target { target < granule_count self.old }
         requires source { source < granule_count self.old }

@@ -1,12 +1,11 @@
-//! The granules of a platform, kept in a store of pages and seen as a machine, and the readings that failure conditions
-//! need. RMM 1.0, RMI.
+//! The granules of a platform. They have attributes, and pages in a store. RMM 1.0, RMI.
 //!
-//! Each call of `Granules` reads or writes one granule or VMID, and its contract says which in the words of
-//! `rmm_model`. So nothing above sees a store, its flags or its bytes. Memory is taken by `open` alone.
+//! `Granules` is seen as a machine. Each call of it reads or writes one granule or VMID, and the contract says which in
+//! the words of `rmm_model`. So nothing above sees a store, its flags or its bytes. Memory is taken by `open` alone.
 //!
-//! The readings are granules by their addresses, walks and the entries where they end, pages of parameters, and
-//! requests of RECs. An RMM that ends at the first check that fails makes them, and a judge that evaluates all checks.
-//! They change nothing, and take no memory.
+//! The crate also has the readings that failure conditions need: granules by their addresses, walks and the entries
+//! where they end, pages of parameters, and requests of RECs. An RMM that ends at the first check that fails makes
+//! these readings, and so does a judge that evaluates all checks. The readings change nothing, and take no memory.
 #![tactic(auto)]
 
 mod descriptor;

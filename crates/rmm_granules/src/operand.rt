@@ -1,8 +1,8 @@
 //! Operands that are addresses of granules.
 use rmm_model::Condition;
 
-/// The failure conditions on an operand that is a granule's address: on its alignment, its bound and the granule's
-/// state.
+/// The failure conditions on a granule's address. They are misalignment, an address out of bounds, and a wrong state or
+/// physical address space of the granule.
 #[derive(Clone, Copy)]
 pub struct OperandConditions {
     pub align: Condition,
@@ -25,7 +25,7 @@ impl OperandConditions {
         state: Condition::RdState,
     };
 
-    /// The conditions on the host's page with the parameters of a realm or a REC.
+    /// The conditions on the host's page of parameters. The parameters are those of a realm or a REC.
     pub const PARAMS: OperandConditions = OperandConditions {
         align: Condition::ParamsAlign,
         bound: Condition::ParamsBound,
@@ -74,14 +74,15 @@ impl OperandConditions {
         state: Condition::RunPas,
     };
 
-    /// The conditions on the REC whose request RMI_PSCI_COMPLETE completes.
+    /// The conditions on the calling REC of RMI_PSCI_COMPLETE. The command completes the request of this REC.
     pub const CALLING: OperandConditions = OperandConditions {
         align: Condition::CallingAlign,
         bound: Condition::CallingBound,
         state: Condition::CallingState,
     };
 
-    /// The conditions on the target REC of the request that RMI_PSCI_COMPLETE completes.
+    /// The conditions on the target REC of RMI_PSCI_COMPLETE. This REC is the target of the request that the command
+    /// completes.
     pub const TARGET: OperandConditions = OperandConditions {
         align: Condition::TargetAlign,
         bound: Condition::TargetBound,

@@ -38,7 +38,7 @@ fn can_be_denied(request: PsciRequest) -> bool
     matches!(request, PsciRequest::CpuOn { .. })
 }
 
-/// Whether the host may complete a request with a status: success, or DENIED for a CPU_ON.
+/// Whether the host may complete a request with a status. The status has to be success, or DENIED for a CPU_ON.
 pub fn is_status(request: PsciRequest, status: u64) -> bool
     ensures { result ≡ command.is_status request status }
 {

@@ -1,11 +1,11 @@
-//! Edits of realms: the attributes that a command or a guest's step changes, written in place.
+//! Edits of realm attributes, made in place. Commands and guests' steps make them.
 ghost use Rattle.std.specs.Prelude.{◌≡◌};
 ghost use Rattle.rmm_model.specs.Granule.{realm_of};
 ghost use Rattle.rmm_granules.specs.RealmEdits.{edited_realm, edited_rd};
 
 use rmm_model::{RmmGranule, RmmGranuleState, RmmRealm, RmmRealmState};
 
-/// A change of the attributes of a realm.
+/// An edit of the attributes of a realm.
 #[derive(Clone, Copy)]
 pub enum RealmEdit {
     /// Sets the state of the realm to SYSTEM_OFF.

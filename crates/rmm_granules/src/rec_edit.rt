@@ -1,4 +1,4 @@
-//! Edits of RECs: the attributes that a command or a guest's step changes, written in place.
+//! Edits of REC attributes, made in place. Commands and guests' steps make them.
 ghost use Rattle.std.specs.Prelude.{◌≡◌, unwrap_or};
 ghost use Rattle.rmm_model.specs.declared.granule.RmmGranuleState.TheVariants.{Rec as IsRec};
 ghost use Rattle.rmm_model.specs.Granule.{rec_of};
@@ -12,13 +12,13 @@ use rmm_model::{
 /// An edit of the attributes of a REC.
 #[derive(Clone, Copy)]
 pub enum RecEdit {
-    /// Sets the REC to RUNNING, with its run page at an address, no exit to answer, and no results.
+    /// Sets the REC to RUNNING. Its run page is at this address, and it has no exit to answer and no results.
     Enter(u64),
     /// Sets the REC to READY after an exit.
     Leave(LastExit),
     /// Moves the guest past its first step.
     PassStep,
-    /// Sets the number of the guest's steps.
+    /// Sets the number of steps in the guest's queue.
     Steps(u8),
     /// Counts one more result of the guest.
     AddResult,

@@ -6,8 +6,8 @@ ghost use Rattle.rmm_model.specs.Command.RttSetRipas as setting;
 use rmi_abi::RmmSettings;
 use rmm_model::{Changeable, RipasRequest};
 
-/// The entries that RMI_RTT_INIT_RIPAS changes: UNASSIGNED ones, including those with RIPAS DESTROYED unless the
-/// settings exclude them.
+/// The entries that RMI_RTT_INIT_RIPAS changes. They are all UNASSIGNED entries; if `stops_at_destroyed` is set, only
+/// those whose RIPAS is not DESTROYED.
 pub fn init_changeable(settings: &RmmSettings) -> Changeable
     ensures { result ≡ making.init_changeable settings.now }
 {

@@ -7,7 +7,8 @@ ghost use Rattle.rmm_model.specs.Command.RecEnter as entering;
 use rmi_abi::{EnterFlags, GicFields, RmmSettings};
 use rmm_model::{LastExit, RmmRec};
 
-/// Whether flags say that the host emulates an access, but the last exit was not an emulatable abort.
+/// Whether flags name an emulated access without an emulatable abort. By the flags the host emulates an access, but the
+/// last exit was not an emulatable abort.
 pub fn is_no_mmio(rec: &RmmRec, flags: u64) -> bool
     ensures { result ≡ entering.is_no_mmio rec.now flags }
 {
@@ -27,7 +28,8 @@ fn are_lrs(num_lrs: u8, page: &[u8]) -> bool
     true
 }
 
-/// Whether the settings check the GIC fields of a run page, and one of them has a value that a host may not set.
+/// Whether the GIC fields of a run page are refused. They are if settings require their check, and one of them has a
+/// value that a host may not set.
 #[tactic(auto, unfolding(rmm_model::specs::Command::RecEnter::is_gic_wrong))]
 pub fn refuses_gic(settings: &RmmSettings, page: &[u8]) -> bool
     requires { length page.now ≡ 4096 }

@@ -37,7 +37,7 @@ pub fn is_homogeneous(page: &[u8], level: u8) -> bool
     !first.is_table() && is_aligned_above(first, level) && has_parts(page, first, level)
 }
 
-/// Whether folding a table would make a block at a level that has no blocks.
+/// Whether folding a table would make a block too high. The level of the block is then one that has no blocks.
 pub fn is_block_too_high(settings: &RmmSettings, page: &[u8], level: u8) -> bool
     requires { length page.now ≡ 4096 }
     ensures { result ≡ command.is_block_too_high settings.now page.now level }

@@ -1,4 +1,4 @@
-//! Walks down the tables of a realm, and the entries where they end. RMM 1.0, RTT walk.
+//! Walks down a realm's tables, and the entries where they end. RMM 1.0, RTT walk.
 ghost use Rattle.std.specs.Prelude.{◌≡◌, ◌^◌, ◌<◌, ◌≤◌, IfSome};
 ghost use Rattle.rmm_model.specs.Entry.{descriptor_of};
 ghost use Rattle.rmm_model.specs.Machine.{granule_count};
@@ -13,7 +13,7 @@ use rmm_model::{
     first_live, start_offset,
 };
 
-/// The entry that covers an address, in the table at which a walk ended.
+/// The entry that covers an address. It is in the table at which a walk ended.
 #[tactic(auto, unfolding(rmm_model::specs::Walk::entry_at, rmm_model::specs::Table::entry_in_page))]
 pub fn entry_at<S: PageStore>(granules: &Granules<S>, found: &RttWalk, ipa: u64) -> RmmRttEntry
     requires { found.now.table < granule_count granules.now }
@@ -62,9 +62,11 @@ fn start_of(realm: &RmmRealm, ipa: u64, count: u16) -> RttWalk
     }
 }
 
-/// The end of the walk for an address towards a level. RMM 1.0, RttWalk.
+/// Walks a realm's tables to level `to` for an address. Returns the table at which the walk ends, with the table's
+/// level. RMM 1.0, RttWalk.
 ///
-/// It is at the level, or above it at an entry that leads to no table.
+/// The walk ends at level `to`, or above it at an entry that leads to no table. If level `to` is above the starting
+/// level, the walk ends at a starting table.
 #[inline(always)]
 pub fn walk<S: PageStore>(granules: &Granules<S>, realm: &RmmRealm, ipa: u64, to: u8) -> RttWalk
     requires served { IsServed (granule_count granules.now) realm.now }
@@ -87,11 +89,11 @@ pub fn walk<S: PageStore>(granules: &Granules<S>, realm: &RmmRealm, ipa: u64, to
     RttWalk { table, level }
 }
 
-/// The address of the next live entry, from `ipa` on, in the table at which a walk ended. RMM 1.0,
+/// The address of the next live entry of a table, from `ipa` on. The table is that at which a walk ended. RMM 1.0,
 /// RttSkipNonLiveEntries.
 ///
-/// It is the end of the table if there is none. If the entry of the address is live itself, it is the address, or where
-/// that entry begins, as settings say.
+/// The result is the end of the table if there is none. If the entry of the address is live itself, the result is the
+/// address, or where that entry begins, as settings say.
 #[tactic(auto, unfolding(rmm_model::specs::Walk::top, rmm_model::specs::Walk::top_at))]
 pub fn top<S: PageStore>(granules: &Granules<S>, found: &RttWalk, ipa: u64) -> u64
     requires inside { found.now.table < granule_count granules.now }

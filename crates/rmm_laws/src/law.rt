@@ -1,4 +1,5 @@
-//! Theorems about RMI calls made in registers, stores and fills by the host, and steps of guests.
+//! Theorems about RMI calls, hosts and guests. The calls are made in registers; hosts store and fill, and guests take
+//! steps.
 ghost use Rattle.std.specs.Prelude.{◌≡◌, ◌≢◌, ℕ, ◌+◌, ◌-◌, ◌*◌, ◌/◌, ◌%◌, ◌^◌, ◌<◌, ◌≤◌, ◌⊎◌, true, false, List, [], ◌∷◌, length, Some, None};
 ghost use Rattle.granule_addr.specs.Page.{zero_page};
 ghost use Rattle.page_arena.specs.Page.{page_at};
@@ -64,10 +65,10 @@ ghost use Rattle.rmm_laws.specs.State.{IsRealmIn, IsRealmMadeOf, KeepsStates, Ke
 ghost use Rattle.rmm_laws.specs.Step.{HasNextStep, HasRemoval, CanBeTornDown};
 ghost use Rattle.rmm_laws.specs.Walk.{IsTableOf, Serves, EndsWell, IsPassed, IsAtLive, IsNextTop, LeadsToTable, walked_to};
 
-/// A refused call made in registers changes nothing, and neither does a refused store or fill by the host. Nor do steps
-/// that no REC takes, and accesses of guests that are not done. An interrupt that is answered `None`, as of each REC
-/// that does not run, changes nothing. Only a call that enters a REC is answered with the word of a REC that runs on.
-/// That REC is RUNNING then, and was not before. A REC that is entered with RMI_SUCCESS does not run after the call.
+/// A refused call in registers changes nothing. Neither does a refused store or fill by the host. Nor do steps that no
+/// REC takes, and accesses of guests that are not done. An interrupt that is answered `None`, as of each REC that does
+/// not run, changes nothing. Only a call that enters a REC is answered with the word of a REC that runs on. That REC is
+/// RUNNING then, and was not before. A REC that is entered with RMI_SUCCESS does not run after the call.
 pub fn refusals_change_nothing()
     ensures calls { (r : Registers) (m : Machine) → IsRefused (rmi r m).0.x0 → (rmi r m).1 ≡ m }
     ensures running { (r : Registers) (m : Machine) → (rmi r m).0.x0 ≡ 2 ^ 64 - 2 → IsRecEnter m (rmi r m).1 (call_in r) }
@@ -82,19 +83,19 @@ pub fn refusals_change_nothing()
         → IsNotDone (step_outcome m realm rec flags step) → after_step m realm rec step (step_outcome m realm rec flags step) ≡ m }
 {}
 
-/// Each word that an RMM may answer instead of a refusal's own word is a refusal too. A call that is refused is
-/// answered one of the words that are allowed, and each of these refuses. If a call is not refused, RMI_SUCCESS alone
-/// is allowed, also of an RMI_REC_ENTER that is answered with the word of a REC that runs on.
+/// An RMM may return only refusals for a refused call. The word that is returned is one that an RMM may return. If a
+/// call is not refused, RMI_SUCCESS alone is allowed, also of an RMI_REC_ENTER that is answered with the word of a REC
+/// that runs on.
 pub fn allowed_is_refused()
     ensures done { (call : Call) (m : Machine) → is_refusal (performed call m).0.word ≡ false → allowed_words (command_of call m) ≡ Success ∷ [] }
     ensures own { (call : Call) (m : Machine) → is_refusal (performed call m).0.word ≡ true → IsOneOf (performed call m).0.word (allowed_words (command_of call m)) }
     ensures others { (call : Call) (m : Machine) (word : Word) → is_refusal (performed call m).0.word ≡ true → IsOneOf word (allowed_words (command_of call m)) → is_refusal word ≡ true }
 {}
 
-/// Each RTT, DATA and REC_AUX granule has exactly one use, in the realm that owns it. No other granule has a use.
-/// Owners are RDs, each RD counts its RECs, and DELEGATED granules are zero. The machine of a platform is so. Each call
-/// keeps it so, and so do the host's stores and fills, steps that guests are given, and interrupts. During a run, the
-/// entry of a REC keeps it so, each step of its guest, and the exit.
+/// Each RTT, DATA and REC_AUX granule has exactly one use. The use is in the realm that owns the granule. No other
+/// granule has a use. Owners are RDs, each RD counts its RECs, and DELEGATED granules are zero. The machine of a
+/// platform is so. Each call keeps it so, and so do the host's stores and fills, steps that guests are given, and
+/// interrupts. During a run, the entry of a REC keeps it so, each step of its guest, and the exit.
 pub fn granules_have_one_role()
     ensures opened { (s : RmmSettings) (pages : List (List ℕ)) → IsPlatform s → length pages ≤ 4096 → ((k : ℕ) → k < length pages → length (page_at pages k) ≡ 4096)
         → IsProper (platform_machine s pages) }
@@ -112,15 +113,15 @@ pub fn granules_have_one_role()
         → (x ≡ y) × (i ≡ j) × (k ≡ l) }
 {}
 
-/// A walk of an address to the level of the starting tables, or below, ends at a table of the realm for that address.
+/// A walk ends at a table of the realm that covers the address. The walk is to the starting level or a deeper level.
 /// The table is of the level that the walk goes to, or its entry is no TABLE.
 pub fn walks_end()
     ensures { (m : Machine) (rd ipa level : ℕ) (realm : RmmRealm) (proper : IsProper m) → (granule_at m rd).state ≡ Rd realm → ipa < 2 ^ realm.s2sz → realm.start_level ≤ level
         → EndsWell m proper.linked.level rd realm ipa level (walk m realm ipa level) }
 {}
 
-/// A walk of an address of a realm ends at an entry that belongs to the same half, protected or unprotected, as the
-/// address. So an ASSIGNED entry is at protected addresses alone, and an ASSIGNED_NS entry at unprotected ones. A
+/// A walk ends at an entry of the same half as its address. The halves of a realm are its protected and its unprotected
+/// addresses. So an ASSIGNED entry is at protected addresses alone, and an ASSIGNED_NS entry at unprotected ones. A
 /// mapping is at a level at which there are pages or blocks, and its memory begins at a multiple of their size.
 pub fn halves_are_apart()
     ensures half { (m : Machine) (rd ipa level : ℕ) (realm : RmmRealm) → IsProper m → (granule_at m rd).state ≡ Rd realm → ipa < 2 ^ realm.s2sz → IsOfHalf realm ipa (entry_at m (walk m realm ipa level) ipa) }
@@ -128,8 +129,8 @@ pub fn halves_are_apart()
         → IsPlaced m.settings (walk m realm ipa level).level (entry_at m (walk m realm ipa level) ipa) }
 {}
 
-/// Each table of a realm covers the addresses of 512 entries, from some address on, and a walk of any of them reaches
-/// the table.
+/// Walks reach each table of a realm. The table serves a range of addresses, 512 entries long. A walk of each address
+/// in the range reaches the table.
 pub fn tables_are_reached()
     ensures some { (m : Machine) (rd table : ℕ) (realm : RmmRealm) (proper : IsProper m) → (granule_at m rd).state ≡ Rd realm → IsTableOf m rd table
         → (levels : ℕ) × (first : ℕ) × Serves m realm levels table first × (proper.linked.level table ≡ realm.start_level + levels) }
@@ -137,15 +138,16 @@ pub fn tables_are_reached()
         → ipa < first + 512 * entry_size (realm.start_level + levels) → walk m realm ipa (realm.start_level + levels) ≡ walked_to table (realm.start_level + levels) }
 {}
 
-/// Each TABLE entry has the start address of a table's granule; the table is of the same realm, and one level below.
+/// Each TABLE entry has the address of a table. That table belongs to the same realm, and is one level below.
 pub fn tables_lead_to_tables()
     ensures { (m : Machine) (proper : IsProper m) (rd table i address : ℕ) → IsTableOf m rd table → i < 512 → entry_in_page (page_in m table) i ≡ Table address
         → LeadsToTable m proper.linked.level rd table address }
 {}
 
-/// X1 of a successful RTT_DESTROY, RTT_FOLD or DATA_DESTROY is the address of a table or a page of the realm. That
-/// granule is DELEGATED and zero after the call. So is a REC that is destroyed, with its auxiliary granules. Other
-/// granules keep their attributes, but for the RD that counts the REC. What a call gives to the host is zero.
+/// RTT_DESTROY, RTT_FOLD and DATA_DESTROY return the address of a granule of the realm. If the call succeeds, its X1 is
+/// the address of a table or a page of the realm. That granule is DELEGATED and zero after the call. So is a REC that
+/// is destroyed, with its auxiliary granules. Other granules keep their attributes, but for the RD that counts the REC.
+/// What a call gives to the host is zero.
 pub fn granules_come_back()
     ensures destroyed { (m : Machine) (rd ipa level : ℕ) → IsProper m → (performed (RttDestroy rd ipa level) m).0.word ≡ Success
         → ComesBack m (performed (RttDestroy rd ipa level) m).1 (number_of m rd) Rtt (performed (RttDestroy rd ipa level) m).0.x1 }
@@ -158,9 +160,9 @@ pub fn granules_come_back()
     ensures named { (m : Machine) (rd ipa : ℕ) → (performed (DataDestroy rd ipa) m).0.word ≡ Success → IsAssignedTo m rd ipa (performed (DataDestroy rd ipa) m).0.x1 }
 {}
 
-/// No entry is live from an address up to the top that a walk of that address gives. The top is at the next
-/// live entry of the table, or at its end. RTT_DESTROY, DATA_DESTROY and RTT_UNMAP_UNPROTECTED return such a top of the
-/// machine after them, and it is after the address.
+/// No entry is live between an address and its `top`. The top is that of a walk of the address. It is at the next live
+/// entry of the table, or at the table's end. RTT_DESTROY, DATA_DESTROY and RTT_UNMAP_UNPROTECTED return such a top of
+/// the machine after them, and it is after the address.
 pub fn tops_are_complete()
     ensures skipped { (m : Machine) (rd ipa level x : ℕ) (realm : RmmRealm) → IsProper m → (granule_at m rd).state ≡ Rd realm → ipa < 2 ^ realm.s2sz → realm.start_level ≤ level → level ≤ 3
         → ipa ≤ x → x < top m (walk m realm ipa level) ipa → IsPassed m realm (walk m realm ipa level) x }
@@ -174,8 +176,8 @@ pub fn tops_are_complete()
         → IsNextTop n (realm_at m rd) (walk n (realm_at m rd) ipa level) ipa answer.x1 }
 {}
 
-/// These steps of a teardown succeed: RMI_REC_DESTROY of a REC that does not run, and RMI_DATA_DESTROY of a page. So do
-/// RMI_RTT_UNMAP_UNPROTECTED of a mapping, and RMI_RTT_DESTROY of a table without live entries. RMI_REALM_DESTROY
+/// Steps of a teardown succeed. RMI_REC_DESTROY succeeds for a REC that does not run, and RMI_DATA_DESTROY for a page.
+/// So do RMI_RTT_UNMAP_UNPROTECTED of a mapping, and RMI_RTT_DESTROY of a table without live entries. RMI_REALM_DESTROY
 /// succeeds for a realm without RECs and live entries, and RMI_GRANULE_UNDELEGATE for a DELEGATED granule, which is
 /// UNDELEGATED and zero then. After RMI_GRANULE_DELEGATE a granule is DELEGATED and zero. If a granule is DELEGATED, a
 /// step succeeds while an entry of a realm is live. If no REC of it runs either, one succeeds until the realm is
@@ -233,11 +235,11 @@ pub fn activated_once()
     ensures entered { (m : Machine) (rec run : ℕ) → is_refusal (performed (RecEnter rec run) m).0.word ≡ false → (rd : ℕ) × ((granule_at m (number_of m rec)).owner ≡ Some rd) × IsRealmIn m rd Active }
 {}
 
-/// RMI_REALM_CREATE gives a realm its first RIM. RMI_DATA_CREATE, RMI_RTT_INIT_RIPAS and RMI_REC_CREATE of a REC that
-/// is measured extend it while the realm is NEW. No other call changes it, and neither do steps that guests are given,
-/// and interrupts. A page of data has the bytes of its source, measured as `rim_with_data` says. What is measured is
-/// read from a page of the host outside the secure world, and so are parameters. A REC that is created has what its
-/// parameters ask for.
+/// RMI_REALM_CREATE sets the first value of a realm's RIM. RMI_DATA_CREATE, RMI_RTT_INIT_RIPAS and RMI_REC_CREATE of a
+/// REC that is measured extend the RIM while the realm is NEW. No other call changes it, and neither do steps that
+/// guests are given, and interrupts. A page of data has the bytes of its source, measured as `rim_with_data` says. What
+/// is measured is read from a page of the host outside the secure world, and so are parameters. A REC that is created
+/// has what its parameters ask for.
 pub fn rims_are_measured()
     ensures calls { (r : Registers) (m : Machine) → IsProper m → KeepsRims m (call_in r) (rmi r m).1 }
     ensures steps { (m : Machine) (rec : ℕ) (w : StepWords) → KeepsRims m None (queued m rec w).1 }
@@ -269,16 +271,16 @@ pub fn requests_are_the_guest_s()
     ensures left { (m : Machine) (g : ℕ) (exit : RecExit) (last : LastExit) → KeepsRequests m None (after_exit m g exit last) }
 {}
 
-/// Once a realm is no longer NEW, the RIPAS of its protected addresses changes only to DESTROYED, or as its guest asks.
-/// RMI_RTT_INIT_RIPAS and RMI_DATA_CREATE can make it RAM, if the realm is NEW. RMI_DATA_DESTROY can make it DESTROYED
-/// where it was RAM, and RMI_RTT_DESTROY whatever it was. A page that is destroyed leaves RIPAS that is not RAM.
-/// RMI_RTT_SET_RIPAS can make it what a REC of the realm asks for, within the range that it asks for. If it succeeds,
-/// it does so up to X1 and no further, and leaves the pages. X1 is not after the end of the request. RMI_RTT_INIT_RIPAS
-/// does the same with RAM, without a request. No other call changes the RIPAS of a protected address, and neither do
-/// stores and fills of the host, steps that guests are given, and interrupts. A new realm is EMPTY and has no page at
-/// each protected address. An access of a guest to a protected address without RAM or without a page is answered an SEA
-/// or makes an exit. It reads and writes nothing. If the exit that a REC keeps has no answer, the REC goes on with its
-/// registers and its steps, and has no results.
+/// RIPAS changes only as the guest asks, or to DESTROYED. This holds for the protected addresses of a realm that is no
+/// longer NEW. RMI_RTT_INIT_RIPAS and RMI_DATA_CREATE can make it RAM, if the realm is NEW. RMI_DATA_DESTROY can make
+/// it DESTROYED where it was RAM, and RMI_RTT_DESTROY whatever it was. A page that is destroyed leaves RIPAS that is
+/// not RAM. RMI_RTT_SET_RIPAS can make it what a REC of the realm asks for, within the range that it asks for. If it
+/// succeeds, it does so up to X1 and no further, and leaves the pages. X1 is not after the end of the request.
+/// RMI_RTT_INIT_RIPAS does the same with RAM, without a request. No other call changes the RIPAS of a protected
+/// address, and neither do stores and fills of the host, steps that guests are given, and interrupts. A new realm is
+/// EMPTY and has no page at each protected address. An access of a guest to a protected address without RAM or without
+/// a page is answered an SEA or makes an exit. It reads and writes nothing. If the exit that a REC keeps has no answer,
+/// the REC goes on with its registers and its steps, and has no results.
 pub fn ripas_is_the_guest_s()
     ensures calls { (r : Registers) (m : Machine) → IsProper m → KeepsRipas m (call_in r) (rmi r m).1 }
     ensures taken { (m : Machine) (rd ipa x : ℕ) → IsProper m → (performed (DataDestroy rd ipa) m).0.word ≡ Success → IsBetween ipa (ipa + 4096) x
@@ -303,16 +305,17 @@ pub fn ripas_is_the_guest_s()
     ensures interrupts { (m : Machine) (rec : ℕ) → IsProper m → KeepsRipas m None (interrupted m rec).1 }
 {}
 
-/// While a protected address has a page, only writes of its realm's guest change the bytes there. RMI_DATA_CREATE and
-/// RMI_DATA_CREATE_UNKNOWN alone give a protected address a page, where there was none, and RMI_DATA_DESTROY alone
-/// takes it. So a page takes the place of another one only after that was destroyed. The first gives the bytes of a
-/// page of the host while the realm is NEW, the second gives zeros. Each address of a page that is given leads into it.
-/// Then the bytes stay, but while RECs of the realm are entered. The entry and the exit of a REC keep them too, and so
-/// does each step that is no write. A step is performed for the realm that owns the REC. Stores and fills of the host,
-/// steps that guests are given, and interrupts change neither. A guest reads the bytes of the page that its address
-/// leads to, if RIPAS is RAM. At an unprotected address it reads bytes of the host outside the secure world. What it
-/// writes at a protected address changes those at no protected address of another page or realm. What it writes at an
-/// unprotected one changes those at no protected address.
+/// Only the guest of a realm writes to the realm's pages. While a protected address of the realm has a page, only the
+/// guest's writes change the bytes of the page. RMI_DATA_CREATE and RMI_DATA_CREATE_UNKNOWN alone give a protected
+/// address a page, where there was none, and RMI_DATA_DESTROY alone takes it. So a page takes the place of another one
+/// only after that was destroyed. The first gives the bytes of a page of the host while the realm is NEW, the second
+/// gives zeros. Each address of a page that is given leads into it. Then the bytes stay, but while RECs of the realm
+/// are entered. The entry and the exit of a REC keep them too, and so does each step that is no write. A step is
+/// performed for the realm that owns the REC. Stores and fills of the host, steps that guests are given, and interrupts
+/// change neither. A guest reads the bytes of the page that its address leads to, if RIPAS is RAM. At an unprotected
+/// address it reads bytes of the host outside the secure world. What it writes at a protected address changes those at
+/// no protected address of another page or realm. What it writes at an unprotected one changes those at no protected
+/// address.
 pub fn memory_is_the_guest_s()
     ensures calls { (r : Registers) (m : Machine) → IsProper m → KeepsLocations m (call_in r) (rmi r m).1 }
     ensures stores { (m : Machine) (address word : ℕ) → IsProper m → KeepsLocations m None (after_store m address word) }
@@ -344,10 +347,11 @@ pub fn memory_is_the_guest_s()
         → is_protected realm ipa ≡ true → is_protected its x ≡ true → (other ≢ rd) ⊎ (x / 4096 ≢ ipa / 4096) → content_at (after_step m realm rec (Write ipa value size) outcome) its x ≡ content_at m its x }
 {}
 
-/// Right after RMI_RTT_CREATE, an RMI_RTT_FOLD with the same RD, address and level succeeds and undoes it. And
-/// RMI_RTT_CREATE undoes RMI_RTT_FOLD, with the granule that comes back. Then each granule has the attributes that it
-/// had before both, and each entry of each table is as it was. A table is folded only if the entry can replace it.
-/// After each of both calls an address leads to the same memory as before.
+/// RMI_RTT_CREATE and RMI_RTT_FOLD undo each other. Right after a successful RMI_RTT_CREATE, RMI_RTT_FOLD with the same
+/// RD, address and level succeeds and undoes the creation. And RMI_RTT_CREATE undoes RMI_RTT_FOLD, with the granule
+/// that comes back. Then each granule has the attributes that it had before both, and each entry of each table is as it
+/// was. A table is folded only if the entry can replace it. After each of both calls an address leads to the same
+/// memory as before.
 pub fn fold_and_unfold()
     ensures created { (m : Machine) (rd rtt ipa level : ℕ) → IsProper m → (performed (RttCreate rd rtt ipa level) m).0.word ≡ Success
         → ((performed (RttFold rd ipa level) (performed (RttCreate rd rtt ipa level) m).1).0.word ≡ Success)
@@ -363,14 +367,15 @@ pub fn fold_and_unfold()
         → location_at (performed (RttFold rd ipa level) m).1 (realm_at m rd) x ≡ location_at m (realm_at m rd) x }
 {}
 
-/// A call changes only granules of its own realm, and UNDELEGATED and DELEGATED granules. So it keeps the RDs, tables,
-/// pages and RECs of all other realms. UNDELEGATED ones stay as they were, but for one that is delegated, and for pages
-/// that a REC writes which is entered. None of these is of the secure world. Stores and fills of the host change the
-/// granule of their address alone, if it is UNDELEGATED. A step that a guest is given changes its REC, and an interrupt
-/// its REC and its run page. A write of a guest changes pages of its realm, and of the host outside the secure world.
-/// At a protected address it changes none of the host. Calls keep settings and the number of granules. They keep VMIDs,
-/// but for that of a realm that is created or destroyed. Stores, fills, steps that guests are given, interrupts, and
-/// steps of guests keep settings and VMIDs. RMI_REC_CREATE alone makes RECs, and no REC comes to another realm.
+/// A call leaves the granules of other realms unchanged. It changes only granules of the realm that it names by an RD
+/// or a REC, and granules that are UNDELEGATED or DELEGATED. So it keeps the RDs, tables, pages and RECs of all other
+/// realms. UNDELEGATED granules stay as they were, but for one that is delegated, and for pages that a REC writes which
+/// is entered. None of these is of the secure world. Stores and fills of the host change the granule of their address
+/// alone, if it is UNDELEGATED. A step that a guest is given changes its REC, and an interrupt its REC and its run
+/// page. A write of a guest changes pages of its realm, and of the host outside the secure world. At a protected
+/// address it changes none of the host. Calls keep settings and the number of granules. They keep VMIDs, but for that
+/// of a realm that is created or destroyed. Stores, fills, steps that guests are given, interrupts, and steps of guests
+/// keep settings and VMIDs. RMI_REC_CREATE alone makes RECs, and no REC comes to another realm.
 pub fn other_realms_stay()
     ensures calls { (r : Registers) (m : Machine) (granule : ℕ) → IsProper m → IsOfAnother m (call_in r) granule → IsSameAt m (rmi r m).1 granule }
     ensures hosts { (r : Registers) (m : Machine) (granule : ℕ) → IsProper m → (granule_at m granule).state ≡ Undelegated → IsSameAt m (rmi r m).1 granule ⊎ IsHostChanged m (rmi r m).1 (call_in r) granule }
@@ -400,9 +405,10 @@ pub fn other_realms_stay()
     ensures settings { (r : Registers) (m : Machine) → IsProper m → ((rmi r m).1.settings ≡ m.settings) × (length (rmi r m).1.granules ≡ length m.granules) }
 {}
 
-/// Machines that result from wrong definitions are not proper. By one such definition, RTT_DESTROY leaves the entry of
-/// the table. By another, a call maps a page that is mapped already. REC_DESTROY leaves the count of its realm.
-/// REALM_DESTROY leaves a granule of the realm. A granule becomes DELEGATED and is not wiped.
+/// `IsProper` detects certain wrong definitions of the commands. The machines that result from them do not satisfy it.
+/// By one such definition, RTT_DESTROY leaves the entry of the table. By another, a call maps a page that is mapped
+/// already. REC_DESTROY leaves the count of its realm. REALM_DESTROY leaves a granule of the realm. A granule becomes
+/// DELEGATED and is not wiped.
 pub fn mistakes_are_refused()
     ensures entry_left { (m : Machine) (rd table i g : ℕ) → IsProper m → IsTableOf m rd table → i < 512 → table_below m (entry_in_page (page_in m table) i) ≡ Some g → IsProper (with_blank m g Delegated) → ⊥ }
     ensures named_twice { (m : Machine) (proper : IsProper m) (rd s x i p y j q address other : ℕ) (a b : RmmRipas) → IsTableOf m rd x → IsTableOf m s y → i < 512 → j < 512

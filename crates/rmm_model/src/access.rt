@@ -14,7 +14,7 @@ pub enum AccessSize {
 }
 
 impl AccessSize {
-    /// The access size of `bytes` bytes; any number that is not a size means one byte.
+    /// Returns the access size of `bytes` bytes. It is `Byte` if no access has that size.
     pub fn of(bytes: u64) -> AccessSize
         ensures { result ≡ accesses.access_size bytes }
     {
@@ -26,7 +26,7 @@ impl AccessSize {
         }
     }
 
-    /// The SAS field of a data abort, in its bit position in ESR_EL2.
+    /// Returns the SAS field of a data abort. The field is in its bit position in ESR_EL2.
     pub fn syndrome(self) -> u64
         ensures value { result ≡ accesses.syndrome self }
         ensures below { result ≤ 0xC0_0000 }
@@ -39,7 +39,7 @@ impl AccessSize {
         }
     }
 
-    /// The low bytes of a value, as many as the access has.
+    /// Truncates a value to the access size.
     pub fn low(self, value: u64) -> u64
         ensures { result ≡ accesses.low_bytes self value }
     {
@@ -51,7 +51,8 @@ impl AccessSize {
         }
     }
 
-    /// The value that an access at an address reads from its page.
+    /// Reads a value of the access size from a page. It is at the page offset of `ipa`, rounded down to a multiple of
+    /// the access size.
     #[tactic(auto, unfolding(crate::specs::Access::value_in))]
     pub fn read(self, page: &[u8], ipa: u64) -> u64
         requires { length page.now ≡ 4096 }

@@ -1,11 +1,11 @@
-//! Refusals: a failed condition, and its answer.
+//! Refusals of commands: the failure condition, and the answer.
 ghost use Rattle.std.specs.Prelude.{◌≡◌};
 ghost use Rattle.rmm_model.specs.Check as checks;
 
 use crate::Condition;
 use rmi_abi::{SmcResult, Word};
 
-/// The condition by which a command is refused, and the answer.
+/// The failure condition and the answer of a refused command.
 #[derive(Clone, Copy, Drop)]
 pub struct FailedCondition {
     pub condition: Condition,
@@ -13,8 +13,8 @@ pub struct FailedCondition {
 }
 
 impl FailedCondition {
-    /// The answer, copied field by field. So a caller keeps the answer in registers, while a copy of the whole goes
-    /// through memory.
+    /// Returns the answer of the refused command. The answer is copied field by field. So a caller keeps it in
+    /// registers, while a copy of the whole goes through memory.
     pub fn into_answer(self) -> SmcResult
         ensures { result ≡ self.answer }
     {
@@ -28,7 +28,7 @@ impl FailedCondition {
     }
 }
 
-/// A refusal by a condition, with RMI_ERROR_INPUT.
+/// Returns a refusal with RMI_ERROR_INPUT. `condition` is its failure condition.
 pub fn error_input(condition: Condition) -> FailedCondition
     ensures { result ≡ record { condition = condition; answer = checks.error_input } }
 {
@@ -38,7 +38,7 @@ pub fn error_input(condition: Condition) -> FailedCondition
     }
 }
 
-/// A refusal by a condition, with RMI_ERROR_RTT and the level of a table.
+/// Returns a refusal with RMI_ERROR_RTT and the level of a table. `condition` is its failure condition.
 pub fn error_rtt(condition: Condition, level: u8) -> FailedCondition
     ensures { result ≡ record { condition = condition; answer = checks.error_rtt level } }
 {

@@ -1,10 +1,10 @@
-//! The words of a table whose entries are the children of an entry above it.
+//! The children of a table entry, as words. They are the 512 entries of a table that replaces the entry.
 ghost use Rattle.std.specs.Prelude.{◌≡◌, ℕ, ◌^◌, ◌<◌, ◌≤◌};
 
 use crate::RmmRttEntry;
 use crate::entry::ADDRESSES;
 
-/// The words of an entry's children, which have one kind, and descriptors that rise by a fixed step.
+/// The words of an entry's children. All are of one kind, and their descriptors rise by a fixed step.
 #[derive(Clone, Copy)]
 pub struct ChildWords {
     kind: u64,
@@ -19,7 +19,7 @@ impl ChildWords {
     ghost use Rattle.rmm_model.specs.Children.{child_word};
     ghost use Rattle.rmm_model.specs.Entry as entries;
 
-    /// The words of an entry's children, in a table at the given level.
+    /// Creates the words of an entry's children. The children are in a table at the given level.
     pub fn new(parent: RmmRttEntry, level: u8) -> ChildWords
         requires { entries.descriptor_of parent < 2 ^ 48 }
         ensures { (k : ℕ) → child_word result k ≡ entries.entry_word (entries.child_entry parent level k) }

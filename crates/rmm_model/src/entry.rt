@@ -25,7 +25,8 @@ pub enum RmmRttEntry {
     AssignedNs(u64),
 }
 
-/// The entries whose RIPAS a command changes, besides UNASSIGNED entries whose RIPAS is not DESTROYED.
+/// The entries whose RIPAS a command changes. UNASSIGNED entries are always among them, unless their RIPAS is
+/// DESTROYED.
 #[derive(Clone, Copy)]
 pub struct Changeable {
     /// Whether the command changes ASSIGNED entries.
@@ -91,9 +92,9 @@ impl RmmRipas {
 }
 
 impl RmmRttEntry {
-    /// The word that encodes the entry's kind and RIPAS, to which its descriptor is added. Bits 63:56 have the kind and
-    /// the RIPAS of the entry. The bytes of an entry that is not live are all the same, so that a page of such entries
-    /// is written as one byte.
+    /// Returns the entry's word without the descriptor. This part encodes the kind and the RIPAS, and the descriptor is
+    /// added to it. Bits 63:56 have the kind and the RIPAS of the entry. The bytes of an entry that is not live are all
+    /// the same, so that a page of such entries is written as one byte.
     pub fn kind_word(self) -> u64
         ensures value { result ≡ entries.kind_word self }
         ensures most { result ≤ 2 ^ 60 }
@@ -150,7 +151,7 @@ impl RmmRttEntry {
         matches!(self, RmmRttEntry::Table(_))
     }
 
-    /// Whether the entry is a mapping: it leads to a page or a block.
+    /// Whether the entry leads to a page or a block.
     pub fn is_mapping(self) -> bool
         ensures { result ≡ entries.is_mapping self }
     {
@@ -161,7 +162,7 @@ impl RmmRttEntry {
         }
     }
 
-    /// The address or descriptor of a live entry; 0 for any other entry.
+    /// Returns the address or descriptor of a live entry. It is 0 for any other entry.
     pub fn descriptor(self) -> u64
         ensures { result ≡ entries.descriptor_of self }
     {
@@ -173,7 +174,7 @@ impl RmmRttEntry {
         }
     }
 
-    /// The RIPAS of an UNASSIGNED or ASSIGNED entry; EMPTY for any other entry.
+    /// Returns the RIPAS of an UNASSIGNED or ASSIGNED entry. It is EMPTY for any other entry.
     pub fn ripas(self) -> RmmRipas
         ensures { result ≡ entries.ripas_in self }
     {
@@ -184,7 +185,7 @@ impl RmmRttEntry {
         }
     }
 
-    /// Whether a command changes the RIPAS of the entry.
+    /// Whether the entry is among the `changeable` entries.
     pub fn can_change(self, changeable: Changeable) -> bool
         ensures { result ≡ entries.can_change changeable self }
     {
@@ -197,7 +198,8 @@ impl RmmRttEntry {
         }
     }
 
-    /// The entry with another RIPAS if it is UNASSIGNED or ASSIGNED; any other entry unchanged.
+    /// Returns the entry with the RIPAS `ripas`. An entry that is neither UNASSIGNED nor ASSIGNED is returned
+    /// unchanged.
     pub fn with_ripas(self, ripas: RmmRipas) -> RmmRttEntry
         ensures { result ≡ entries.entry_with_ripas ripas self }
     {
@@ -221,7 +223,7 @@ impl RmmRttEntry {
         }
     }
 
-    /// The RmiRipas encoding of the RIPAS of an UNASSIGNED or ASSIGNED entry; 0 for any other entry.
+    /// Returns the entry's RIPAS, encoded as an RmiRipas. It is 0 for an entry that is neither UNASSIGNED nor ASSIGNED.
     pub fn ripas_code(self) -> u64
         ensures { result ≡ entries.shown_ripas self }
     {
@@ -232,8 +234,8 @@ impl RmmRttEntry {
         }
     }
 
-    /// The step by which the descriptors of this entry's children rise in a table at the given level. Only those of a
-    /// mapping rise.
+    /// Returns the step by which the descriptors of this entry's children rise. The children are in a table at the
+    /// given level. Only the descriptors of a mapping's children rise.
     pub fn child_step(self, level: u8) -> u64
         ensures value { result ≡ entries.child_step self level }
         ensures most { result ≤ 2 ^ 39 }
@@ -245,7 +247,7 @@ impl RmmRttEntry {
         }
     }
 
-    /// The byte that fills a table of this entry's children; `None` for a live entry.
+    /// Returns the byte that fills a table of this entry's children. It is `None` for a live entry.
     pub fn repeated_byte(self) -> Option<u8>
         ensures { result ≡ entries.repeated_byte self }
     {

@@ -17,7 +17,7 @@ pub enum RmmGranuleState {
     Rtt,
 }
 
-/// The attributes of a granule, apart from its page: its state, and the RD of the realm that owns it.
+/// The attributes of a granule, apart from its page. They are its state, and the RD of the realm that owns it.
 #[derive(Clone, Copy)]
 pub struct RmmGranule {
     pub state: RmmGranuleState,
@@ -25,7 +25,7 @@ pub struct RmmGranule {
 }
 
 impl RmmGranule {
-    /// The attributes of an UNDELEGATED granule, which each granule has at the start.
+    /// The attributes of an UNDELEGATED granule. Each granule has them at the start.
     pub const UNDELEGATED: RmmGranule = RmmGranule {
         state: RmmGranuleState::Undelegated,
         owner: None,

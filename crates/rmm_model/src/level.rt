@@ -1,4 +1,4 @@
-//! Levels of translation tables, and the entry that covers an address at a level.
+//! Levels of translation tables. The level decides the size of an entry, and which entry covers an address.
 //!
 //! The size of an entry is written as a power of two, so that no division or multiplication by it is left in the
 //! program. A remainder by a known size is cheaper still, and has an arm of its own for each level.
@@ -19,7 +19,8 @@ fn entry_shift(level: u8) -> u8
     }
 }
 
-/// The number of bytes that an entry at a level covers: 4 KiB, 2 MiB, 1 GiB or 512 GiB. RMM 1.0, RTT level.
+/// Returns the number of bytes that an entry at a level covers. It is 4 KiB, 2 MiB, 1 GiB or 512 GiB. RMM 1.0, RTT
+/// level.
 #[tactic(auto, unfolding(crate::specs::Level::entry_size))]
 pub fn entry_size(level: u8) -> u64
     ensures value { result ≡ levels.entry_size level }
@@ -29,14 +30,15 @@ pub fn entry_size(level: u8) -> u64
     1 << entry_shift(level)
 }
 
-/// The number of the entry that covers an address at a level. The entry of address 0 has number 0.
+/// Returns the number of the entry that covers an address. All entries of the level are numbered, and the entry of
+/// address 0 has number 0.
 pub fn entry_number(level: u8, address: u64) -> u64
     ensures { result ≡ address / levels.entry_size level }
 {
     address >> entry_shift(level)
 }
 
-/// The offset of an address within the entry that covers it at a level.
+/// Returns the offset of an address within an entry. The entry is the one at the level that covers the address.
 #[tactic(auto, unfolding(crate::specs::Level::entry_size))]
 pub fn entry_offset(level: u8, address: u64) -> u64
     ensures value { result ≡ address % levels.entry_size level }
@@ -50,7 +52,7 @@ pub fn entry_offset(level: u8, address: u64) -> u64
     }
 }
 
-/// The index of the entry that covers an address, among the 512 entries of its table.
+/// Returns the index of the entry that covers an address. The index is among the 512 entries of the entry's table.
 #[tactic(auto, unfolding(crate::specs::Level::entry_index))]
 pub fn entry_index(level: u8, ipa: u64) -> u16
     ensures value { result ≡ levels.entry_index level ipa }

@@ -11,7 +11,7 @@ use sha2::{Digest, Sha256, Sha512};
 /// RmmMeasurementDescriptorRipas.
 #[derive(Clone, Copy)]
 pub enum Extension {
-    /// A page of data: its address, the flags of RMI_DATA_CREATE, and its digest or zeros.
+    /// A page of data. The flags are those of RMI_DATA_CREATE. The digest is zeros if the content is not measured.
     Data {
         ipa: u64,
         flags: u64,
@@ -21,7 +21,7 @@ pub enum Extension {
     Rec {
         digest: [u8; 64],
     },
-    /// Addresses that become RAM.
+    /// A range of addresses whose RIPAS becomes RAM.
     Ripas {
         base: u64,
         top: u64,
@@ -56,7 +56,7 @@ fn hash_params<D: Digest>(p: &RealmParams) -> D::Output
     hasher.finalize()
 }
 
-/// The measurement of a new realm: the hash of a page with the parameters that are measured.
+/// Returns the measurement of a new realm. It is the hash of a page with the parameters that are measured.
 #[tactic(auto, unfolding(crate::specs::Measure::initial, crate::specs::Measure::digest))]
 pub fn initial(hash: HashAlgorithm, params: &RealmParams) -> [u8; 64]
     ensures { result ≡ measures.initial hash params.now }
@@ -154,7 +154,7 @@ fn hash_rec<D: Digest>(page: &[u8]) -> D::Output
     hasher.finalize()
 }
 
-/// The digest of the measured parameters of a REC: flags, pc and gprs.
+/// Returns the digest of a REC's measured parameters. They are flags, pc and gprs 0 to 7.
 #[tactic(auto, unfolding(crate::specs::Measure::rec_digest, crate::specs::Measure::digest))]
 pub fn rec_digest(hash: HashAlgorithm, page: &[u8]) -> [u8; 64]
     requires { length page.now ≡ 4096 }

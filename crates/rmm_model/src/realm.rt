@@ -39,7 +39,7 @@ pub struct RttWalk {
     pub level: u8,
 }
 
-/// The number of starting tables at a level for an address space of `s2sz` bits.
+/// Returns the number of a realm's starting tables. They are at `level`, and serve an address space of `s2sz` bits.
 #[tactic(auto, unfolding(crate::specs::Realm::start_count))]
 pub fn start_count(s2sz: u8, level: u8) -> u64
     requires { s2sz ≤ 48 }

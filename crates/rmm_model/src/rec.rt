@@ -24,8 +24,8 @@ pub struct RipasRequest {
     pub changes_destroyed: bool,
 }
 
-/// The PSCI request of a REC: none, one that the host has to complete, or the result of one that is complete.
-/// RMM 1.0, attribute psci_pending.
+/// The PSCI request of a REC, if any. The host has to complete it, or it is complete and has a result. RMM 1.0,
+/// attribute psci_pending.
 #[derive(Clone, Copy)]
 pub enum PsciRequest {
     None,
@@ -40,18 +40,19 @@ pub enum PsciRequest {
     Complete(u64),
 }
 
-/// The last exit of a REC, which its next entry has to answer. RMM 1.0, attributes host_call and emulatable_abort.
+/// The kind of the last exit from a REC. It decides the result that the guest gets at the next RMI_REC_ENTER. RMM 1.0,
+/// attributes host_call and emulatable_abort.
 #[derive(Clone, Copy)]
 pub enum LastExit {
-    /// No exit, or one that no entry answers.
+    /// No exit yet, or an exit of a kind without its own variant.
     Other,
     HostCall,
     RipasChange,
-    /// An abort at an unprotected address that the host can emulate.
+    /// An emulatable data abort at an unprotected address. The host can emulate the access.
     EmulatableAbort,
     /// Any other abort at an unprotected address.
     UnprotectedAbort,
-    /// A write of a system register.
+    /// A write to a system register.
     SystemRegister,
 }
 
@@ -84,7 +85,7 @@ impl RipasRequest {
 }
 
 impl RmmRec {
-    /// A new REC.
+    /// Creates a REC.
     pub fn new(is_runnable: bool, mpidr: u64) -> RmmRec
         ensures { result ≡ recs.new_rec is_runnable mpidr }
     {
@@ -108,7 +109,7 @@ impl RmmRec {
         matches!(self.state, RmmRecState::Running)
     }
 
-    /// Whether the REC is on in the sense of PSCI, that is, runnable or RUNNING.
+    /// Whether the REC is on in the sense of PSCI. A REC is on if it is runnable or RUNNING.
     pub fn is_on(&self) -> bool
         ensures { result ≡ recs.is_on self.now }
     {
@@ -116,7 +117,7 @@ impl RmmRec {
     }
 }
 
-/// The address of auxiliary granule `k`, read from the page of a REC.
+/// Reads the address of auxiliary granule `k` from a REC's page.
 pub fn aux_address(page: &[u8], k: u8) -> u64
     requires page { length page.now ≡ 4096 }
     requires below { k < 16 }

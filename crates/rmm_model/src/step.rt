@@ -6,7 +6,7 @@ use crate::{AccessSize, LastExit};
 use page_arena::word_in;
 use rmi_abi::RecExit;
 
-/// A step of a guest, such as an access, an RSI or PSCI call, or a wait. This RMM's own: a guest is simulated.
+/// A step of a guest. Examples are an access, an RSI or PSCI call, and a wait. This RMM's own: a guest is simulated.
 #[derive(Clone, Copy)]
 pub enum GuestStep {
     Write {
@@ -55,16 +55,16 @@ pub enum GuestStep {
     Spin,
 }
 
-/// The result of a step, as its guest sees it.
+/// The result of a guest's step, as the guest sees it.
 #[derive(Clone, Copy)]
 pub enum StepResult {
     Done,
     Read(u64),
-    /// An external abort.
+    /// A synchronous external abort.
     Sea,
     Psci(u64),
     RsiErrorInput,
-    /// An accepted change of RIPAS, up to an address.
+    /// An accepted change of RIPAS, and the address that the change reached.
     Accepted(u64),
     Rejected(u64),
     /// The host's answer to a host call.
@@ -98,7 +98,7 @@ pub struct StepWords {
 }
 
 impl StepWords {
-    /// The step that the words encode; words of an unknown kind encode a guest that spins.
+    /// Returns the step that the words encode. It is `Spin` if the kind is unknown.
     pub fn step(&self) -> GuestStep
         ensures { result ≡ guests.step_of self.now }
     {
@@ -146,7 +146,7 @@ impl StepWords {
         }
     }
 
-    /// The words at position `place` in the ring of steps in a REC's page.
+    /// Reads the words of a step from a REC's page. They are at position `place` in the ring of steps.
     #[tactic(auto, unfolding(crate::specs::Guest::words_at))]
     pub fn read(page: &[u8], place: u8) -> StepWords
         requires page { length page.now ≡ 4096 }

@@ -8,7 +8,7 @@ use crate::entry::LEAST_LIVE;
 use crate::{Changeable, ChildWords, RmmRttEntry, entry_from_word};
 use page_arena::word_in;
 
-/// The index of a table's first live entry from `from` on, or 512 if there is none.
+/// Finds a table's first live entry from `from` on. Returns the index of the entry, or 512 if there is none.
 #[tactic(auto, unfolding(crate::specs::Table::entry_in_page))]
 pub fn first_live(page: &[u8], from: u16) -> u16
     requires page { length page.now ≡ 4096 }
@@ -59,8 +59,8 @@ pub fn has_live(page: &[u8]) -> bool
     false
 }
 
-/// The index of a table's first entry from `from` on whose RIPAS a command does not change; `end` if there is none
-/// before it.
+/// Finds a table's first entry whose RIPAS a command does not change. The search begins at `from`. Returns the index of
+/// the entry, or `end` if there is none before `end`.
 pub fn first_fixed(page: &[u8], changeable: Changeable, from: u16, end: u16) -> u16
     requires page { length page.now ≡ 4096 }
     requires from { from ≤ end }
@@ -77,7 +77,8 @@ pub fn first_fixed(page: &[u8], changeable: Changeable, from: u16, end: u16) -> 
     end
 }
 
-/// Whether a table at the given level consists of the children of `whole`, an entry above it.
+/// Whether a table consists of the children of `whole`. The table is at the given level, and `whole` is an entry above
+/// it.
 pub fn has_parts(page: &[u8], whole: RmmRttEntry, level: u8) -> bool
     requires page { length page.now ≡ 4096 }
     requires whole { descriptor_of whole < 2 ^ 48 }

@@ -1,4 +1,4 @@
-//! The content of a question: the registers of a call, and the values of its groups.
+//! The contents of questions. They are the registers of calls, and the values of groups.
 ghost use Rattle.std.specs.Prelude.{◌≡◌};
 ghost use Rattle.rmm_trace.specs.Access.{number_or_zero, number_at, operand_at, after_name, call_registers};
 
@@ -6,7 +6,7 @@ use crate::compare::atom_number;
 use crate::place::{PLATFORM, SMC};
 use crate::word::{Atom, TraceWord};
 
-/// The function identifiers of the commands, each at the index of the command's name. RMM 1.0, RMI commands.
+/// The function identifiers of the commands. Each is at the index of the command's name. RMM 1.0, RMI commands.
 pub const FUNCTIONS: [u64; 23] = [
     // rmi_version to rmi_granule_undelegate
     0xC400_0150,
@@ -54,7 +54,8 @@ pub(crate) fn number_at(word: TraceWord, round: u64) -> u64
     number_or_zero(Some(word.value)).wrapping_add(number_or_zero(word.step).wrapping_mul(round))
 }
 
-/// The number of the word at an index in a round of a `repeat`, or 0 if there is no such word.
+/// Returns the number of the word at an index. It is the number in a round of a `repeat`, and 0 if there is no such
+/// word.
 pub fn operand(words: &[TraceWord], place: usize, round: u64) -> u64
     ensures { result ≡ operand_at words.now place round }
 {
@@ -64,7 +65,7 @@ pub fn operand(words: &[TraceWord], place: usize, round: u64) -> u64
     }
 }
 
-/// The words after the first word that is the name `name`; empty if there is no such word.
+/// Returns the words after the first occurrence of a name. There are none if the name does not occur.
 pub fn after_name(words: &[TraceWord], name: usize) -> &[TraceWord]
     ensures { result.now ≡ after_name name words.now }
 {
@@ -80,7 +81,7 @@ pub fn after_name(words: &[TraceWord], name: usize) -> &[TraceWord]
     left
 }
 
-/// The registers X0 to X6 of a call, written with its name or as `smc`, in a round of a `repeat`.
+/// Returns the registers X0 to X6 of a call. The call is by name or as `smc`, and in a round of a `repeat`.
 pub fn call_registers(call: &[TraceWord], round: u64) -> Option<[u64; 7]>
     ensures { result ≡ call_registers call.now round }
 {

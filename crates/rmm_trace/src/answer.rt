@@ -11,7 +11,7 @@ use crate::word::{Atom, TraceWord};
 /// The value of X0 if the guest of an entered REC keeps running.
 pub const RUNS_ON: u64 = 0xFFFF_FFFF_FFFF_FFFE;
 
-/// The word that is an atom alone, without mask, step and comma.
+/// Creates a word that consists of an atom alone. It has no mask, no step and no comma.
 pub fn plain(value: Atom) -> TraceWord
     ensures { result ≡ plain value }
 {
@@ -23,7 +23,7 @@ pub fn plain(value: Atom) -> TraceWord
     }
 }
 
-/// The atom for a result in X0: the name of its status, or the number if no name fits.
+/// Returns the atom for a result in X0. It is the name of the result's status, or X0 in hexadecimal if no name fits.
 pub fn status_of(x0: u64) -> Atom
     ensures { result ≡ status_of x0 }
 {
@@ -36,7 +36,8 @@ pub fn status_of(x0: u64) -> Atom
     Atom::Name(RMI_SUCCESS + (x0 % 256) as usize)
 }
 
-/// The index of a result in X0, if the index is not 0, or the status is RMI_ERROR_RTT.
+/// Returns the index of a result in X0. It is `None` if X0 is no result, or if the index is 0 and the status is not
+/// RMI_ERROR_RTT.
 pub fn index_of(x0: u64) -> Option<Atom>
     ensures { result ≡ index_of x0 }
 {
@@ -49,8 +50,8 @@ pub fn index_of(x0: u64) -> Option<Atom>
     Some(Atom::Decimal(x0 / 256))
 }
 
-/// The atom for the value of an output: in decimal for levels and counts, by name for states and reasons, else in
-/// hexadecimal.
+/// Returns the atom for the value of an output. Levels and counts are in decimal. Known states, RIPAS and exit reasons
+/// are names, and other values are in hexadecimal.
 pub fn output_atom(name: usize, value: u64) -> Atom
     ensures { result ≡ output_atom name value }
 {
@@ -84,7 +85,7 @@ fn list_last(answer: &mut Sentence)
     });
 }
 
-/// Appends a word to an answer, with a comma before it if it begins a further part.
+/// Appends a word to an answer. If the word begins another part, a comma comes before it.
 pub fn push_word(answer: &mut Sentence, word: TraceWord, is_part: bool)
     requires { length answer.old.items < 64 }
     ensures { answer.new.items ≡ listed is_part answer.old.items ++ word ∷ [] }

@@ -1,5 +1,5 @@
-//! The comparison of an answer written in a trace with the answer of our model of an RMM. What is not written is not
-//! compared.
+//! The comparison of answers in a trace with a model's answers. The model is our model of an RMM. What is not written
+//! is not compared.
 ghost use Rattle.std.specs.Prelude.{◌≡◌, ◌<◌, ◌∷◌, length};
 ghost use Rattle.std.specs.List.{list_any};
 ghost use Rattle.rmm_trace.specs.Compare.{is_name_among, ordinal, atom_number, mask_of, is_same_number, is_same_atom};
@@ -50,7 +50,7 @@ fn ordinal(place: usize) -> Option<u64>
     None
 }
 
-/// The number that an atom means, if it means one.
+/// Returns the number that an atom represents. It is `None` for a name without a number.
 pub fn atom_number(atom: Atom) -> Option<u64>
     ensures { result ≡ atom_number atom }
 {
@@ -108,7 +108,7 @@ fn is_same_value(written: TraceWord, ours: TraceWord) -> bool
     is_dash(written.value) || is_same_atom(mask_of(written.mask), written.value, ours.value)
 }
 
-/// Whether a word can be written for a register: a number or `-`, with no comma after it.
+/// Whether a word can be written for a register. Such a word represents a number or is `-`, and has no comma after it.
 pub fn is_register(word: TraceWord) -> bool
     ensures { result ≡ is_register word }
 {
@@ -129,7 +129,7 @@ const ZERO: TraceWord = TraceWord {
     is_listed: false,
 };
 
-/// The first word and the words after it; the first word is 0 if there is none.
+/// Splits words into the first one and the rest. For an empty list, the results are the number 0 and an empty list.
 pub fn split_word(words: &[TraceWord]) -> (TraceWord, &[TraceWord])
     ensures first { result.0 ≡ first_of words.now }
     ensures rest { result.1.now ≡ rest_of words.now }
@@ -294,7 +294,7 @@ fn are_first(written: &[TraceWord], ours: &[TraceWord]) -> bool
 
 // ---- checks
 
-/// Pairs of a command and one of its checks whose name is unsure, or is not from the standard.
+/// Checks whose names are uncertain or not from the standard. Each pair is a command and one of its checks.
 pub const UNSURE: [(usize, usize); 20] = [
     (RMI_VERSION, CHECK_VERSION),
     (RMI_DATA_CREATE, CHECK_FLAGS_VALID),

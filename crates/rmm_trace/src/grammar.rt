@@ -1,4 +1,5 @@
-//! The grammar of questions: the types of its table of word groups, and the check that words are a question.
+//! The grammar of questions. This file has the types for the table of word groups, and the check that words form a
+//! question.
 ghost use Rattle.std.specs.Prelude.{◌≡◌, Some};
 ghost use Rattle.std.specs.Option.{option_copied};
 ghost use Rattle.rmm_trace.specs.Grammar.{is_number_of, is_of_kind, kind_at, row_of};
@@ -20,10 +21,10 @@ pub struct ValueKind {
     pub name_count: usize,
 }
 
-/// A group of words: its name, the number and the kinds of its values, and the groups that may follow.
+/// A group of words. It has a name, the number and the kinds of its values, and the groups that may follow.
 #[derive(Clone, Copy)]
 pub struct Group {
-    /// The contexts in which the group may come, a bit each.
+    /// The contexts in which the group may come. Each context has one bit.
     pub contexts: u64,
     pub name: usize,
     pub least: usize,
@@ -32,26 +33,27 @@ pub struct Group {
     pub second: ValueKind,
     pub third: ValueKind,
     pub others: ValueKind,
-    /// The context of the groups that may follow, or 0 if none may.
+    /// The context of the groups that may follow. It is 0 if none may.
     pub opens: u64,
     /// Whether a question may end with the group.
     pub is_last: bool,
-    /// The group's own bit, and the bits of the groups that may not come before it.
+    /// The group's own bit.
     pub bit: u64,
+    /// The bits of the groups that may not come before this group.
     pub excludes: u64,
 }
 
-/// A place in a question: the group that is being read, and the number of its values so far.
+/// A place in a question. It has the group that is being read, and the number of the group's values so far.
 #[derive(Clone, Copy)]
 pub struct Place {
     pub group: Group,
     pub context: u64,
     pub count: usize,
-    /// The bits of the groups that have come.
+    /// The bits of all groups in the question so far.
     pub seen: u64,
 }
 
-/// The context in which operands may have a step: inside a `repeat`.
+/// The context inside a `repeat`. Operands may have a step there.
 pub const REPEATED: u64 = 2;
 
 fn is_number_of(kind: &ValueKind, number: u64) -> bool
@@ -159,8 +161,7 @@ impl Place {
     }
 }
 
-/// Whether words continue a question from the place `start` to the question's end. One place is kept, and changed by
-/// each word.
+/// Whether words complete a question from the place `start` on. One place is kept, and changed by each word.
 pub fn accepts(groups: &[Group], start: Place, words: &[TraceWord]) -> bool
     ensures { result ≡ accepts groups.now (Some start) words.now }
 {

@@ -1,4 +1,4 @@
-//! Theorems about the text of traces: what is printed is read back, and names are unique.
+//! Theorems about the text of traces. What is printed is read back, and names are unique.
 ghost use Rattle.std.specs.Prelude.{◌≡◌, ◌≤◌, ◌==◌, ◌++◌, true, ℕ, List, Some, length, codes};
 ghost use Rattle.hex.specs.Hex.{encode_lower, IsBytes};
 ghost use Rattle.std.specs.List.{slice_split};
@@ -21,7 +21,7 @@ pub fn sentences_are_injective()
     ensures { (vs ws : List TraceWord) → IsSentence vs → IsSentence ws → sentence_text vs ≡ sentence_text ws → vs ≡ ws }
 {}
 
-/// A line that is a question's text is read as that question.
+/// Printed questions are read back. A line that is a question's text is read as that question.
 pub fn printed_questions_are_read_back()
     ensures { (groups : List Group) (start : Place) (ws : List TraceWord)
         → IsSentence ws → is_question groups start ws ≡ true
@@ -29,7 +29,8 @@ pub fn printed_questions_are_read_back()
         → line_in groups start (sentence_text ws) ≡ question_of (record { items = ws }) }
 {}
 
-/// A line that has a question's text, ` = ` and an answer's text is read as that question.
+/// Answered questions are read back. A line that consists of a question's text, ` = ` and an answer's text is read as
+/// that question.
 pub fn answered_questions_are_read_back()
     ensures { (groups : List Group) (start : Place) (ws vs : List TraceWord)
         → IsSentence ws → IsSentence vs → is_question groups start ws ≡ true
@@ -38,7 +39,8 @@ pub fn answered_questions_are_read_back()
         ≡ question_of (record { items = ws }) }
 {}
 
-/// The text of an answer is read back from a line that has it after a question's text and ` = `.
+/// Printed answers are read back. Each is read from a line that consists of a question's text, ` = ` and the answer's
+/// text.
 pub fn printed_answers_are_read_back()
     ensures { (ws vs : List TraceWord) → IsSentence vs
         → answer_in (bare_text (sentence_text ws ++ (codes " = " ++ sentence_text vs))) ≡ Some (sentence_text vs) }
@@ -49,12 +51,12 @@ pub fn measurement_texts_are_injective()
     ensures { (a b : List ℕ) → IsBytes a → IsBytes b → encode_lower a ≡ encode_lower b → a ≡ b }
 {}
 
-/// Each constant for the index of a name is the index of that name in the table of names.
+/// Each constant for a name is the name's index. The index is that in the table of names.
 pub fn places_are_of_their_names()
     ensures { are_places_named ≡ true }
 {}
 
-/// Each command has its name, its function identifier and its operands in the tables.
+/// Each command is in the tables. They have its name, its function identifier and its operands.
 pub fn commands_have_their_rows()
     ensures { are_commands_named ≡ true }
 {}

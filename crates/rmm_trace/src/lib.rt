@@ -1,4 +1,4 @@
-//! Traces of an RMM that is called in registers: the reading of lines, the text of words, and the comparison of
+//! Traces of an RMM whose callers pass operands in registers. The crate reads lines, prints words as text, and compares
 //! answers.
 //!
 //! A line is words with one space between two. A word is a name or a number, with what may stand after it: a mask after

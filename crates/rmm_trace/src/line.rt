@@ -13,7 +13,7 @@ use crate::sentence::{Sentence, read_into};
 use crate::table::{GROUPS, START};
 use crate::word::TraceWord;
 
-/// The largest number of bytes in a line that is a question.
+/// The greatest length of a question's line, in bytes.
 pub const MOST_LINE: usize = 65_536;
 
 /// The kind of a line.
@@ -88,7 +88,7 @@ fn cut_sign(text: &[u8]) -> (&[u8], Option<&[u8]>)
     (text, None)
 }
 
-/// The text of a line's question, and that of its answer after ` = ` if there is one.
+/// Splits a line into its question and its answer. The answer is the text after ` = `, if the line has one.
 pub fn cut_line(line: &[u8]) -> (&[u8], Option<&[u8]>)
     ensures question { result.0.now ≡ before_answer (bare_text line.now) }
     ensures answer { option_copied result.1 ≡ answer_in (bare_text line.now) }
@@ -104,7 +104,7 @@ fn is_question(groups: &[Group], start: Place, words: &[TraceWord]) -> bool
 }
 
 impl RmmTraceLine {
-    /// A line that is a remark, without words.
+    /// Creates a line that is a remark without words.
     pub fn new() -> RmmTraceLine
         ensures { result ≡ without_words Remark }
     {
@@ -150,10 +150,9 @@ impl RmmTraceLine {
         }
     }
 
-    /// Parses a line into `self`, and returns the text of the answer that is written in the line, if there is one. It
-    /// takes no memory.
+    /// Parses a line into `self`. Returns the text of the line's answer, if any. The function takes no memory.
     ///
-    /// A question in more than `MOST_LINE` bytes is no command.
+    /// A line of more than `MOST_LINE` bytes is no question.
     pub fn parse<'a>(&mut self, line: &'a [u8]) -> Option<&'a [u8]>
         ensures line { self.new ≡ line_in GROUPS START line.now }
         ensures written { option_copied result ≡ answer_in (bare_text line.now) }

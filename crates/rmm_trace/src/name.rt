@@ -313,7 +313,7 @@ pub fn find_name(text: &[u8]) -> Option<usize>
     place_from(&NAMES, 0, text)
 }
 
-/// The text of the name at an index, or an empty text past the last name.
+/// Returns the text of the name at an index. It is empty past the last name.
 pub fn name_text(place: usize) -> &'static str
     ensures { result.now ≡ nth_text place names }
 {

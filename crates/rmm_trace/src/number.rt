@@ -1,4 +1,4 @@
-//! Numbers in decimal, and in hexadecimal after `0x`, without leading zeros.
+//! Decimal and hexadecimal numbers, without leading zeros. A hexadecimal number comes after `0x`.
 ghost use Rattle.std.specs.Prelude.{◌≡◌};
 ghost use Rattle.rmm_trace.specs.Numbers.{digit_of, value_after, plain_value};
 
@@ -30,7 +30,7 @@ fn value(base: u64, digits: &[u8]) -> Option<u64>
     Some(value)
 }
 
-/// The 64-bit number that the digits spell in a base, if there is a digit and there are no leading zeros.
+/// Returns the 64-bit number that the digits spell in a base. There must be a digit, and no leading zeros.
 pub(crate) fn plain_value(base: u64, digits: &[u8]) -> Option<u64>
     ensures { result ≡ plain_value base digits.now }
 {

@@ -1,5 +1,4 @@
-//! Constants for the indices of names in the table of all names. The theorem `places_are_of_their_names` says whose
-//! they are.
+//! Indices in the table of all names, as constants. The theorem `places_are_of_their_names` says whose they are.
 pub const RMI_VERSION: usize = 0;
 
 pub const RMI_FEATURES: usize = 1;

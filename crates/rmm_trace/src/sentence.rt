@@ -1,4 +1,4 @@
-//! Sentences: words that are separated by one space.
+//! Sentences: words that are separated by single spaces.
 ghost use Rattle.std.specs.Prelude.{◌≡◌, ◌==◌, [], option_map};
 ghost use Rattle.std.specs.List.{slice_split};
 ghost use Rattle.rmm_trace.specs.Sentences.{if_read, words_in};
@@ -11,10 +11,11 @@ use std::fmt;
 /// The largest number of words in a sentence.
 pub const MOST_WORDS: usize = 64;
 
-/// A sentence: its words.
+/// The words of a sentence.
 pub type Sentence = ArrayVec<TraceWord, MOST_WORDS>;
 
-/// Reads the words of a text into an empty sentence, and returns whether the text is a sentence. It takes no memory.
+/// Reads the words of a text into an empty sentence. Returns whether the text is a sentence. The function takes no
+/// memory.
 ///
 /// A sentence has 64 places. It is filled where it stays, since a move costs more than the reading.
 pub fn read_into(text: &[u8], words: &mut Sentence) -> bool
@@ -66,7 +67,7 @@ impl fmt::Display for SpacedWords<'_> {
     }
 }
 
-/// The text of words, with one space between two.
+/// Words that are displayed with single spaces between them.
 #[derive(Clone, Copy)]
 pub struct SentenceText<'a>(pub &'a [TraceWord]);
 

@@ -1,4 +1,4 @@
-//! The table of the groups of words that make up questions, with a row for each group.
+//! The groups of words that make up questions, as a table. The table has a row for each group.
 use crate::grammar::{Group, Place, REPEATED, ValueKind};
 use crate::place::*;
 
@@ -191,7 +191,7 @@ macro_rules! field {
     };
 }
 
-/// The place at the beginning of a question, where no question may end.
+/// The place at the beginning of a question. A question may not end there.
 pub const START: Place = Place {
     group: group!(0, 0, 0, 0, [ANY, ANY, ANY, ANY], LINE, false),
     context: 0,

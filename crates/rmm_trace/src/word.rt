@@ -1,4 +1,4 @@
-//! Words of a line: a name or a number, with an optional mask, step and comma.
+//! Words of a line. A word is a name or a number, with an optional mask, step and comma.
 ghost use Rattle.std.specs.Prelude.{◌≡◌};
 ghost use Rattle.std.specs.Option.{option_copied};
 ghost use Rattle.rmm_trace.specs.Words.{number_in, atom_in, tail_in, comma_in, word_in};
@@ -18,7 +18,7 @@ pub enum Atom {
     Hexadecimal(u64),
 }
 
-/// A word: a value, with an optional mask after `/`, step after `+`, and comma.
+/// A word of a line. It has a value, with an optional mask after `/`, step after `+`, and comma.
 #[derive(Clone, Copy)]
 pub struct TraceWord {
     pub value: Atom,

@@ -34,7 +34,7 @@ impl Model for Entry {
 }
 
 impl Entry {
-    /// An entry that leads to nothing.
+    /// Creates an entry that leads to nothing.
     pub fn unassigned(ripas: Ripas) -> Entry
         ensures { result ≡ rows.unassigned ripas }
     {
@@ -45,7 +45,7 @@ impl Entry {
         }
     }
 
-    /// An entry that leads to a page of data.
+    /// Creates an entry that leads to a page of data.
     pub fn assigned(ripas: Ripas, page: Gran) -> Entry
         ensures { result ≡ rows.assigned ripas page }
     {
@@ -56,7 +56,7 @@ impl Entry {
         }
     }
 
-    /// An entry that leads to a table.
+    /// Creates an entry that leads to a table.
     pub fn table(table: Gran) -> Entry
         ensures { result ≡ rows.table table }
     {
@@ -79,7 +79,7 @@ impl Entry {
         matches!(self.state, EntryState::Assigned)
     }
 
-    /// The granule of the data page that the entry leads to, if the entry is ASSIGNED.
+    /// Returns the granule of an ASSIGNED entry's page of data. It is `None` for any other entry.
     pub fn page(self) -> Option<Gran>
         ensures { result ≡ rows.data_of self }
     {
@@ -95,7 +95,7 @@ impl Entry {
         matches!(self.state, EntryState::Table)
     }
 
-    /// The granule of the table that the entry leads to, if the entry is TABLE.
+    /// Returns the granule of the table that a TABLE entry leads to. It is `None` for any other entry.
     pub(crate) fn child(self) -> Option<Gran>
         ensures { result ≡ rows.table_of self }
     {
@@ -127,7 +127,7 @@ impl Entry {
         kind + ripas * 4 + address
     }
 
-    /// The entry that a word encodes; each word encodes one.
+    /// Returns the entry that a word encodes. Each word encodes one.
     pub fn from_word(word: u64) -> Entry
         ensures { result ≡ entry_of word }
     {

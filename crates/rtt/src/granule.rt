@@ -2,7 +2,7 @@
 use granule_addr::Gran;
 use realm_model::GranuleState;
 
-/// The attributes that the RMM keeps of a granule. RMM 1.0, Granule attributes.
+/// The attributes that the RMM keeps for a granule. RMM 1.0, Granule attributes.
 #[derive(Clone, Copy)]
 pub struct Granule {
     pub state: GranuleState,
@@ -11,7 +11,7 @@ pub struct Granule {
 }
 
 impl Granule {
-    /// An UNDELEGATED granule of no realm, the initial value of each granule.
+    /// An UNDELEGATED granule of no realm. It is the initial value of each granule.
     pub const UNDELEGATED: Granule = Granule {
         state: GranuleState::Undelegated,
         realm: None,

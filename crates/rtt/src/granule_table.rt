@@ -28,7 +28,7 @@ impl Model for GranuleTable {
 }
 
 impl GranuleTable {
-    /// Returns the table of a machine of `pages` pages, with each granule UNDELEGATED and of no realm.
+    /// Creates the table of a machine of `pages` pages. Each granule is UNDELEGATED and of no realm.
     pub fn build(alloc: Global, pages: u16) -> Result<GranuleTable, AllocError>
         requires some { 1 ≤ pages }
         requires few { pages ≤ 4096 }
@@ -63,8 +63,8 @@ impl GranuleTable {
         self.granules[granule.number() as usize].realm
     }
 
-    /// Moves a granule from the state `from` to the state `to`, and sets or clears its realm. Returns `false`, with
-    /// nothing changed, exactly if the granule is not in the state `from`.
+    /// Moves a granule from the state `from` to the state `to`. The granule then belongs to the given realm, or to
+    /// none. If its state is not `from`, the function changes nothing and returns `false`.
     pub fn shift(
         &mut self,
         granule: Gran,

@@ -1,4 +1,4 @@
-//! The states of a machine's granules, and the translation tables of realms, which are words in the pages of granules
+//! The states of a machine's granules, and the translation tables of realms. Tables are words in the pages of granules
 //! whose state is RTT.
 //!
 //! A `GranuleTable` is seen as the list of its granules, each with its state and the realm that it belongs to. A shift

@@ -19,8 +19,8 @@ use page_arena::PageStore;
 use realm_model::{GranuleState, Ripas};
 
 impl Tables {
-    /// Maps a DELEGATED granule at an IPA granule, as a page of data. Its bytes stay. The entry gets the given RIPAS,
-    /// or keeps its own if none is given.
+    /// Maps a DELEGATED granule as a page of data at an IPA granule. The bytes of the page stay. The entry gets the
+    /// given RIPAS, or keeps its own if none is given.
     ///
     /// RMM 1.0, RMI_DATA_CREATE, with RIPAS RAM, and RMI_DATA_CREATE_UNKNOWN, with none. RMI_ERROR_RTT comes with the
     /// level at which the walk ended, unless that is 3 and the entry there is UNASSIGNED. A refusal changes nothing.
@@ -68,7 +68,7 @@ impl Tables {
         Ok(())
     }
 
-    /// Unmaps the page of data at an IPA granule; the page becomes zero and DELEGATED.
+    /// Unmaps the page of data at an IPA granule. The page becomes zero and DELEGATED.
     ///
     /// RMM 1.0, RMI_DATA_DESTROY. RMI_ERROR_RTT comes with the level at which the walk ended, unless that is 3 and the
     /// entry there is ASSIGNED. A refusal changes nothing.
@@ -116,7 +116,8 @@ impl Tables {
         Ok(())
     }
 
-    /// Sets to RAM the RIPAS of `count` IPA granules that one table of level 3 serves, or refuses and changes nothing.
+    /// Sets the RIPAS of `count` IPA granules to RAM. One table of level 3 serves all of them. A refusal changes
+    /// nothing.
     ///
     /// RMM 1.0, RMI_RTT_INIT_RIPAS. Refused with RMI_ERROR_RTT and the level at which the walk ended, unless that is 3
     /// and all the entries are UNASSIGNED.

@@ -1,4 +1,4 @@
-//! Entries in the pages of tables.
+//! The reading and writing of entries in the pages of tables.
 ghost use Rattle.std.specs.Prelude.{◌≡◌, ◌≢◌, ◌↔◌, ◌⊎◌, ℕ, ◌+◌, ◌<◌, ◌≤◌, true, false, length, IsTrue};
 ghost use Rattle.page_arena.specs.Page.{page_at, is_free};
 ghost use Rattle.page_arena.specs.Word.{word_at, with_word};

@@ -6,7 +6,8 @@ use granule_addr::Level;
 use realm_model::{Rmi, Status};
 use thiserror::Error;
 
-/// A refusal: the level of the table whose entry is not what the call needs. RMM 1.0, RMI_ERROR_RTT.
+/// The refusal of a call on tables. It has the level of the table whose entry is not what the call needs. RMM 1.0,
+/// RMI_ERROR_RTT.
 #[derive(Clone, Copy, Debug, Drop, Error)]
 #[error("the entry at level {} is not what is needed", .level.number())]
 pub struct Rtt {

@@ -18,7 +18,7 @@ use page_arena::PageStore;
 use realm_model::GranuleState;
 
 impl Tables {
-    /// Makes DELEGATED granules the starting tables of a new realm, with all entries UNASSIGNED and EMPTY.
+    /// Creates the starting tables of a new realm in DELEGATED granules. All entries are UNASSIGNED and EMPTY.
     ///
     /// RMM 1.0, RMI_REALM_CREATE.
     pub fn open_root<S: PageStore>(&self, store: &mut S, granules: &mut GranuleTable)
@@ -40,7 +40,7 @@ impl Tables {
         self.clear_starting_tables(store, granules, GranuleState::Delegated, &table);
     }
 
-    /// Clears the starting tables of a realm that is destroyed, makes them DELEGATED, and returns `true`. Returns
+    /// Clears the starting tables of a realm that is destroyed. Makes them DELEGATED, and returns `true`. Returns
     /// `false`, and changes nothing, if and only if an entry of a starting table is TABLE.
     ///
     /// RMM 1.0, RMI_REALM_DESTROY, which answers RMI_ERROR_REALM where this returns `false`.

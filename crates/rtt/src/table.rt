@@ -19,9 +19,9 @@ use page_arena::PageStore;
 use realm_model::{GranuleState, Ripas};
 
 impl Tables {
-    /// Creates the table that serves an IPA granule at a level, in a DELEGATED granule. The table's entries are
-    /// UNASSIGNED, and have the RIPAS of the entry above. The level is 2 or 3, and `ipa` the first IPA granule that the
-    /// table serves.
+    /// Creates the table that serves an IPA granule at a level. A DELEGATED granule becomes the table. The table's
+    /// entries are UNASSIGNED, and have the RIPAS of the entry above. The level is 2 or 3, and `ipa` the first IPA
+    /// granule that the table serves.
     ///
     /// RMM 1.0, RMI_RTT_CREATE. RMI_ERROR_RTT comes with the level at which the walk ended, unless that is the level
     /// above and the entry there is not TABLE. A refusal changes nothing.

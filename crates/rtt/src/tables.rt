@@ -33,8 +33,8 @@ pub struct EntryAddress {
 }
 
 impl Tables {
-    /// The end of the walk of an IPA granule towards a level. That is the first entry on the way that is not TABLE, or
-    /// the one at that level.
+    /// Returns the end of the RTT walk for an IPA granule towards a level. That is the first entry on the way that is
+    /// not TABLE, or the one at that level.
     pub fn walk<S: PageStore>(
         &self,
         store: &S,
@@ -57,7 +57,7 @@ impl Tables {
     }
 }
 
-// The address of the entry at which the walk of an IPA granule towards a level ends.
+// The address of the entry at which the RTT walk for an IPA granule towards a level ends.
 pub fn find<S: PageStore>(
     tables: Tables,
     store: &S,
@@ -104,7 +104,7 @@ pub fn find<S: PageStore>(
     }
 }
 
-/// The end of a walk: the level of a table, and the entry there. RMM 1.0, RTT walk.
+/// The end of a walk. It is the level of a table, and the entry there. RMM 1.0, RTT walk.
 #[derive(Clone, Copy)]
 pub struct Walk {
     pub level: Level,

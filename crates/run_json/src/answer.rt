@@ -7,7 +7,7 @@ use arrayvec::ArrayVec;
 use host_commands::{Refusal, Reply};
 use plan_replay::TurnAnswer;
 
-/// The greatest length of an answer's list of numbers, which a refusal by the RMM has.
+/// The greatest length of an answer's list of numbers. It is the length for a refusal by the RMM.
 const MOST_NUMBERS: usize = 3;
 
 fn reply_numbers(reply: Reply) -> ArrayVec<u32, MOST_NUMBERS>
@@ -62,7 +62,7 @@ fn numbers_of_refusal(refusal: Refusal) -> ArrayVec<u32, MOST_NUMBERS>
     numbers
 }
 
-/// The numbers of an answer, in the order of its text.
+/// Returns the numbers of an answer. For a refusal, the first is the number of the refusal's kind.
 pub fn numbers_of(answer: &TurnAnswer) -> ArrayVec<u32, MOST_NUMBERS>
     ensures { result.items ≡ answer_numbers answer.now }
 {

@@ -5,8 +5,8 @@ ghost use Rattle.run_json.specs.Changes.{one_granule, granules_of, changes_realm
 use granule_addr::{Gran, Level, RecNo};
 use realm_model::Act;
 
-/// The granules that an operation changes: a first one, `count` granules from the number `from` on, and a list of
-/// others.
+/// The granules that an operation changes. They are `granule`, the `count` granules from number `from` on, and those in
+/// `also`.
 #[derive(Drop)]
 pub struct Changed<'a> {
     pub granule: Gran,
@@ -85,7 +85,8 @@ pub fn rec_named_by(act: &Act) -> Option<RecNo>
     }
 }
 
-/// Whether an operation changes the realm itself: its existence, state, measurement, or the number of its next REC.
+/// Whether an operation changes the realm itself. That is a change of its existence, state, measurement, or the number
+/// of its next REC.
 pub fn changes_realm(act: &Act) -> bool
     ensures { result ≡ changes_realm act.now }
 {
@@ -100,7 +101,7 @@ pub fn changes_realm(act: &Act) -> bool
     )
 }
 
-/// The level above a table's level, or 1 for a table of level 1.
+/// Returns the level above a table's level. It is 1 for a table of level 1.
 pub fn level_above(level: Level) -> Level
     ensures { result ≡ level_above level }
 {

@@ -1,4 +1,4 @@
-//! JSON items for granules, rows of tables, RECs and pages, as the host has them.
+//! JSON items for granules, rows of tables, RECs and pages. The items are as the host has them.
 ghost use Rattle.std.specs.Prelude.{◌≡◌, IfOk};
 ghost use Rattle.run_json.specs.Items.{granule_item, row_item, IsRecItem, page_item};
 
@@ -34,7 +34,7 @@ impl Serialize for GranuleItem {
     }
 }
 
-/// A granule as the host has it, if the machine has such a granule.
+/// Returns a granule as the host has it. The result is `None` if the machine has no such granule.
 pub fn granule_item<S: PageStore>(host: &Host<S>, granule: Gran) -> Option<GranuleItem>
     ensures { result ≡ granule_item host.now granule }
 {
@@ -42,7 +42,7 @@ pub fn granule_item<S: PageStore>(host: &Host<S>, granule: Gran) -> Option<Granu
     Some(GranuleItem { granule, view })
 }
 
-/// A run of equal rows of one level: the first row, and the number of rows.
+/// A series of equal rows of one level. It has the first row, and the number of rows.
 #[derive(Clone, Copy)]
 pub struct RowItem {
     pub row: RowView,
@@ -65,7 +65,8 @@ impl Serialize for RowItem {
     }
 }
 
-/// The item of `count` rows, the first of which ends the RTT walk for an IPA granule towards a level.
+/// Creates the item for `count` rows. The first is the row at which the RTT walk for an IPA granule towards a level
+/// ends.
 pub fn row_item<S: PageStore>(
     host: &Host<S>,
     build: BuildId,
@@ -79,7 +80,7 @@ pub fn row_item<S: PageStore>(
     Some(RowItem { row, count })
 }
 
-/// The host's view of a REC: its granule, its state, and its auxiliary granules.
+/// The host's view of a REC. It has the REC's granule, state and auxiliary granules.
 #[derive(Drop)]
 pub struct RecView {
     pub granule: Gran,
@@ -87,7 +88,7 @@ pub struct RecView {
     pub auxiliaries: Vec<Gran>,
 }
 
-/// The number of a REC, and the host's view of that REC, if there is such a REC.
+/// The item of a REC. It has the REC's number, and the host's view of the REC if the REC exists.
 #[derive(Drop)]
 pub struct RecItem {
     pub number: RecNo,
@@ -112,7 +113,7 @@ impl Serialize for RecItem {
     }
 }
 
-/// The REC with the number `number` in a build's realm, as the host has it.
+/// Returns a REC of a build's realm as the host has it. The REC's number is `number`.
 pub fn rec_item<S: PageStore>(
     alloc: Global,
     host: &Host<S>,
@@ -154,7 +155,7 @@ impl Serialize for PageItem {
     }
 }
 
-/// A page of a build as the host has it, if the build has such a page.
+/// Returns a build's page as the host has it. The result is `None` if the build has no such page.
 pub fn page_item<S: PageStore>(host: &Host<S>, build: BuildId, page: u16) -> Option<PageItem>
     ensures { result ≡ page_item host.now build page }
 {

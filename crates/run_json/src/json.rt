@@ -3,7 +3,7 @@ use serde::{Described, Serialize, Serializer};
 use std::alloc::{AllocError, Global};
 use std::fmt::Display;
 
-/// A value that is written in JSON as a string of its `Display` text.
+/// A value that is a string in JSON. The string is the value's `Display` text.
 #[derive(Clone, Copy)]
 pub struct Shown<T>(pub T);
 

@@ -1,4 +1,4 @@
-//! The JSON members for a build's mark, and for whether the build is aborting.
+//! The JSON members `mark` and `aborting` of a build. They are the build's mark, and whether the build is aborting.
 ghost use Rattle.std.specs.Prelude.{◌≡◌};
 ghost use Rattle.run_json.specs.Items.{build_kept};
 
@@ -8,7 +8,8 @@ use page_arena::PageStore;
 use realm_host::Host;
 use serde::Serializer;
 
-/// The number of operations that a build had open at its mark, and whether the build is aborting.
+/// A build's mark, and whether the build is aborting. `mark` is the number of operations that the build had open at its
+/// mark.
 #[derive(Clone, Copy)]
 pub struct BuildKept {
     pub mark: Option<u16>,

@@ -1,4 +1,4 @@
-//! The JSON item of a build's realm, without the realm's rows and RECs.
+//! The JSON item of a build's realm. The realm's rows and RECs are not part of the item.
 ghost use Rattle.std.specs.Prelude.{◌≡◌};
 ghost use Rattle.run_json.specs.Items.{realm_item};
 
@@ -47,7 +47,7 @@ impl Serialize for RealmItem {
     }
 }
 
-/// A build's realm as the host has it, if the build has one.
+/// Returns a build's realm as the host has it. The result is `None` if the build has no realm.
 pub fn realm_item<S: PageStore>(host: &Host<S>, build: BuildId) -> Option<RealmItem>
     ensures { result ≡ realm_item host.now build }
 {

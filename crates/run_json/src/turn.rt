@@ -1,4 +1,4 @@
-//! A turn: its step and answer, its event, and the changes that the event made.
+//! The JSON item of a turn. It has the turn's step and answer, its event, and the changes that the event made.
 ghost use Rattle.std.specs.Prelude.{◌≡◌, ◌+◌, ◌≤◌, ◌++◌, OnOk, IfOk, slice_get, option_map};
 ghost use Rattle.run_json.specs.Turns.{step_view, placed, numbered_granule, more_granules, each_granule, changed_items, changed_view};
 ghost use Rattle.run_json.specs.Turns.{granules_after, rows_after, IsRecAfter, realm_after, IsEventItem, IsEventAt, IsAfterTurn};
@@ -19,7 +19,7 @@ use realm_plan::{PlanStep, StepText};
 use serde::{Described, Serialize, Serializer};
 use std::alloc::{AllocError, Global};
 
-/// A step as a plan spells it, with its index in the build's list of steps and the host's answer.
+/// A step as a plan spells it. The item also has the step's index in the build's list of steps, and the host's answer.
 #[derive(Drop)]
 pub struct StepItem {
     pub place: usize,
@@ -27,8 +27,8 @@ pub struct StepItem {
     pub answer: TurnAnswer,
 }
 
-/// An event, and the objects that it changed, as the host has them after the turn. A list is empty if the event changes
-/// no such object.
+/// An event and the objects that it changed. The objects are as the host has them after the turn. A list is empty if
+/// the event changes no such object.
 #[derive(Drop)]
 pub struct EventItem {
     pub event: Event,
@@ -38,7 +38,7 @@ pub struct EventItem {
     pub realm: Option<Option<RealmItem>>,
 }
 
-/// A turn of a build: its step and its event, if any, and the state that the host keeps of the build afterwards.
+/// A turn of a build. It has its step and its event, if any, and the build's state in the host after the turn.
 #[derive(Drop)]
 pub struct TurnItem {
     pub build: BuildId,
@@ -127,7 +127,7 @@ fn step_item(
     })
 }
 
-/// The item of a turn's step, with the step's index and answer; `None` if the build has no step left.
+/// Returns the item of a turn's step, with its index and answer. The result is `None` if the build has no step left.
 pub fn step_of(
     alloc: Global,
     place: usize,

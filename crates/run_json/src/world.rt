@@ -1,4 +1,4 @@
-//! The state of a host: all granules, and the pages, open operations and realm of each build.
+//! The JSON item of a host's state. It has all granules, and the pages, open operations and realm of each build.
 ghost use Rattle.std.specs.Prelude.{◌≡◌, IfOk, length};
 ghost use Rattle.host_ledger.specs.View.{pages_of_build};
 ghost use Rattle.run_json.specs.Worlds.{all_granules, page_items, open_lines, AreRecItems, IsRealmWorld, IsBuildItem, AreBuildItems, IsWorldItem};
@@ -50,7 +50,8 @@ impl Serialize for RealmWorld {
     }
 }
 
-/// A build: its state in the host, its open operations as events with the oldest first, its pages, and its realm.
+/// A build and its state in the host. The item has the events of its open operations from the oldest on, its pages, and
+/// its realm.
 #[derive(Drop)]
 pub struct BuildItem {
     pub build: BuildId,
@@ -74,7 +75,7 @@ impl Serialize for BuildItem {
     }
 }
 
-/// The state of a host: the number of granules that nobody leases, all granules, and all builds.
+/// The state of a host. It has the number of granules that nobody leases, all granules, and all builds.
 #[derive(Drop, Serialize)]
 pub struct WorldItem {
     pub free: u16,

@@ -9,7 +9,7 @@ use crate::graph::{Edge, Sign};
 use crate::path_number::PathNumber;
 use std::alloc::{AllocError, Global};
 
-/// The path numbers of a layer; empty if there is no such layer.
+/// Returns the path numbers of a layer. There are none if there is no such layer.
 pub(crate) fn numbers_at(counts: &[Vec<PathNumber>], depth: usize) -> &[PathNumber]
     ensures { result.now ≡ slice_index_or (path_numbers_in counts.now) depth [] }
 {
@@ -109,8 +109,9 @@ fn walk<L: Copy, S: Sign<L>>(
     Ok(labels)
 }
 
-/// Returns the labels of the first path that shows the property, from the first state; None if no path does. `all`
-/// counts all paths, and `with_it` those that show the property. The one error is that allocation failed.
+/// Finds the first path that shows the property. The paths are those from the first state. Returns the path's labels,
+/// or `None` if no path shows the property. `all` counts all paths, and `with_it` those that show the property. The one
+/// error is that allocation failed.
 pub fn first_with<L: Copy, S: Sign<L>>(
     alloc: Global,
     layers: &[Vec<Vec<Edge<L>>>],
@@ -128,8 +129,9 @@ pub fn first_with<L: Copy, S: Sign<L>>(
     Ok(Some(walk(alloc, layers, sign, all, with_it)?))
 }
 
-/// Returns the labels of the first path that does not show the property, from the first state; None if each path does.
-/// `without_it` counts the paths that do not. The one error is that allocation failed.
+/// Finds the first path that does not show the property. The paths are those from the first state. Returns the path's
+/// labels, or `None` if each path shows the property. `without_it` counts the paths that do not. The one error is that
+/// allocation failed.
 pub fn first_without<L: Copy, S: Sign<L>>(
     alloc: Global,
     layers: &[Vec<Vec<Edge<L>>>],

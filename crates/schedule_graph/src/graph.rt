@@ -5,7 +5,7 @@ ghost use Rattle.schedule_graph.specs.Paths.{Layer, AreCounts, AreCountsWith, Ar
 use crate::path_number::PathNumber;
 use std::alloc::{AllocError, Global};
 
-/// A labelled edge to a state of the next layer, which is given by its index in that layer.
+/// A labelled edge to a state of the next layer. The field `to` is the state's index in that layer.
 #[derive(Drop)]
 pub struct Edge<L> {
     pub label: L,
@@ -92,7 +92,7 @@ fn count_without<L, S: Sign<L>>(
     Ok(sum)
 }
 
-/// Returns the number of paths from each state of a layer, given those of the next layer. The one error is that
+/// Counts the paths from each state of a layer. `next` has the counts of the next layer. The one error is that
 /// allocation failed.
 pub fn count_paths<L>(
     alloc: Global,
@@ -110,7 +110,7 @@ pub fn count_paths<L>(
     Ok(counts)
 }
 
-/// Returns how many paths from each state of a layer show the property, given the counts of the next layer. `next`
+/// Counts the paths that show the property, from each state of a layer. The counts of the next layer are given. `next`
 /// counts all paths, and `next_with` those that show the property. The one error is that allocation failed.
 pub fn count_paths_with<L, S: Sign<L>>(
     alloc: Global,
@@ -131,8 +131,8 @@ pub fn count_paths_with<L, S: Sign<L>>(
     Ok(counts)
 }
 
-/// Returns how many paths from each state of a layer do not show the property, given the counts of the next layer. The
-/// one error is that allocation failed.
+/// Counts the paths that do not show the property, from each state of a layer. `next_without` has their counts in the
+/// next layer. The one error is that allocation failed.
 pub fn count_paths_without<L, S: Sign<L>>(
     alloc: Global,
     layer: &[Vec<Edge<L>>],

@@ -26,7 +26,7 @@ pub fn count_all<L>(
     Ok(counts)
 }
 
-/// Returns how many paths from each state of each layer show the property, given the numbers of all paths. The one
+/// Counts the paths that show the property, from each state of each layer. `all` has the numbers of all paths. The one
 /// error is that allocation failed.
 pub fn count_all_with<L, S: Sign<L>>(
     alloc: Global,
@@ -49,7 +49,7 @@ pub fn count_all_with<L, S: Sign<L>>(
     Ok(counts)
 }
 
-/// Returns how many paths from each state of each layer do not show the property. The one error is that allocation
+/// Counts the paths that do not show the property, from each state of each layer. The one error is that allocation
 /// failed.
 pub fn count_all_without<L, S: Sign<L>>(
     alloc: Global,

@@ -1,4 +1,4 @@
-//! Graphs of the states of a plan's runs, and the counting of the paths in them.
+//! Graphs of the states of a plan's runs, and counts of their paths.
 //!
 //! Positions of runs are one state if each build did the same and is as far in its plan. A state decides all further
 //! turns and their answers, whatever the schedule was (`law.rt`). So schedules are paths of a graph of states, which

@@ -1,11 +1,11 @@
-//! Numbers of any size, for counting schedules.
+//! Numbers without an upper bound, for counting schedules.
 ghost use Rattle.std.specs.Prelude.{◌≡◌, ℕ, ◌+◌, ◌*◌, ◌^◌, ◌<◌, ◌≤◌, ◌==◌, List, ◌++◌, length, map, reverse, All, OnOk, IfOk, string_bytes};
 ghost use Rattle.schedule_graph.specs.Number.{number_of, trimmed, numeral};
 
 use std::alloc::{AllocError, Global};
 use std::marker::Model;
 
-/// A number of any size: its decimal digits, the lowest first. Seen as the number.
+/// A number without an upper bound. It is kept as its decimal digits, the lowest first, and seen as the number.
 #[derive(Drop)]
 pub struct Count {
     digits: Vec<u8>,
@@ -126,7 +126,7 @@ fn push_digits(text: &mut String, digits: &[u8]) -> Result<(), AllocError>
 }
 
 impl Count {
-    /// The number 0.
+    /// Returns the number 0.
     #[tactic(auto, using(crate::proofs::Numbers::number_of_none))]
     pub fn zero(alloc: Global) -> Count
         ensures { result ≡ 0 }

@@ -1,11 +1,12 @@
-//! Numbers of paths, added as `u128` as long as they are below 2^128.
+//! Counts of paths, without an upper bound. Those below 2^128 are added as `u128`.
 ghost use Rattle.std.specs.Prelude.{◌≡◌, ◌+◌, ◌==◌, OnOk, IfOk};
 
 use crate::number::Count;
 use std::alloc::{AllocError, Global};
 use std::marker::Model;
 
-/// A number of any size: its remainder and its quotient by 2^128. Seen as the number.
+/// A natural number without an upper bound. Stored as its remainder and quotient on division by 2^128. Seen as the
+/// number.
 #[derive(Drop)]
 pub struct PathNumber {
     low: u128,
@@ -21,7 +22,7 @@ impl Model for PathNumber {
 }
 
 impl PathNumber {
-    /// The number 0.
+    /// Creates the number 0.
     pub fn zero(alloc: Global) -> PathNumber
         ensures { result ≡ 0 }
     {
@@ -31,7 +32,7 @@ impl PathNumber {
         }
     }
 
-    /// The number 1.
+    /// Creates the number 1.
     pub fn one(alloc: Global) -> PathNumber
         ensures { result ≡ 1 }
     {
@@ -41,7 +42,7 @@ impl PathNumber {
         }
     }
 
-    /// Adds another number. At an `Err` allocation failed, and the number may be any.
+    /// Adds `other` to the number. At an `Err` allocation failed, and the number may be any.
     pub fn add(&mut self, other: &PathNumber) -> Result<(), AllocError>
         ensures { OnOk result (self.new ≡ self.old + other.now) }
     {

@@ -1,4 +1,5 @@
-//! Scripts for a host: calls of its builds and readings of its state, each with the expected answer.
+//! Scripts for a host, with the expected answers. A script has calls of the host's builds, and readings of the host's
+//! state.
 use crate::expected::holds_at;
 use crate::hosts::{booted, over_arena};
 use crate::readings::is_read;
@@ -16,7 +17,7 @@ pub(crate) type Script = &'static [(u8, Call)];
 pub(crate) enum Command {
     /// Leases a block of 2^order pages.
     Take(u8),
-    /// Sets every byte of a page to the value.
+    /// Sets every byte of a page to a value.
     Fill(u16, u8),
     Delegate(u16),
     /// Turns pages 0 and 1 into the RD and the starting table of a realm.
@@ -49,19 +50,19 @@ pub(crate) enum Which {
     Older,
 }
 
-/// A call of a host, or a reading of its state. The last field is the expected answer.
+/// A call to a host, with the expected answer. Some calls only read the host's state.
 pub(crate) enum Call {
     Ask(Command, Result<Said, No>),
-    /// An undo, with the kind of the undone operation and the number of operations left open.
+    /// An undo. The answer is the kind of the undone operation, and the number of operations left open.
     Undo(Result<(Kind, u16), No>),
     BeginAbort(Result<u16, No>),
     Abort(Result<u16, No>),
-    /// A mark, with the number of operations open at the mark.
+    /// A mark. The answer is the number of operations open at the mark.
     Mark(Result<u16, No>),
     CheckBack(Which, Result<u16, No>),
-    /// A rollback to a mark, first checked and then performed, with the same answer both times.
+    /// A check of a rollback to a mark, and then the rollback. Both have the same expected answer.
     GoBack(Which, Result<u16, No>),
-    /// The numbers of free pages, of all pages, and of the build's pages.
+    /// The numbers of free pages, all pages, and the build's pages.
     Pages(u16, u16, u16),
     /// The state of a page, and the sum of its bytes.
     Page(u16, GranuleState, u32),
@@ -217,7 +218,7 @@ fn run<S: PageStore + Drop>(rt: &impl Abort, name: &str, mut host: Host<S>, scri
     }
 }
 
-/// Runs a script once over each kind of store, on new hosts with the given numbers of pages and builds.
+/// Runs a script once over each kind of store. Each run has a new host with the given numbers of pages and builds.
 pub(crate) fn over_both(
     rt: &impl Abort,
     alloc: Global,

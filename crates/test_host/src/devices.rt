@@ -1,4 +1,4 @@
-//! Input and output devices in memory that count their calls, and fail at a chosen call.
+//! Input and output devices in memory. They count their calls, and can fail at a chosen call.
 ghost use Rattle.std.specs.Prelude.{◌≡◌, false};
 
 use checked_io::Told;
@@ -17,7 +17,7 @@ fn failure(call: u64) -> io::Error {
     }
 }
 
-/// An input that gives at most `most` bytes per read, and can fail at one chosen read. Reads are counted from 0.
+/// An input in memory. A read gives at most `most` bytes, and one chosen read can fail. Reads are counted from 0.
 #[derive(Drop)]
 pub(crate) struct Source<'a> {
     pub rest: &'a [u8],
@@ -40,8 +40,8 @@ impl Read for Source<'_> {
     }
 }
 
-/// An output that takes at most `most` bytes per write, and can fail at one chosen write or when it is flushed. Writes
-/// are counted from 0.
+/// An output in memory. A write takes at most `most` bytes. One chosen write can fail, and so can a flush. Writes are
+/// counted from 0.
 #[derive(Drop)]
 pub(crate) struct Sink {
     got: Vec<u8>,
@@ -81,8 +81,8 @@ impl Write for Sink {
     }
 }
 
-/// The input and output for a program, with the most bytes that a call takes, and the call that fails. A failed test is
-/// named by the case, and by the number of the call.
+/// The settings of a program's input and output. They are the input bytes, the limits on bytes per read and write, and
+/// the calls that fail. A failed test is named by the case, and by the number of the call.
 #[derive(Clone, Copy)]
 pub(crate) struct Devices<'a> {
     pub case: &'a str,
@@ -96,7 +96,7 @@ pub(crate) struct Devices<'a> {
 }
 
 impl<'a> Devices<'a> {
-    /// Devices that take up to 1,000 bytes in a call, and do not fail.
+    /// Creates devices that do not fail. Each read and each write is of up to 1,000 bytes.
     pub(crate) fn working(case: &'a str, input: &'a [u8]) -> Devices<'a> {
         Devices {
             case,
@@ -110,7 +110,8 @@ impl<'a> Devices<'a> {
         }
     }
 
-    /// Devices that fail at the read with the number `read`, counted from 0. Each other read gives 25 bytes.
+    /// Creates devices that fail at one read. The number of the read is `read`, counted from 0. Each other read gives
+    /// up to 25 bytes.
     pub(crate) fn read_fails(input: &'a [u8], read: usize) -> Devices<'a> {
         Devices {
             call: read,
@@ -120,7 +121,8 @@ impl<'a> Devices<'a> {
         }
     }
 
-    /// Devices that fail at the write with the number `write`, counted from 0. Each other write takes one byte.
+    /// Creates devices that fail at one write. The number of the write is `write`, counted from 0. Each other write
+    /// takes one byte.
     pub(crate) fn write_fails(input: &'a [u8], write: usize) -> Devices<'a> {
         Devices {
             call: write,
@@ -131,7 +133,7 @@ impl<'a> Devices<'a> {
         }
     }
 
-    /// Devices that fail at the flush. Each write takes up to ten bytes.
+    /// Creates devices that fail at the flush. Each write takes up to ten bytes.
     pub(crate) fn flush_fails(input: &'a [u8]) -> Devices<'a> {
         Devices {
             most_read: 25,
@@ -166,8 +168,8 @@ impl<'a> Devices<'a> {
     }
 }
 
-/// The outcome of a program: its result, the number of input bytes left, and its output with the numbers of writes and
-/// flushes.
+/// The outcome of a program. It is the program's result, the number of input bytes left, and the output with the
+/// numbers of writes and flushes.
 #[derive(Clone, Copy)]
 pub(crate) struct Outcome<'a> {
     pub end: Result<(), Fault>,
@@ -178,7 +180,7 @@ pub(crate) struct Outcome<'a> {
 }
 
 impl<'a> Outcome<'a> {
-    /// The outcome of a program that succeeds, and writes all of `text` in `writes` writes.
+    /// Returns the outcome of a program that succeeds. The program writes all of `text` in `writes` writes.
     pub(crate) fn printed(text: &'a [u8], writes: u64) -> Outcome<'a> {
         Outcome {
             end: Ok(()),
@@ -189,7 +191,8 @@ impl<'a> Outcome<'a> {
         }
     }
 
-    /// The outcome of a program that ends with that fault, and writes nothing.
+    /// Returns the outcome of a program that writes nothing. The program ends with `fault`, and leaves `left` input
+    /// bytes.
     pub(crate) fn nothing(fault: Fault, left: usize) -> Outcome<'a> {
         Outcome {
             end: Err(fault),
@@ -200,7 +203,7 @@ impl<'a> Outcome<'a> {
         }
     }
 
-    /// The outcome of a program that writes a text byte by byte, and whose next write fails.
+    /// Returns the outcome of a program that fails at a write. The program has written `text` byte by byte before.
     pub(crate) fn cut(text: &'a [u8]) -> Outcome<'a> {
         Outcome {
             end: Err(Fault::Device),

@@ -15,17 +15,17 @@ pub(crate) fn same_text(rt: &impl Abort, seen: &str, want: &str) {
     assert_eq!(rt; seen, want);
 }
 
-/// Checks that a condition holds, by a comparison with the number 1.
+/// Checks that a condition holds.
 pub(crate) fn holds(rt: &impl Abort, what: &str, is_so: bool) {
     equal(rt, what, u64::from(is_so), 1);
 }
 
-/// Checks that a condition holds for the row of a table at an index.
+/// Checks that a condition holds for one row of a table. `place` is the index of the row.
 pub(crate) fn holds_at(rt: &impl Abort, what: &str, place: usize, is_so: bool) {
     assert!(rt; is_so, "{what}, row {place}");
 }
 
-/// Returns the store that was built, or aborts the test if there is none.
+/// Returns the store that was built. If there is none, aborts the test.
 pub(crate) fn built<S>(rt: &impl Abort, store: Result<S, BuildError>) -> S {
     match store {
         Ok(store) => store,

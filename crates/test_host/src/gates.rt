@@ -5,7 +5,8 @@ use std::sync::atomic::{AtomicU64, Ordering};
 use std::thread;
 use std::time::{Clock, Duration};
 
-/// A gate that gives each of two builds its turn 2 only after the other build has asked for its own turn 2.
+/// A gate at which two builds meet before their turn 2. Each build gets this turn only after the other build has asked
+/// for its own.
 #[derive(Drop)]
 pub(crate) struct Together<'a, C: Clock> {
     clock: &'a C,
@@ -14,7 +15,7 @@ pub(crate) struct Together<'a, C: Clock> {
 }
 
 impl<'a, C: Clock> From<&'a C> for Together<'a, C> {
-    /// A gate that sleeps by this clock while it waits.
+    /// Creates a gate that sleeps by the given clock while it waits.
     fn from(clock: &'a C) -> Together<'a, C> {
         Together {
             clock,

@@ -1,4 +1,4 @@
-//! Guests: builds whose steps differ only in a fill value, each with its own seat at one shared host.
+//! Guests of a shared host. Guests are builds with a seat each, and their steps differ only in a fill value.
 use crate::steps::{STEPS, guest_steps};
 use crate::tellers::Refusing;
 use builders::{Gate, Ledgers, Report, Seat, SeatTeller, Shared, work};
@@ -8,7 +8,7 @@ use std::alloc::Global;
 use std::process::Abort;
 use std::sync::Wait;
 
-/// A guest: its seat and steps, the index of the step that it is refused, if any, and the results of its run.
+/// A guest, and the results of its run. `refused` is the index of its refused step, if it has one.
 #[derive(Drop)]
 pub struct Guest<L: Ledgers> {
     pub seat: Seat<L>,
@@ -45,7 +45,7 @@ impl<L: Ledgers> Guest<L> {
     }
 }
 
-/// A guest for each seat. Build 1 is refused the step with the index `refused`.
+/// Creates a guest for each seat. Build 1 is refused the step with the index `refused`.
 pub(crate) fn guests_of<L: Ledgers>(
     rt: &impl Abort,
     alloc: Global,

@@ -1,4 +1,4 @@
-//! Checks of the state in which three guests leave their host.
+//! Checks of a host after the runs of three guests.
 use crate::expected::{holds, same_text};
 use granule_addr::BuildId;
 use page_arena::PageStore;
@@ -41,8 +41,8 @@ free 8
     text.expect(rt, "memory")
 }
 
-/// Checks that builds 0 and 2 still have all their pages and realms, under different VMIDs, and that build 1 has
-/// nothing.
+/// Checks that the guests of builds 0 and 2 are left. Both still have all their pages, and realms under different
+/// VMIDs. Build 1 has nothing.
 pub(crate) fn has_two_guests<S: PageStore>(rt: &impl Abort, alloc: Global, host: &Host<S>) {
     let vmid0 = vmid_of(rt, host, 0);
     let vmid2 = vmid_of(rt, host, 2);
@@ -54,7 +54,8 @@ pub(crate) fn has_two_guests<S: PageStore>(rt: &impl Abort, alloc: Global, host:
     same_text(rt, seen.as_str(), want.as_str());
 }
 
-/// Checks that a host's map is that of a fresh host to which the host's history without build 1's events is applied.
+/// Checks that a host's map is the map without build 1. Applies the history without build 1's events to `fresh`, and
+/// compares the maps of both hosts.
 pub(crate) fn is_without_build_1<S: PageStore>(
     rt: &impl Abort,
     alloc: Global,

@@ -28,13 +28,13 @@ pub(crate) enum Line {
     /// An abort or a `back` with nothing to undo.
     Nothing(usize),
     No(usize, No),
-    /// An undo by an abort or a `back`, with the kind of the operation and the number of operations left open.
+    /// An undo by an abort or a `back`. The last number is that of the operations left open.
     StepUndone(usize, Kind, u16),
-    /// An undo after a refusal, with the kind of the operation and the number of operations left open.
+    /// An undo after a refusal. The number is that of the operations left open.
     Undone(Kind, u16),
-    /// An undo that follows a refusal, and is refused because the history is full.
+    /// A refused undo after a refusal. The undo is refused because the history is full.
     UndoRefused,
-    /// The exit of the REC with the given number, after a refusal.
+    /// The exit of a REC after a refusal. The number is that of the REC.
     Exited(u16),
 }
 
@@ -66,7 +66,7 @@ impl Line {
         }
     }
 
-    /// The answer that the line reports.
+    /// Returns the answer that the line reports.
     pub(crate) fn answer(&self) -> Answer {
         match self {
             Line::Done(_) | Line::Exited(_) => Answer::Replied(Reply::Done),

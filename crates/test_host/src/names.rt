@@ -1,12 +1,12 @@
 //! Conversions of plain numbers to a block order and to a granule.
 use granule_addr::{Gran, Order};
 
-/// The block order with that number, modulo 10.
+/// Returns the block order `number` modulo 10.
 pub(crate) fn order(number: u8) -> Order {
     Order::new(number % 10).unwrap()
 }
 
-/// The granule with that number, modulo 4096.
+/// Returns the granule `number` modulo 4096.
 pub(crate) fn granule(number: u16) -> Gran {
     Gran::new(number % 4096, 4096).unwrap()
 }

@@ -1,4 +1,4 @@
-//! Tests of IPA granules and widths, result words and table entries, against values that are worked out by hand.
+//! Tests of IPA granules and widths, result words and table entries. The expected values are worked out by hand.
 use crate::expected::{equal, holds_at};
 use crate::names::granule;
 use granule_addr::{IpaGran, IpaWidth, Level, index_at, is_protected, start_table};

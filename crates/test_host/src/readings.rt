@@ -1,4 +1,4 @@
-//! Readings of a host: its pages, and a build's realm.
+//! Checks of what a host reports about pages and realms.
 use crate::calls::Call;
 use realm_host::{BuildId, Host, PageStore, RealmState};
 
@@ -10,7 +10,7 @@ fn is_realm<S: PageStore>(host: &Host<S>, build: BuildId, want: Option<(RealmSta
     }
 }
 
-/// Whether the pages or the realm of a build are as expected.
+/// Whether a reading of a host's state gives the expected answer. `false` for a call that is not a reading.
 pub(crate) fn is_read<S: PageStore>(host: &Host<S>, build: BuildId, call: &Call) -> bool {
     match call {
         Call::Pages(free, all, own) => {

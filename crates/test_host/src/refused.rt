@@ -1,4 +1,5 @@
-//! Tests in which each command of a build is refused once, while two other builds go on.
+//! Tests of refusals to one of three builds. Each command of the build is refused once, while the two other builds go
+//! on.
 ghost use Rattle.std.specs.Prelude.{◌≡◌, []};
 ghost use Rattle.build_seats.specs.Names.{AreNamed};
 

@@ -28,7 +28,7 @@ fn accepted(rt: &impl Abort, report: &Report, steps: usize) {
     }
 }
 
-/// Checks that each step is accepted, and nothing else was asked.
+/// Checks that all steps of a guest are accepted. The lines of the report are exactly those of the steps.
 pub(crate) fn is_accepted(rt: &impl Abort, report: &Report) {
     accepted(rt, report, STEPS);
     equal(rt, "lines", report.lines.len() as u64, STEPS as u64);
@@ -62,7 +62,7 @@ fn is_undone(rt: &impl Abort, report: &Report, mut place: usize, refused: usize)
     equal(rt, "lines", report.lines.len() as u64, place as u64);
 }
 
-/// Checks that all steps before the step `refused` are accepted, and that this step is refused. Then a REC that runs
+/// Checks that a guest is refused the step `refused`. All steps before this step are accepted. Then a REC that runs
 /// exits, and all is undone.
 pub(crate) fn is_refused(rt: &impl Abort, report: &Report, refused: usize) {
     accepted(rt, report, refused);

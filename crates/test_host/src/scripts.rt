@@ -1,4 +1,5 @@
-//! Scripts of calls that no plan makes, or whose answers no plan prints, run over both kinds of store.
+//! Tests of calls by scripts, over both kinds of store. They are calls that no plan makes, or whose answers no plan
+//! prints.
 use crate::calls::{Call, Command, No, Said, Script, Which, over_both};
 use realm_host::{GranuleState, Kind, RealmState};
 

@@ -7,7 +7,7 @@ use std::process::Abort;
 /// The steps of a build, as a plan spells them.
 pub(crate) type Words = &'static [&'static str];
 
-/// The steps that the given words spell.
+/// Parses the steps of a build.
 pub(crate) fn steps_of(rt: &impl Abort, alloc: Global, words: Words) -> Vec<Step> {
     let mut steps = Vec::new(alloc);
     for word in words {
@@ -17,13 +17,13 @@ pub(crate) fn steps_of(rt: &impl Abort, alloc: Global, words: Words) -> Vec<Step
     steps
 }
 
-/// The steps that take two pages, and fill the first one.
+/// Steps that take two pages and fill the first one.
 pub(crate) const FILLS: Words = &["take 1", "fill 0 1"];
 
 /// Four steps, the third of which the RMM refuses.
 pub(crate) const IS_REFUSED: Words = &["take 1", "delegate 0", "delegate 0", "fill 1 5"];
 
-/// The steps that take a page, fill it, and read its last byte.
+/// Steps that take a page, fill it, and read its last byte.
 pub(crate) const READS: Words = &["take 0", "fill 0 2", "peek 0 4095"];
 
 /// The number of steps of a guest.
@@ -55,7 +55,8 @@ const GUEST: Words = &[
     "poke 0 0 4095 1",
 ];
 
-/// The steps of a guest whose page of memory has that value in each byte but the last.
+/// Returns the steps of a guest. After the steps, the guest's page of memory has the given value in each byte but the
+/// last.
 pub(crate) fn guest_steps(rt: &impl Abort, alloc: Global, value: u8) -> Vec<Step> {
     let mut steps = steps_of(rt, alloc, GUEST);
     assert!(rt; steps.len() == STEPS);

@@ -1,6 +1,6 @@
-//! Tests of the words that translation tables have in pages, over both kinds of store.
+//! Tests of the words in translation tables, over both kinds of store.
 //!
-//! They come and go with a realm's tables and its page.
+//! The words come and go with a realm's tables and its page.
 ghost use Rattle.std.specs.Prelude.{◌≡◌, true, length, replicate};
 ghost use Rattle.granule_addr.specs.Page.{zero_page};
 ghost use Rattle.rmi_monitor.specs.View.{IsTaken};

@@ -7,8 +7,8 @@ use realm_host::{Cmd, Mark, Refusal, Reply, Undone};
 use realm_model::Rmi;
 use std::sync::Wait;
 
-/// A teller that passes questions on to a seat, but refuses at most one of them without asking the host. Questions are
-/// numbered from 0.
+/// A teller that refuses at most one question, without asking the host. It passes all other questions on to a seat.
+/// Questions are numbered from 0.
 #[derive(Drop)]
 pub struct Refusing<'a, R: Wait, S: PageStore, L: Ledgers> {
     pub teller: SeatTeller<'a, R, S, L>,

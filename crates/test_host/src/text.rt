@@ -1,4 +1,4 @@
-//! Tests of the lines that report refusals which no plan can cause.
+//! Tests of the lines for refusals that no plan can cause.
 use crate::expected::same_text;
 use granule_addr::BuildId;
 use host_commands::{Refusal, Step};

@@ -1,4 +1,5 @@
-//! Tests of workers that share a host, each in its own thread: their reports, and the build named if one is stuck.
+//! Tests of workers that share a host, each in its own thread. They check the workers' reports, and the build that is
+//! named if a worker is stuck.
 ghost use Rattle.std.specs.Prelude.{◌≡◌, [], All};
 ghost use Rattle.build_seats.specs.Names.{AreNamed};
 

@@ -9,13 +9,15 @@ use std::time::{Clock, Duration};
 /// The builds that wait, and the build that they wait for.
 #[derive(Clone, Copy)]
 pub enum Waiting {
-    /// Build 1 takes a turn only after build 2 has taken its turn with the same number, or its last turn.
+    /// Build 1 waits for build 2 at each turn. Build 2 must have passed the gate at the turn with the same number, or
+    /// at its last turn.
     ForBuild2,
-    /// Builds 0 and 2 take a turn only after build 1 has taken its turn with the same number, or its refused turn.
+    /// Builds 0 and 2 wait for build 1 at each turn. Build 1 must have passed the gate at the turn with the same
+    /// number, or at its refused turn.
     ForBuild1,
 }
 
-/// A gate with the number of turns that each of three builds has passed.
+/// A gate at which three builds wait for one another. It counts the turns that each build has passed.
 #[derive(Drop)]
 pub struct Turns<'a, C: Clock> {
     clock: &'a C,

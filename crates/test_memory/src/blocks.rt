@@ -1,4 +1,4 @@
-//! Many rounds of taking a block and giving it back, to be timed by the test.
+//! Many rounds of taking a block and giving it back. The test times them.
 use crate::{Fault, tell};
 use buddy::BuddyArena;
 use granule_addr::{Gran, Order};
@@ -29,8 +29,8 @@ fn is_named_and_goes(arena: &mut BuddyArena, order: Order, first: Gran) -> bool 
     true
 }
 
-/// Takes and gives back blocks of a store of `pages` pages: those that begin at granule 0, or those that the store
-/// chooses. Nothing else happens between the lines.
+/// Takes a block of 512 pages and gives it back, over and over. The store has `pages` pages. The block begins at
+/// granule 0 if `are_named`, or else where the store chooses. Nothing else happens between the two printed lines.
 pub(crate) fn come_and_go(
     rt: &impl Print,
     alloc: Global,

@@ -30,7 +30,7 @@ fn boot<S: PageStore + Drop>(
     Ok(host)
 }
 
-/// A host of 16 pages and two builds.
+/// Boots a host of 16 pages and two builds.
 pub(crate) fn booted(rt: &impl Print, alloc: Global) -> Result<Host<BuddyArena>, Fault>
     ensures { IfOk result (λ host. host.history ≡ []) }
 {

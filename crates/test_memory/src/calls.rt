@@ -7,7 +7,7 @@ use granule_addr::{BuildId, PageOff, RecNo};
 use realm_host::{Cmd, Host, Mark, Refusal};
 use std::alloc::Global;
 
-/// The number of accepted calls, and the number of refused calls.
+/// The numbers of accepted and of refused calls.
 #[derive(Drop)]
 pub(crate) struct Tally {
     accepted: u32,
@@ -22,7 +22,7 @@ impl Tally {
         }
     }
 
-    /// Counts an answer.
+    /// Counts a call as accepted or refused, by its answer.
     pub(crate) fn count<T>(&mut self, answer: &Result<T, Refusal>) {
         if answer.is_ok() {
             self.accepted = self.accepted.saturating_add(1);
@@ -36,7 +36,8 @@ impl Tally {
     }
 }
 
-/// The command of a turn, in a sequence that makes a realm, enters its REC, and uses every kind of command.
+/// Returns the command of a turn. The sequence of commands makes a realm, enters its REC, and uses every kind of
+/// command.
 pub(crate) fn command(turn: u8) -> Cmd {
     let offset = PageOff::new(4095).unwrap();
     match turn {

@@ -1,10 +1,10 @@
-//! A test program for two properties: a call hands its arguments back if an allocation fails, and no call on a host or
-//! a seat allocates memory. A plan on standard input is replayed over the plain store instead, and a script of calls
-//! made in registers is performed and measured.
+//! A test program for allocations. It is for two properties: a call hands its arguments back if an allocation fails,
+//! and no call on a host or a seat allocates memory. A plan on standard input is replayed over the plain store instead,
+//! and a script of calls made in registers is performed and measured.
 //!
-//! `tests/test_allocations.py` refuses each allocation of this program in turn. A host is then booted or shared, or a worker
-//! built, at the second try, from what came back of the first. The test counts the allocations between a line `quiet`
-//! and the line after it, and compares the times of the last three such parts.
+//! `tests/test_allocations.py` refuses each allocation of this program in turn. A host is then booted or shared, or a
+//! worker built, at the second try, from what came back of the first. The test counts the allocations between a line
+//! `quiet` and the line after it, and compares the times of the last three such parts.
 #![tactic(auto)]
 
 ghost use Rattle.std.specs.Prelude.{◌≡◌, false};
@@ -31,7 +31,7 @@ use std::time::CpuClock;
 /// The reason why the program stops.
 #[derive(Clone, Copy)]
 pub(crate) enum Fault {
-    /// A failed allocation in a call that has no arguments to hand back.
+    /// A failed allocation that no further try follows.
     Memory,
     /// Any other fault, which should not happen.
     Other,
@@ -54,7 +54,7 @@ pub(crate) fn tell(rt: &impl Print, line: &str) {
     let _told = println!(rt; "{line}");
 }
 
-/// Prints that an action succeeded, and whether it did so at the second try.
+/// Prints that an action succeeded. If it did so at the second try, the line says so.
 pub(crate) fn tell_try(rt: &impl Print, what: &str, is_second: bool) {
     let _told = if is_second {
         println!(rt; "{what} at the second try")
@@ -80,14 +80,15 @@ fn make_calls<R: Print + AllocGlobal + Threads + Wait + Sync>(rt: &R) -> Result<
     use_stores(rt, rt.alloc())
 }
 
-/// The bytes of an input.
+/// Reads the bytes of an input.
 fn bytes_in<I: Read>(alloc: Global, input: &mut Told<I>) -> Result<Vec<u8>, PlanFault>
     requires { input.old.failed ≡ false }
 {
     Ok(read_whole(alloc, input)?)
 }
 
-/// Replays the plan or performs the script that the input holds, or makes the calls to be tested if the input is empty.
+/// Performs what the input holds. A plan is replayed, and a script is performed. If the input is empty, the calls to be
+/// tested are made.
 fn run<H: Print + Eprint + AllocGlobal + CpuClock + Threads + Wait + Sync, I: Read, O: Write>(
     rt: &H,
     input: &mut Told<I>,

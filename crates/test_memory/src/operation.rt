@@ -1,4 +1,4 @@
-//! Operations on an RMM: calls, and the steps that a host and a guest make between them.
+//! Operations on an RMM: calls, the host's writes to memory, and steps of guests.
 use page_arena::PlainStore;
 use rmi_abi::Registers;
 use rmm::Rmm;
@@ -34,7 +34,7 @@ fn sum_of(r: &Registers) -> u64 {
 }
 
 impl Operation {
-    /// The operation of a kind with its numbers, or `None` if the kind is unknown.
+    /// Creates the operation with the given kind and numbers. `None` if the kind is unknown.
     pub(crate) fn new(kind: &str, n: &[u64; 7]) -> Option<Operation> {
         match kind {
             "smc" => Some(Operation::Call(registers(n))),
@@ -70,7 +70,7 @@ impl Operation {
     }
 }
 
-/// Performs operations one after another, and returns a checksum of `before` and the operations' results.
+/// Performs operations one after another. Returns a checksum of `before` and the operations' results.
 pub(crate) fn perform(rmm: &mut Rmm<PlainStore>, operations: &[Operation], before: u64) -> u64 {
     let mut sum = before;
     for operation in operations {

@@ -18,7 +18,8 @@ impl From<PlanFault> for Fault {
     }
 }
 
-/// Replays a plan over the plain store, and prints the text that `realmhost replay` prints for a run over raw pages.
+/// Replays a plan over the plain store, and writes its text. The text is what `realmhost replay` prints for a run over
+/// raw pages.
 pub(crate) fn replay<W: Write>(
     alloc: Global,
     bytes: &[u8],

@@ -1,4 +1,4 @@
-//! Scripts of calls made in registers: a scene, and parts that are performed and measured in each round.
+//! Scripts of operations on an RMM. A script has a scene, and parts that are performed and timed in each round.
 //!
 //! Standard output is a sum of the results of all operations. Standard error has a line for each part: the least
 //! processor time of a round, in nanoseconds. `bench/rmm` has the scripts, and plain Rust beside it.
@@ -149,12 +149,12 @@ fn measure(
     Ok(())
 }
 
-/// Whether an input is a script: it begins with a line `machine`. No plan begins so.
+/// Whether an input is a script. A script begins with a line `machine`, and no plan begins so.
 pub(crate) fn is_script(bytes: &[u8]) -> bool {
     bytes.starts_with(b"machine ")
 }
 
-/// Performs a script, and prints the sum and the times.
+/// Performs a script. Prints one sum of all results, and the least time of each part.
 pub(crate) fn perform_all(
     rt: &(impl CpuClock + Print + Eprint),
     alloc: Global,

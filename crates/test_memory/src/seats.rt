@@ -1,4 +1,5 @@
-//! A host that builds share: calls through its lock, and workers.
+//! Calls and a worker on a shared host. The calls go through the seat of one build, and the worker is for the other
+//! build.
 ghost use Rattle.std.specs.Prelude.{◌≡◌, ◌≤◌, [], All, IfOk, vec_len};
 ghost use Rattle.build_seats.specs.Names.{AreNamed};
 
@@ -187,7 +188,8 @@ fn share<R: Print + Threads + Wait + Sync, L: Ledgers + Send + Sync>(
     close(rt, shared, seats)
 }
 
-/// Starts a shared host, works on it and closes it.
+/// Boots and shares a host, works on it, and closes it. The calls of one build are made, and a worker runs for the
+/// other build.
 pub(crate) fn work<R: Print + Threads + Wait + Sync>(rt: &R, alloc: Global) -> Result<(), Fault> {
     let host = booted(rt, alloc)?;
     share::<R, Brand>(rt, alloc, Blanks::new(), host)

@@ -9,7 +9,8 @@ use std::fmt;
 /// The verdict on a line, by which the line is counted.
 #[derive(Clone, Copy)]
 pub enum LineVerdict {
-    /// A remark, a question without a written answer, or a line that is not to be compared.
+    /// A line whose answer is not compared. It is a remark, a command without a written answer, or a line that the
+    /// comparison leaves out.
     NotCompared,
     Same,
     Allowed,
@@ -19,15 +20,15 @@ pub enum LineVerdict {
 /// The verdict on a trace.
 #[derive(Clone, Copy)]
 pub enum TraceVerdict {
-    /// A trace with no wrong line, and at least one line with the model's answer.
+    /// A trace that agrees with the model. It has no wrong line, and at least one line with the model's answer.
     Agrees,
-    /// A trace with no wrong line, and no line with the model's answer.
+    /// A trace with neither wrong lines nor lines with the model's answer.
     NothingSame,
     /// A trace with a wrong line.
     Differs,
 }
 
-/// The numbers of all lines, and of the same, allowed and wrong lines.
+/// The counts of a trace's lines. Counted are all lines, and those with the verdicts `Same`, `Allowed` and `Wrong`.
 #[derive(Clone, Copy)]
 pub struct Counts {
     pub lines: u64,
@@ -53,7 +54,7 @@ impl Counts {
         wrong: 0,
     };
 
-    /// Returns the counts after one more line with a verdict.
+    /// Returns the counts after one more line with the given verdict.
     pub fn with(self, verdict: LineVerdict) -> Result<Counts, TraceError>
         ensures ok { IfOk result (λ counts. counts ≡ with_line_counted self verdict) }
         ensures err { IfErr result (λ e. e ≡ TooLong) }
@@ -79,7 +80,7 @@ impl Counts {
         }
     }
 
-    /// The verdict on a trace with these counts.
+    /// Returns the verdict on a trace with these counts.
     pub fn verdict(self) -> TraceVerdict
         ensures { result ≡ trace_verdict self }
     {
@@ -94,7 +95,7 @@ impl Counts {
     }
 }
 
-/// The line of text that shows the same, allowed and wrong counts.
+/// The counts as a line of text, such as `3 same, 1 allowed, 0 wrong`.
 impl fmt::Display for Counts {
     ghost use Rattle.std.specs.Prelude.{Some};
     ghost use Rattle.trace_program.specs.Counting.{summary_text};

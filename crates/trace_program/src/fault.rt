@@ -16,7 +16,7 @@ pub enum TraceError {
     /// A failed read or write.
     #[error("device")]
     Device,
-    /// A trace that takes more than 2^64 - 1 reads, or a check of more than 2^64 - 1 lines.
+    /// A trace that is too long. It takes more than 2^64 - 1 reads, or a check of it has more than 2^64 - 1 lines.
     #[error("the trace is too long")]
     TooLong,
 }

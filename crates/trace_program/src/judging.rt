@@ -74,7 +74,7 @@ fn name_place(question: &[TraceWord]) -> usize
     }
 }
 
-/// The call of a raw line, written with names; `None` if the line is not raw or cannot be named.
+/// Rewrites the call in a raw line with names. `None` if the line is not raw or cannot be named.
 pub(crate) fn raw_call(question: &[TraceWord]) -> Option<Sentence>
     ensures { option_map (λ call. call.items) result ≡ raw_call question.now }
 {
@@ -85,7 +85,8 @@ pub(crate) fn raw_call(question: &[TraceWord]) -> Option<Sentence>
     }
 }
 
-/// The place of a question's name, or of the command's name in a repeated or a raw call.
+/// Returns the index of a question's name in the grammar. For a repeat or a raw call, it is the index of the inner
+/// command's name.
 #[tactic(auto, unfolding(crate::specs::Judged::command_place))]
 pub(crate) fn command_place(question: &[TraceWord]) -> usize
     ensures { result ≡ specs.command_place question.now }
@@ -167,8 +168,8 @@ fn no_command_verdict(written: Option<&[u8]>) -> LineVerdict
     }
 }
 
-/// Returns the verdict on a line with its written answer, judged by our answer and by the machine after the line. The
-/// words of the written answer are read into `words`.
+/// Returns the verdict on a line. `written` is the line's written answer, and `reply` is our answer. `machine` is the
+/// machine after the line. The words of the written answer are read into `words`.
 #[tactic(auto, unfolding(crate::specs::Judged::line_verdict))]
 pub fn line_verdict(
     asked: &Comparison,

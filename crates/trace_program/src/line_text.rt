@@ -10,7 +10,7 @@ use std::alloc::{AllocError, Global};
 use std::fmt::Write;
 use std::marker::Model;
 
-/// The text for lines that is not yet written to the output. It is seen as its bytes.
+/// A buffer for the output text of lines. It is seen as the bytes of the text.
 #[derive(Drop)]
 pub struct LineTexts {
     bytes: Vec<u8>,
@@ -27,7 +27,7 @@ impl Model for LineTexts {
 }
 
 impl LineTexts {
-    /// An empty text.
+    /// Creates an empty text.
     pub fn new(alloc: Global) -> LineTexts
         ensures { result ≡ [] }
     {
@@ -37,7 +37,7 @@ impl LineTexts {
         }
     }
 
-    /// The bytes of the text.
+    /// Returns the bytes of the text.
     pub fn as_slice(&self) -> &[u8]
         ensures { result.now ≡ self.now }
     {
@@ -115,7 +115,7 @@ impl LineTexts {
     }
 }
 
-/// The part of a line after its question and its written answer: the comment, and the blanks before it.
+/// Returns what follows a line's question and written answer. It is the comment, and the blanks before the comment.
 #[tactic(auto, unfolding(crate::specs::LineText::tail_of))]
 pub(crate) fn tail(bytes: &[u8]) -> &[u8]
     ensures { result.now ≡ tail_of bytes.now }

@@ -28,7 +28,8 @@ fn answer_of(line: &RmmTraceLine, written: &[u8]) -> Option<Sentence>
     }
 }
 
-/// Appends a raw line with the names of its command and outputs, and any other line as it is.
+/// Appends a raw line with the names of its command and outputs. A line that is not raw or cannot be named is appended
+/// as it is.
 #[tactic(auto, unfolding(crate::specs::LineText::named_text))]
 pub(crate) fn push_named(
     text: &mut LineTexts,

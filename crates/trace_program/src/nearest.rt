@@ -1,4 +1,4 @@
-//! The search for the word that was probably meant by a line that is not a command.
+//! The words to suggest for lines that are not commands.
 use rmm_trace::name_text;
 use rmm_trace::place::WRITE;
 use std::alloc::{AllocError, Global};
@@ -17,7 +17,9 @@ fn first_word(text: &str) -> &str {
     text.split(' ').next().unwrap_or("")
 }
 
-/// Returns the word nearest to a line's first word among those that can begin a question, if it is near but not equal.
+/// Returns the word to suggest for a line's first word. It is the nearest of the words that can begin a question.
+/// `None` if the line is not UTF-8, or if its first word is longer than 32 bytes, is one of these words, or is near to
+/// none of them.
 pub(crate) fn nearest_word(alloc: Global, line: &[u8]) -> Result<Option<&'static str>, AllocError> {
     let Ok(text) = str::from_utf8(line) else {
         return Ok(None);

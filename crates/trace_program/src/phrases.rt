@@ -360,8 +360,8 @@ const OF_COMMANDS: [(usize, Condition, &str); 34] = [
     ),
 ];
 
-/// The requirement of a check in a command, which is given by the place of its name in the grammar; empty if there is
-/// none.
+/// Returns the requirement of a check in a command. The text is empty if the check has none. The command is given by
+/// the index of its name in the grammar.
 pub(crate) fn requirement(command: usize, condition: Condition) -> &'static str {
     for row in &OF_COMMANDS {
         if row.0 == command && row.1 == condition {

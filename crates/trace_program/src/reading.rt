@@ -1,4 +1,4 @@
-//! The run of a trace: the loop that reads its lines and writes their texts.
+//! The run of a trace. A loop reads the lines of the trace, and writes their texts.
 ghost use Rattle.std.specs.Prelude.{◌≡◌, ◌++◌, ◌⊎◌, ◌↔◌, ℕ, List, [], Option, true, false, Err, IfOk, OnOk, OnErr};
 ghost use Rattle.std.specs.Io.KnownBytes.{Appends};
 ghost use Rattle.checked_io.specs.Whole.{AppendsFront};
@@ -171,7 +171,8 @@ impl Reading {
     }
 }
 
-/// Reads the lines of a trace, and writes the text of each read before the next read. A check ends with its counts.
+/// Reads a trace in parts, and writes the texts for its lines. The texts for a part are written before the next part is
+/// read. A check ends with its counts.
 ///
 /// Memory is taken for a fresh machine, for a line, of which no more than 65,537 bytes are kept, and for the texts of
 /// the lines of one read. Errors. `Memory`: allocation failed. `Device`: a read or a write failed. `TooLong`: the trace

@@ -75,8 +75,8 @@ fn push_passed(
     Ok(())
 }
 
-/// Returns the lines to print below a refused call: the check that decides, the other checks that failed, and the
-/// checks that passed.
+/// Returns the lines to print below a refused call. They are the check that decides, the other checks that failed, and
+/// the checks that passed.
 pub(crate) fn checks_text(
     alloc: Global,
     question: &[TraceWord],
@@ -89,7 +89,7 @@ pub(crate) fn checks_text(
     Ok(text)
 }
 
-/// Returns the line that suggests the word that was probably meant; empty if no word is near.
+/// Returns a line that suggests a word. It is the word that was probably meant. The text is empty if no word is near.
 pub(crate) fn hint(alloc: Global, bytes: &[u8], indent: &str) -> Result<String, AllocError> {
     match nearest_word(alloc, bytes)? {
         Some(word) => format!(in alloc; "{indent}help: did you mean {word}?\n"),
@@ -97,7 +97,7 @@ pub(crate) fn hint(alloc: Global, bytes: &[u8], indent: &str) -> Result<String, 
     }
 }
 
-/// Returns the first line of a note: the trace's name, the line's number, and the verdict.
+/// Returns the first line of a note. It has the trace's name, the number of the noted line, and the verdict.
 pub(crate) fn heading(
     alloc: Global,
     source: &str,
@@ -112,8 +112,8 @@ pub(crate) fn heading(
     Ok(text)
 }
 
-/// Returns the note on an allowed or wrong line, without its heading: the line, our answer, and a suggestion if the
-/// line is not a command.
+/// Returns the note on an allowed or wrong line, without its heading. The note has the line, our answer, and a
+/// suggestion if the line is not a command.
 pub(crate) fn difference(
     alloc: Global,
     bytes: &[u8],

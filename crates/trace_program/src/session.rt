@@ -26,7 +26,7 @@ pub struct LineWords {
 }
 
 impl LineWords {
-    /// The words before any line is read.
+    /// Creates the words of a session that has read no line.
     pub fn new() -> LineWords
         ensures line { result.line ≡ without_words Remark }
         ensures written { result.written.items ≡ [] }
@@ -45,12 +45,12 @@ pub struct Session {
     pub machine: TraceMachine,
     /// The counts of the lines so far.
     pub counts: Counts,
-    /// The answer to the last line that is not a remark (a comment or an empty line).
+    /// The answer to the last line that is not a remark. A remark is a comment or an empty line.
     pub reply: TraceReply,
 }
 
 impl Session {
-    /// A session before its first line.
+    /// Creates a session before its first line.
     pub fn new() -> Session
         ensures { result ≡ specs.fresh_session }
     {
@@ -242,7 +242,7 @@ impl Session {
         Ok(())
     }
 
-    /// Processes a line as the subcommand asks, and appends the text for it. The line is read into `words`.
+    /// Processes a line as the subcommand asks, and appends its text. The line is read into `words`.
     ///
     /// Errors: `Memory`, if allocation failed; `TooLong`, after 2^64 - 1 lines.
     pub fn take_line(
@@ -271,7 +271,7 @@ impl Session {
         Ok(())
     }
 
-    /// Whether the session takes no further line: a line is wrong, and the check stops at the first wrong line.
+    /// Whether the session is over. It is if a check that stops at the first wrong line has found one.
     pub fn is_done(&self, asked: &TraceSubcommand) -> bool
         ensures { result ≡ specs.is_check_done asked.now self.now }
     {

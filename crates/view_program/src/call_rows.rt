@@ -173,7 +173,7 @@ fn push_done(text: &mut String, action: &HostAction) -> Result<(), AllocError> {
     }
 }
 
-/// Appends the rows of an operation, the counterpart of the trace line that `push_action` appends.
+/// Appends the rows of an operation. `push_action` appends the trace line of an operation.
 ///
 /// `AllocError`: the text may have a part of the rows.
 pub(crate) fn push_action_rows(
@@ -192,8 +192,8 @@ pub(crate) fn push_action_rows(
     }
 }
 
-/// Appends the row that describes the machine of a frame, the counterpart of the trace line that `push_platform`
-/// appends.
+/// Appends the row that describes the machine of a frame. `push_platform` appends the trace line that describes the
+/// machine.
 pub(crate) fn push_platform_row(
     text: &mut String,
     frame: Frame,

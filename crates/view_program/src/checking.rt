@@ -15,7 +15,7 @@ use std::io::{Read, Write};
 pub enum ViewOutcome {
     /// A subcommand that is done.
     Done,
-    /// An input of `check` that is not a plan, and whose errors have been written.
+    /// An input of `check` that is not a plan. Its errors have been written.
     HasErrors,
 }
 
@@ -30,8 +30,8 @@ fn verdict_of(is_plan: bool) -> ViewOutcome
     }
 }
 
-/// Checks the bytes from a reader as a plan, and writes the findings to a writer. The findings are all errors of bytes that are no plan, or else the
-/// plan's likely slips and size.
+/// Checks an input as a plan, and writes the findings. The findings are all errors of bytes that are no plan, or else
+/// the plan's likely slips and size.
 ///
 /// The text is complete before any of it is written. Errors: Memory, if allocation failed; Device, if a read failed and
 /// nothing is written, or if a write failed and a prefix of the text is written.

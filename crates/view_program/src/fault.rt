@@ -1,4 +1,4 @@
-//! The reasons why a text is not printed, or is printed only in part.
+//! The reasons why a text is not printed in full.
 ghost use Rattle.std.specs.Prelude.{◌≡◌};
 ghost use Rattle.view_program.specs.declared.fault.ViewError.TheVariants.{Plan, Memory, Device};
 
@@ -8,11 +8,11 @@ use realm_host::WhyNot;
 use std::alloc::AllocError;
 use thiserror::Error;
 
-/// The reason why a text is not printed, or is printed only in part. The line of the reason goes to standard error.
-/// Lines are counted from 1.
+/// The reason why a text is not printed in full. The line of the reason goes to standard error. Lines are counted from
+/// 1.
 #[derive(Debug, Drop, Error)]
 pub enum ViewError {
-    /// An input that is not a plan, with its errors as `check` writes them.
+    /// An input that is not a plan. The string has the input's errors as `check` writes them.
     #[error("{}", .0.trim_end())]
     NoPlan(String),
     /// A plan from which the requested text cannot be made, with the reason.
@@ -21,16 +21,17 @@ pub enum ViewError {
     /// A history whose first line is missing or is not an opening.
     #[error("line 1 opens no history")]
     NoOpening,
-    /// The number of a line that is no event.
+    /// A line that is not an event, with its number.
     #[error("line {0} is no event")]
     NoEvent(usize),
-    /// An event that cannot be applied: the number of its line, the reason, and the words for it.
+    /// An event that cannot be applied. The fields are the number of its line, the reason, and the reason in words.
     #[error("line {0} is refused: {2}")]
     Refused(usize, WhyNot, String),
     /// A request to leave out a build that the machine does not have.
     #[error("erase names no build")]
     EraseNamesNoBuild,
-    /// A plan that would have too many turns or bytes if its schedule had all the turns that its builds need.
+    /// A plan that its new schedule would make too large. With all the turns that its builds need, the plan would have
+    /// too many turns or bytes.
     #[error("with the turns that its builds need, the plan has more than 16384 turns or 1048576 bytes")]
     OrderOutsideLimits,
     /// A failed allocation.

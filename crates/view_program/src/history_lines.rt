@@ -49,7 +49,8 @@ fn take_line<S: PageStore>(alloc: Global, host: &mut Host<S>, line: &[u8]) -> Re
     }
 }
 
-/// Applies the events of the next lines, in sequence, up to the first line that is no event or cannot be applied.
+/// Applies the events of the next lines, in sequence. Stops at the first line that is no event, or whose event cannot
+/// be applied.
 pub fn take_lines<R: Read, S: PageStore>(
     alloc: Global,
     lines: &mut Lines,

@@ -1,4 +1,5 @@
-//! The parts of `realmview`, which shows plans and histories: its texts, its subcommands, and the reasons why it stops.
+//! The parts of `realmview`, which shows plans and histories. They are its texts, its subcommands, and the reasons why
+//! it stops.
 //!
 //! `Histories`, `Reasons`, `Documents`, `Pages` and `Exploring` are the texts of plans that `print` writes. `apply`
 //! goes from the lines of a history to the map of its machine. `check` goes from bytes to the findings on them as a

@@ -6,7 +6,7 @@ use std::alloc::{AllocError, Global};
 use toml_parser::text::{first, skip, skip_blank, skip_ws};
 use toml_parser::{Key, ParseError, dotted_key, quoted, starts_string, unquoted};
 
-/// The part of a plan's text that a new schedule replaces, as two byte offsets.
+/// The part of a plan's text that a new schedule replaces. `from` and `to` are byte offsets.
 #[derive(Clone, Copy)]
 pub struct OrderPlace {
     pub from: usize,

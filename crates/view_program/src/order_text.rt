@@ -2,11 +2,10 @@
 use std::alloc::{AllocError, Global};
 use std::fmt;
 
-/// The largest number of turns that are written on the line of the key. Such a line has up to 100 columns.
+/// The most turns that are written on the line of the key `order`. Such a line has up to 100 columns.
 const MOST_ON_ONE: usize = 30;
 
-/// The number of turns on each line below the key, if there are too many for the line of the key. Such a line has up to
-/// 100 columns too.
+/// The most turns on one line below the key `order`. Such a line has up to 100 columns too.
 const TURNS_A_LINE: usize = 32;
 
 /// Turns that are displayed with commas between them.
@@ -34,7 +33,7 @@ fn push_lines(text: &mut String, order: &[usize]) -> Result<(), AllocError> {
     text.push_str("]")
 }
 
-/// The schedule as an array: on one line if it fits, or else in lines of 32 turns.
+/// Returns the text of a schedule as an array. Up to 30 turns are on one line, and more turns are in lines of up to 32.
 pub fn order_array(alloc: Global, order: &[usize]) -> Result<String, AllocError> {
     let mut text = String::new(alloc);
     if order.len() > MOST_ON_ONE {

@@ -6,8 +6,8 @@ use realm_program::boot;
 use serde::Serialize;
 use std::alloc::{AllocError, Global};
 
-/// A refused turn: its number, the check that fails, and a step that helps. Turns are counted from 0 as in the document
-/// of the run, and the step is empty if none helps.
+/// A refused turn, with the check that fails and a step that helps. Turns are counted from 0 as in the document of the
+/// run, and the step is empty if none helps.
 #[derive(Drop, Serialize)]
 pub(crate) struct RefusedTurn {
     turn: usize,
@@ -16,7 +16,7 @@ pub(crate) struct RefusedTurn {
     help: String,
 }
 
-/// The refused turns of the plan's run.
+/// Returns the refused turns of a plan's run.
 pub(crate) fn refused_turns(alloc: Global, plan: &Plan) -> Result<Vec<RefusedTurn>, AllocError> {
     let mut host = boot::<BuddyArena>(alloc, plan)?;
     let mut refused = Vec::new(alloc);

@@ -1,4 +1,4 @@
-//! The plan whose schedule is the shortest that answers a question.
+//! A plan with the shortest schedule that answers a question.
 ghost use Rattle.std.specs.Prelude.{◌≡◌, true, IfOk, IfErr, string_bytes};
 ghost use Rattle.realm_plan.specs.PlanView.{plan_view};
 ghost use Rattle.plan_states.specs.Exploration.{HasNoGraph};
@@ -119,8 +119,8 @@ fn never_text(alloc: Global, asked: ScheduleQuestion) -> Result<String, AllocErr
     }
 }
 
-/// The text of a plan with the shortest schedule whose last turn answers a question. If there is none, or if there are
-/// more than `most` states, the line that says so.
+/// Returns the text of a plan whose schedule answers a question. It is the shortest schedule whose last turn answers
+/// the question. If there is none, or if there are more than `most` states, returns a line that says so.
 ///
 /// Errors. `Memory`: allocation failed. `Mismatch`: with its new schedule the plan has more than 1,048,576 bytes. Or a
 /// run does not go on as another one said, which never happens on a host that gives the same answers to the same calls.

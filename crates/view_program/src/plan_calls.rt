@@ -1,4 +1,4 @@
-//! The calls of a plan's run, as lines of a trace or as rows of a C table.
+//! The calls of a plan's run, as a trace or a C table.
 ghost use Rattle.std.specs.Prelude.{◌<◌, None, vec_len};
 ghost use Rattle.realm_program.specs.Replay.{IsWithoutText};
 ghost use Rattle.view_program.specs.Calls.{IsCallsText};
@@ -37,7 +37,7 @@ fn is_beside_ram(host: &Host<BuddyArena>, event: &Event) -> bool {
     }
 }
 
-/// The text of the calls so far, and the pages for the exits of running RECs.
+/// The text of the calls so far. `runs` has the pages for the exits from running RECs.
 #[derive(Drop)]
 struct CallsText {
     text: String,

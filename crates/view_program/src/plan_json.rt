@@ -13,7 +13,7 @@ use realm_program::{Fault, boot};
 use run_json::{Document, json_text, run_document};
 use std::alloc::{AllocError, Global};
 
-/// The document of a run of the plan, and the ledger after the run.
+/// Returns the document of a plan's run, and the ledger after the run.
 pub(crate) fn run_of(alloc: Global, plan: &Plan) -> Result<(Document, HostLedger), AllocError>
     ensures { IfOk result (λ ran. IsDocument (plan_view plan.now) (opening_host (plan_view plan.now)) ran.1 ran.0) }
 {

@@ -1,4 +1,4 @@
-//! The subcommand `order`, which rewrites a plan with a schedule that gives each build all the turns that it needs.
+//! The subcommand `order`. It rewrites a plan with a schedule that gives each build all the turns that it needs.
 ghost use Rattle.std.specs.Prelude.{◌≡◌, ◌+◌, ◌≤◌, ◌↔◌, ◌⊎◌, false, true, Err, IfOk, IfErr, OnOk};
 ghost use Rattle.realm_plan.specs.PlanView.{plan_view};
 ghost use Rattle.view_program.specs.Reordered.{IsOrderOf, IsWholeText, IsNotWhole, IsNotReordered, IsReorderEnd};
@@ -64,7 +64,8 @@ fn with_part(
     Ok(text)
 }
 
-/// The text of a plan with the schedule `order` in place of its own. The one error is that allocation failed.
+/// Returns a plan's text with the schedule `order`. `order` takes the place of the plan's own schedule. The one error
+/// is that allocation failed.
 pub(crate) fn with_order(
     alloc: Global,
     bytes: &[u8],
@@ -121,10 +122,10 @@ fn reordered(
     Ok(text)
 }
 
-/// Reads a plan, and writes it with a schedule that gives each build all the turns that it needs. The turns include
-/// those of aborts and rollbacks. The value of `order` is replaced, and the rest of the text is as it was. The text is
-/// read back before it is written. Its schedule is that of a run of itself, in which each turn is of a build that has a
-/// step left, until none has.
+/// Reads a plan, and writes it with a new schedule. The schedule gives each build all the turns that it needs. The
+/// turns include those of aborts and rollbacks. The value of `order` is replaced, and the rest of the text is as it
+/// was. The text is read back before it is written. Its schedule is that of a run of itself, in which each turn is of a
+/// build that has a step left, until none has.
 ///
 /// The text is complete before any of it is written. Errors. `NoPlan`, with the errors of an input that is no plan.
 /// `OrderOutsideLimits`: the plan would have too many turns or bytes. `Memory`: allocation failed. `Device`: a read

@@ -18,8 +18,8 @@ use run_json::{Document, WorldItem, json_text, page_of, world_item};
 use serde::Serialize;
 use std::alloc::{AllocError, Global};
 
-/// The data of a browser page: a run, the refused turns, and for each build the machine after the run's history without
-/// that build. The title of the plan is empty if it has none.
+/// The data of a browser page. They have a run and its refused turns. For each build, they have the machine as it would
+/// be without that build's events. The title of the plan is empty if it has none.
 #[derive(Drop, Serialize)]
 struct PageData {
     run: Document,

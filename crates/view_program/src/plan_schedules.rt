@@ -69,9 +69,9 @@ fn plan_after(after: AfterRefusal, plan: Plan) -> Plan
     }
 }
 
-/// The outcomes of schedules of a plan's builds, whatever the plan's own schedule is. They are the number of schedules,
-/// and counts of the steps' outcomes, of builds without a refusal, and of final maps. Each outcome has the first
-/// schedule that shows it.
+/// The outcomes of schedules of a plan's builds. The plan's own schedule has no effect on them. They are the number of
+/// schedules, and counts of the steps' outcomes, of builds without a refusal, and of final maps. Each outcome has the
+/// first schedule that shows it.
 ///
 /// A plan has no such text if a run does not go on as another one said (Mismatch), or if allocation failed.
 #[derive(Drop)]
@@ -80,7 +80,7 @@ pub struct Exploring<'a, P> {
     pub orders: Schedules,
     /// Whether the builds go on or give up after a refusal.
     pub after: AfterRefusal,
-    /// The receiver of the progress: each schedule that is drawn and run is reported to it.
+    /// The receiver of progress reports. Each schedule that is drawn and run is reported to it.
     pub progress: &'a P,
 }
 

@@ -1,4 +1,4 @@
-//! The trait for the kinds of text that can be made from a plan.
+//! The kinds of text that can be made from a plan.
 ghost use Rattle.std.specs.Prelude.{ℕ, List, IfOk, IfErr};
 ghost use Rattle.realm_plan.specs.Plan.{Plan as PlanModel};
 ghost use Rattle.realm_plan.specs.PlanView.{plan_view};
@@ -15,8 +15,8 @@ pub trait ViewText {
 
     ghost is_without: { Self → PlanModel → FaultModel → Type 0 };
 
-    /// The text of a plan, complete in memory, or the reason why there is none. `source` has the bytes of the plan's
-    /// input, with its comments.
+    /// Returns the text of a plan, complete in memory. The error is the reason why there is no text. `source` has the
+    /// bytes of the plan's input, with its comments.
     fn text_of(&self, alloc: Global, plan: Plan, source: &[u8]) -> Result<Vec<u8>, Fault>
         ensures ok { IfOk result (λ text. is_text self.now (plan_view plan) text.items) }
         ensures err { IfErr result (λ fault. is_without self.now (plan_view plan) fault) }

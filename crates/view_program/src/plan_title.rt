@@ -7,7 +7,8 @@ fn comment_in(line: &str) -> Option<&str> {
     Some(line.trim().strip_prefix('#')?.trim())
 }
 
-/// The comment at the beginning of a plan, with its lines joined by spaces. It is empty if there is none.
+/// Returns the title of a plan. It is the comment at the beginning, with its lines joined by spaces. The title is empty
+/// if there is no comment.
 pub(crate) fn plan_title(alloc: Global, source: &[u8]) -> Result<String, AllocError> {
     let text = from_utf8(source).unwrap_or("");
     let text = text.strip_prefix('\u{feff}').unwrap_or(text);

@@ -1,4 +1,4 @@
-//! The reading of a plan from an input, and the printing of a text of the plan.
+//! The reading of plans, and the printing of their texts.
 ghost use Rattle.std.specs.Prelude.{◌≡◌, ◌↔◌, ◌⊎◌, false, true, Err, IfOk, IfErr};
 ghost use Rattle.realm_plan.specs.Plan.{plan_of};
 ghost use Rattle.realm_plan.specs.PlanView.{plan_view};
@@ -15,7 +15,7 @@ use realm_program::read_whole;
 use std::alloc::Global;
 use std::io::{Read, Write};
 
-/// Parses bytes as a plan, or returns the errors of bytes that are no plan.
+/// Parses bytes as a plan. If they are not a plan, returns `NoPlan` with their errors.
 pub(crate) fn plan_from(alloc: Global, source: &str, bytes: &[u8]) -> Result<Plan, ViewError>
     ensures ok { IfOk result (λ plan. plan_of bytes.now ≡ Ok (plan_view plan)) }
     ensures err { IfErr result (GivesNoPlan source.now bytes.now) }

@@ -39,8 +39,8 @@ fn is_of_the_standard(host: &Host<BuddyArena>, build: BuildId, cmd: &Cmd, rmi: R
     }
 }
 
-/// The operations for a command that the RMM has just refused, if RMM 1.0 has the call and refuses it with the same
-/// word. The page for exits is one that no REC uses before all others are in use.
+/// Returns the operations for a command that the RMM has just refused. `None` if RMM 1.0 has no such call or may answer
+/// otherwise. The page for exits is one that no REC uses before all others are in use.
 pub(crate) fn refused_calls(
     frame: Frame,
     host: &Host<BuddyArena>,

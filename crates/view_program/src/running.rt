@@ -13,8 +13,8 @@ use checked_io::Told;
 use std::alloc::Global;
 use std::io::{Read, Write};
 
-/// Performs a subcommand, with any reader as its input and any writer as its output. Findings on a plan name the input
-/// by `source`. `progress` receives the progress of an exploration of schedules.
+/// Performs a subcommand. Its input is any reader, and its output is any writer. Findings on a plan name the input by
+/// `source`. `progress` receives the progress of an exploration of schedules.
 pub fn run<R: Read, W: Write, P: Progress>(
     alloc: Global,
     asked: ViewSubcommand,

@@ -70,7 +70,7 @@ fn count_smooth(
 }
 
 impl Totals {
-    /// The totals before any schedule is counted.
+    /// Creates the totals before any schedule is counted.
     pub fn new(alloc: Global) -> Totals
         ensures { (builds : ℕ) → AreTotals builds [] result }
     {
@@ -85,7 +85,7 @@ impl Totals {
         }
     }
 
-    /// Counts the run of one more schedule of a plan of `builds` builds. At an `Err` allocation failed, and a part of
+    /// Counts the run of one more schedule. The plan has `builds` builds. At an `Err` allocation failed, and a part of
     /// the run may be counted: the totals are then those of no list of runs.
     pub fn add(
         &mut self,

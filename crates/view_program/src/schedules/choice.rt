@@ -1,6 +1,6 @@
 //! The choice of the build that takes a turn.
 
-/// The build that takes a turn, and the builds that had a step left for the turn.
+/// The build that takes a turn. `left` has the builds that had a step left for the turn.
 #[derive(Clone, Copy)]
 pub struct Choice {
     pub build: usize,

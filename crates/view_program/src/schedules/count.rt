@@ -8,7 +8,7 @@ use plan_states::PathTally;
 use schedule_graph::Count;
 use std::alloc::{AllocError, Global};
 
-/// The builds that were chosen for the turns, in sequence. At an `Err` allocation failed.
+/// Returns the builds that were chosen for the turns, in sequence. At an `Err` allocation failed.
 pub(crate) fn builds_of(alloc: Global, order: &[Choice]) -> Result<Vec<usize>, AllocError>
     ensures { IfOk result (λ builds. builds.items ≡ map (λ choice. choice.build) order.now) }
 {

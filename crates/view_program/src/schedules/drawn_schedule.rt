@@ -68,8 +68,8 @@ fn go_on_drawn<S: PageStore, R: Rng>(
     Ok(())
 }
 
-/// Runs a plan on a host, and draws the build of each turn from those with a step left, until no build has one. The
-/// choices are then those of the whole schedule, and the outcome of each step is recorded. At an `Err` allocation
+/// Runs a plan on a host until no build has a step left. The build of each turn is drawn from those that have one left.
+/// The choices are then those of the whole schedule, and the outcome of each step is recorded. At an `Err` allocation
 /// failed.
 pub fn run_drawn<S: PageStore, R: Rng>(
     host: &mut Host<S>,

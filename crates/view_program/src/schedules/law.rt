@@ -17,8 +17,8 @@ ghost use Rattle.plan_states.specs.declared.graph.Graph.{Graph};
 ghost use Rattle.plan_states.specs.declared.tally.Outcomes.{Outcomes};
 ghost use Rattle.plan_states.specs.declared.step_end.EndOfStep.{EndOfStep};
 
-/// The number that `explore` prints is that of all schedules under any rule that agrees with the paths of the plan's
-/// graph. The rule says which of eight builds have a step left after which turns. In a plan without aborts and
+/// `explore` prints the number of all schedules that follow a rule. The rule is any that agrees with the paths of the
+/// plan's graph. The rule says which of eight builds have a step left after which turns. In a plan without aborts and
 /// rollbacks that does not give up, a build has a step left if it had fewer turns than steps.
 pub fn all_schedules_are_counted()
     ensures by_rule { (plan : Plan) (most : ℕ) (graph : Graph) (outcomes : Outcomes) (left : List ℕ → ℕ → Bool)
@@ -29,15 +29,16 @@ pub fn all_schedules_are_counted()
         → IsNumberOf (IsSchedule (by_turns plan) []) outcomes.steps.orders }
 {}
 
-/// A run in a chosen schedule is a run of the plan that has this schedule as its own.
+/// A run in a chosen schedule is the run of a plan. It is the run of the same plan with its own schedule replaced by
+/// the chosen one.
 pub fn a_run_is_one_of_the_plan()
     ensures { (plan : Plan) (host : HostView) (choices : List Choice) (to : HostView) (ends : List EndOfStep)
         → IsChosenRun plan host choices to ends
         → (text : List ℕ) × IsReportedRun (record plan { order = chosen_schedule choices }) host to [] text }
 {}
 
-/// The outcomes that a run records for its steps are those that its lines report, in the same sequence. Each outcome is that
-/// of a turn of the same build, with the refusal of its line.
+/// A run records the outcomes of steps that its lines report. The sequence is the same. Each outcome is that of a turn
+/// of the same build, with the refusal of its line.
 pub fn ends_are_reported()
     ensures { (plan : Plan) (host : HostView) (choices : List Choice) (to : HostView) (ends : List EndOfStep)
         → IsChosenRun plan host choices to ends
@@ -50,7 +51,8 @@ pub fn end_texts_are_injective()
     ensures { (one other : EndOfStep) → (same_end one other ≡ true) ↔ (one ≡ other) }
 {}
 
-/// A build that has nothing open does not affect the map. The map is that of the history without the build.
+/// A build without open operations does not affect a host's map. If the history is legal, the map is that of the
+/// history without the build.
 pub fn builds_with_nothing_open_are_not_seen()
     ensures { (host : HostView) (build : ℕ) → IsUnseen host build }
 {}

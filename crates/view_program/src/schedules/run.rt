@@ -1,4 +1,4 @@
-//! The run of a plan in which each build has all its turns before the next build has one.
+//! The run of a plan, one build after another. Each build has all its turns before the next build has one.
 ghost use Rattle.std.specs.Prelude.{◌≡◌, ◌^◌, ◌<◌, true, OnOk, vec_len};
 ghost use Rattle.realm_plan.specs.PlanView.{plan_view};
 ghost use Rattle.plan_replay.specs.Run.{place_of};
@@ -26,7 +26,7 @@ fn place_at(places: &[PlanCursor; 8], build: usize) -> PlanCursor
     places[build]
 }
 
-/// Returns, for each build, whether it has a step left.
+/// Returns which builds have a step left.
 #[tactic(auto, unfolding(crate::specs::Chosen::builds_left))]
 pub(crate) fn builds_left(plan: &Plan, places: &[PlanCursor; 8]) -> [bool; 8]
     ensures { result ≡ builds_left (plan_view plan.now) places.now }
@@ -38,7 +38,7 @@ pub(crate) fn builds_left(plan: &Plan, places: &[PlanCursor; 8]) -> [bool; 8]
     left
 }
 
-/// The lowest build that has a step left.
+/// Finds the lowest build that has a step left.
 #[tactic(auto, unfolding(crate::specs::Chosen::lowest_of))]
 pub(crate) fn lowest_of(left: &[bool; 8]) -> Option<usize>
     ensures { result ≡ lowest_of left.now }
@@ -106,8 +106,9 @@ fn go_on<S: PageStore>(
     Ok(())
 }
 
-/// Runs a plan on a host, and gives each turn to the lowest build with a step left, until no build has one. The choices
-/// are then those of the whole schedule, and the outcome of each step is recorded. At an `Err` allocation failed.
+/// Runs a plan on a host until no build has a step left. Each turn goes to the lowest build that has one left. The
+/// choices are then those of the whole schedule, and the outcome of each step is recorded. At an `Err` allocation
+/// failed.
 pub(crate) fn run_one_by_one<S: PageStore>(
     host: &mut Host<S>,
     plan: &Plan,

@@ -34,8 +34,8 @@ fn push_maps(
     Ok(())
 }
 
-/// Appends the outcomes of drawn schedules: the number of schedules, the outcomes of steps, and the final maps. At an
-/// `Err` allocation failed, and the text may have a part of it.
+/// Appends the outcomes of drawn schedules. They are the number of schedules, the outcomes of steps, and the final
+/// maps. At an `Err` allocation failed, and the text may have a part of it.
 pub fn push_drawn(text: &mut String, plan: &Plan, totals: &Totals) -> Result<(), AllocError>
     ensures { OnOk result (string_bytes text.new ≡ string_bytes text.old ++ drawn_text (plan_view plan.now) totals.now) }
 {

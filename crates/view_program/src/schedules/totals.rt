@@ -5,6 +5,6 @@ use plan_states::{PathTally, StepOutcomes};
 #[derive(Drop)]
 pub struct Totals {
     pub steps: StepOutcomes,
-    /// The final maps.
+    /// The tallies of the final maps.
     pub maps: Vec<PathTally<String>>,
 }

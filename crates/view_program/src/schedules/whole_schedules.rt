@@ -12,8 +12,9 @@ use realm_plan::Plan;
 use realm_program::boot;
 use std::alloc::{AllocError, Global};
 
-/// The build of each turn of a run on a fresh host, with turns in rotation among the builds with a step left. The
-/// plan's own schedule is not used. At an `Err` allocation failed.
+/// Returns a schedule in which builds take turns in rotation. These are the builds with a step left. The schedule has
+/// the index of each turn's build. It is the schedule of a run on a fresh host. The plan's own schedule is not used. At
+/// an `Err` allocation failed.
 pub fn schedule_in_rotation(alloc: Global, plan: &Plan) -> Result<Vec<usize>, AllocError>
     ensures { IfOk result (λ order. IsWholeSchedule (AreInRotation 0) (plan_view plan.now)
         (opening_host (plan_view plan.now)) order.items) }
@@ -25,8 +26,9 @@ pub fn schedule_in_rotation(alloc: Global, plan: &Plan) -> Result<Vec<usize>, Al
     builds_of(alloc, &choices)
 }
 
-/// The build of each turn of a run on a fresh host, with all turns of a lower build before those of a higher one. The
-/// plan's own schedule is not used. At an `Err` allocation failed.
+/// Returns a schedule in which one build follows another. Each build has all its turns before the next build has one.
+/// The schedule has the index of each turn's build. It is the schedule of a run on a fresh host. The plan's own
+/// schedule is not used. At an `Err` allocation failed.
 pub fn schedule_one_by_one(alloc: Global, plan: &Plan) -> Result<Vec<usize>, AllocError>
     ensures { IfOk result (λ order. IsWholeSchedule AreOneByOne (plan_view plan.now)
         (opening_host (plan_view plan.now)) order.items) }
