@@ -1,4 +1,4 @@
-//! RMI_REC_ENTER.
+//! The command RMI_REC_ENTER.
 ghost use Rattle.std.specs.Prelude.{◌≡◌, ◌<◌, ◌≤◌, ◌==◌, ◌&&◌, false, not, IfOk};
 ghost use Rattle.rmm_model.specs.declared.rec.LastExit.TheVariants.{RipasChange, HostCall, EmulatableAbort};
 ghost use Rattle.rmm_model.specs.Guest as guests;
@@ -38,6 +38,7 @@ pub struct Entering {
 // ---- exits
 
 // Ends the run of a REC with an exit.
+#[inline(always)]
 #[tactic(auto, unfolding(rmm_model::specs::Command::RecEnter::after_exit))]
 pub fn leave<S: PageStore>(granules: &mut Granules<S>, g: Gran, exit: &RecExit, last: LastExit)
     requires { g < granule_count granules.old }
@@ -349,6 +350,24 @@ fn perform_steps<S: PageStore>(granules: &mut Granules<S>, g: Gran, flags: u64) 
     true
 }
 
+// Runs a guest. If the guest has no step to perform, its REC leaves at once. Returns whether the REC left.
+fn run_guest<S: PageStore>(granules: &mut Granules<S>, g: Gran, flags: u64) -> bool
+    requires { g < granule_count granules.old }
+    ensures { (result, granules.new) ≡ command.after_steps granules.old g flags 16 }
+{
+    if is_idle(granules, g) {
+        leave(
+            granules,
+            g,
+            &RecExit::only(ExitReason::Irq),
+            LastExit::Other,
+        );
+        true
+    } else {
+        perform_steps(granules, g, flags)
+    }
+}
+
 // ---- the command
 
 // Checks that a realm is ACTIVE, its REC READY and runnable, the run page's MMIO flag and GIC fields valid, and no PSCI
@@ -421,7 +440,7 @@ pub fn rec_enter<S: PageStore>(granules: &mut Granules<S>, rec: u64, address: u6
         Ok(found) => {
             let flags = EnterFlags::read(granules.page(found.run));
             enter(granules, found.rec, address, found.run, flags);
-            if perform_steps(granules, found.rec, flags) {
+            if run_guest(granules, found.rec, flags) {
                 SmcResult::only(Word::Success)
             } else {
                 SmcResult::only(Word::Running)
