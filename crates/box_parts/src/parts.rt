@@ -17,7 +17,7 @@ impl<T, A: Allocator> Model for BoxParts<T, A> {
 }
 
 impl<T, A: Allocator> BoxParts<T, A> {
-    /// Takes a box apart.
+    /// Splits a box into its pointer and its allocator.
     pub fn of(b: Box<T, A>) -> BoxParts<T, A>
     where
         T: Drop,

@@ -26,8 +26,8 @@ pub struct BuddyArena {
 }
 
 impl BuddyArena {
-    /// Creates a store of `pages` pages. All pages are free, and filled with zeros. `BadSize` comes exactly when
-    /// `pages` is not 1 to 4,096; the only other error is `Memory`.
+    /// Creates a buddy allocator of `pages` free pages, all filled with zeros. `BadSize` comes exactly when `pages` is
+    /// not 1 to 4,096; the only other error is `Memory`.
     pub fn build(alloc: Global, pages: u16) -> Result<BuddyArena, BuildError>
         ensures bad_size { IsErrOf result BuildError.BadSize ↔ ((pages < 1) ⊎ (4096 < pages)) }
         ensures zero { IfOk result (λ arena. ⟦<BuddyArena as PageStore>⟧.page_bytes arena ≡ replicate pages zero_page) }
@@ -43,7 +43,7 @@ impl BuddyArena {
         })
     }
 
-    /// Whether a block is a maximal free block. Such a block is free, and is part of no larger free block.
+    /// Whether a block is free and is part of no larger free block. Such a block is a maximal free block.
     pub fn is_free_block(&self, order: Order, first: Gran) -> bool
         ensures { IsTrue result ↔
             IsMaximalBlock (⟦<BuddyArena as PageStore>⟧.free_flags self.now) order first }
@@ -52,8 +52,8 @@ impl BuddyArena {
             .is_free_block(order.number() as usize, first.number() as usize)
     }
 
-    /// The number of orders that the last `take`, `take_at` or `give` visited. Each turn of the loop in these calls
-    /// visits one order.
+    /// Returns the number of block orders that the last `take`, `take_at` or `give` visited. Each turn of the loop in
+    /// these calls visits one order.
     pub fn visits(&self) -> u8
         ensures { result ≡ self.now.visits }
     {
@@ -113,8 +113,8 @@ impl PageStore for BuddyArena {
         taken
     }
 
-    /// Gives a block back. The visits are one for each order from that of the block up to that of the maximal block
-    /// that it becomes part of.
+    /// Frees a taken block, and fills its pages with zeros. The visits are one for each order from that of the block up
+    /// to that of the maximal block that it becomes part of.
     fn give(&mut self, first: Gran, order: Order)
         requires { IsTakenBlock self.old.index.flags order first }
         ensures given { self.new.index.flags ≡ with_given self.old.index.flags order first }

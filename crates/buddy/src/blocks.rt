@@ -26,7 +26,7 @@ pub(crate) fn size_of(order: usize) -> u16
     order_of(order).size()
 }
 
-/// Returns the first granule of the block that contains `granule`. The block is of order `order`.
+/// Rounds `granule` down to the first granule of a block of order `order`.
 pub(crate) fn start_of(granule: usize, order: usize) -> usize
     requires granule { granule < 4096 }
     requires order { order < 10 }
@@ -111,8 +111,8 @@ fn free_buddy(lists: &FreeLists, first: usize, order: usize) -> Option<usize>
     None
 }
 
-/// Puts a block back into the free lists. The block is merged with its buddy if the whole buddy is free. The merged
-/// block is merged in turn, order by order. Returns the number of orders visited.
+/// Puts a block back into the free lists, merged with its free buddies. The block is merged with its buddy if the whole
+/// buddy is free. The merged block is merged in turn, order by order. Returns the number of orders visited.
 pub(crate) fn give_to(lists: &mut FreeLists, first: usize, order: usize) -> u8
     ghost flags: { List Bool }
     requires few { length flags ≤ 4096 }

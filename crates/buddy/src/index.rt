@@ -1,4 +1,4 @@
-//! The index of free granules. It is kept as lists of the maximal free blocks.
+//! The index of free granules, kept as lists of the maximal free blocks.
 ghost use Rattle.std.specs.Prelude.{◌≡◌, ◌≢◌, ℕ, ◌+◌, ◌%◌, ◌^◌, ◌<◌, ◌≤◌, ◌↔◌, true, length, filter, replicate, IsTrue, IfOk, IfSome, IfNone, option_map};
 ghost use Rattle.std.specs.Bool.{OnTrue, OnFalse};
 ghost use Rattle.page_arena.specs.Block.{IsFreeBlock, IsTakenBlock, with_taken, with_given};
@@ -10,8 +10,8 @@ use crate::lists::FreeLists;
 use std::alloc::{AllocError, Global};
 use std::marker::Model;
 
-/// The index of free granules. It is kept as lists of the maximal free blocks. The view is a flag for each granule, and
-/// the lists.
+/// An index of free granules, kept as lists of the maximal free blocks. The view is a flag for each granule, and the
+/// lists.
 #[derive(Drop)]
 pub(crate) struct FreeIndex {
     lists: FreeLists,
@@ -54,7 +54,7 @@ impl FreeIndex {
         self.count
     }
 
-    /// Whether a block is one of the maximal free ones.
+    /// Whether a block is free and is part of no larger free block.
     pub(crate) fn is_free_block(&self, order: usize, first: usize) -> bool
         requires { order < 10 }
         ensures { IsTrue result ↔ IsMaximalBlock self.now.flags order first }
@@ -101,7 +101,7 @@ impl FreeIndex {
         (taken, turns)
     }
 
-    /// Gives a block back. Returns the number of orders visited.
+    /// Marks the granules of a taken block as free. Returns the number of orders visited.
     pub(crate) fn give(&mut self, first: usize, order: usize) -> u8
         requires order { order < 10 }
         requires block { IsTakenBlock self.old.flags order first }

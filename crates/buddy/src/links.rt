@@ -33,7 +33,7 @@ impl Model for Links {
 }
 
 impl Links {
-    /// Creates empty lists for `count` granules.
+    /// Creates an empty free list for each order, for a machine of `count` granules.
     pub(crate) fn build(alloc: Global, count: usize) -> Result<Links, AllocError>
         requires { count ≤ 4096 }
         ensures { IfOk result (λ links. links.heads ≡ replicate count 0) }
@@ -49,8 +49,8 @@ impl Links {
         })
     }
 
-    /// Returns the head of a granule. That is one more than the order of the listed block that begins there, or 0 if no
-    /// listed block does.
+    /// Returns a granule's head: one more than the order of the free block beginning there. The head is 0 if no listed
+    /// block begins there.
     pub(crate) fn head(&self, granule: usize) -> u8
         ensures { result ≡ head_at self.now.heads granule }
     {
@@ -61,7 +61,7 @@ impl Links {
         }
     }
 
-    /// Returns the first block in the list of an order.
+    /// Returns the first block in the free list of an order.
     pub(crate) fn first(&self, order: usize) -> Option<usize>
         requires { order < 10 }
         ensures first { IfSome result (λ first. first ≡ at self.now.firsts order) }
@@ -76,7 +76,7 @@ impl Links {
         }
     }
 
-    /// Puts a granule at the front of an order's list.
+    /// Puts a block, given by its first granule, at the front of an order's list.
     pub(crate) fn put(&mut self, granule: usize, order: usize)
         requires order { order < 10 }
         requires inside { granule < length self.old.heads }
@@ -94,7 +94,8 @@ impl Links {
         }
     }
 
-    /// Takes a granule out of an order's list. The granule's neighbours in the list are linked to each other.
+    /// Takes a block, given by its first granule, out of an order's list. The block's neighbours in the list are linked
+    /// to each other.
     pub(crate) fn take_out(&mut self, granule: usize, order: usize)
         requires order { order < 10 }
         requires head { head_at self.old.heads granule ≡ order + 1 }

@@ -1,4 +1,5 @@
-//! The lists of free blocks by order. A mask has a bit set for each order with a free block.
+//! The free list of each order, and a mask of the nonempty ones. The mask has a bit set for each order with a free
+//! block.
 ghost use Rattle.std.specs.Prelude.{◌≡◌, ℕ, ◌+◌, ◌<◌, ◌≤◌, ◌≢◌, length, replicate, slice_set, IfOk, IfSome, IfNone};
 ghost use Rattle.buddy.specs.Heads.{head_at};
 ghost use Rattle.buddy.specs.Links.{HasHead, at};
@@ -7,9 +8,9 @@ use crate::links::Links;
 use std::alloc::{AllocError, Global};
 use std::marker::Model;
 
-/// The lists of free blocks by order. A mask has a bit set for each order with a free block. The view is the table of
-/// heads, and the first block of each list. The head of a granule is one more than the order of the block that it
-/// heads, or 0 if it heads none.
+/// The free list of each order, and a mask of the nonempty ones. The mask has a bit set for each order with a free
+/// block. The view is the table of heads, and the first block of each list. The head of a granule is one more than the
+/// order of the block that it heads, or 0 if it heads none.
 #[derive(Drop)]
 pub(crate) struct FreeLists {
     links: Links,
@@ -28,7 +29,7 @@ impl Model for FreeLists {
 }
 
 impl FreeLists {
-    /// Creates empty lists for `count` granules.
+    /// Creates an empty free list for each order, for a machine of `count` granules.
     pub(crate) fn build(alloc: Global, count: usize) -> Result<FreeLists, AllocError>
         requires { count ≤ 4096 }
         ensures { IfOk result (λ lists. lists.heads ≡ replicate count 0) }
@@ -37,16 +38,15 @@ impl FreeLists {
         Ok(FreeLists { links, mask: 0 })
     }
 
-    /// Returns the head of a granule. That is one more than the order of the listed block that begins there, or 0 if no
-    /// listed block does.
+    /// Returns a granule's head: one more than the order of the free block beginning there. The head is 0 if no listed
+    /// block begins there.
     pub(crate) fn head(&self, granule: usize) -> u8
         ensures { result ≡ head_at self.now.heads granule }
     {
         self.links.head(granule)
     }
 
-    /// Finds the lowest order with a free block. Orders below `order` are left out. Returns the order, and the first
-    /// block in its list.
+    /// Finds the lowest order with a free block, from `order` on. Returns the order, and the first block in its list.
     pub(crate) fn lowest(&self, order: usize) -> Option<(usize, usize)>
         requires { order < 10 }
         ensures first { IfSome result (λ r. r.1 ≡ at self.now.firsts r.0) }
@@ -76,7 +76,7 @@ impl FreeLists {
         self.mask |= 1 << order;
     }
 
-    /// Takes a block out of its list.
+    /// Takes a block out of the free list of its order.
     pub(crate) fn take_out(&mut self, granule: usize, order: usize)
         requires order { order < 10 }
         requires head { head_at self.old.heads granule ≡ order + 1 }

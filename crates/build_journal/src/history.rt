@@ -1,4 +1,4 @@
-//! The append operation on the history of a host.
+//! A function that appends an event to the history of a host.
 ghost use Rattle.std.specs.Prelude.{◌≡◌, ◌<◌, ◌∷◌, ◌++◌, [], vec_len, vec_capacity};
 
 use realm_model::Event;

@@ -1,4 +1,4 @@
-//! The holders of a machine's granules. The holder of a granule is the build that leases the granule.
+//! A table of the builds that lease a machine's granules. The holder of a granule is the build that leases the granule.
 ghost use Rattle.std.specs.Prelude.{◌≡◌, ◌+◌, ◌^◌, ◌≤◌, length, replicate, Some, None, IfOk, slice_index_or};
 ghost use Rattle.std.specs.List.{range_with_len};
 ghost use Rattle.realm_model.specs.StepLaw.{set_each};
@@ -24,7 +24,7 @@ impl Model for Holders {
 }
 
 impl Holders {
-    /// Creates the table of a machine without leases. The machine has `pages` granules.
+    /// Creates the table for `pages` granules, none of which is leased.
     pub fn build(alloc: Global, pages: u16) -> Result<Holders, AllocError>
         ensures { IfOk result (λ holders. holders ≡ replicate pages None) }
     {
@@ -41,7 +41,7 @@ impl Holders {
         self.set_run(first.number(), order.size(), Some(build));
     }
 
-    /// Ends the lease of the granules of a block.
+    /// Ends the lease of a block's granules.
     pub fn give_back(&mut self, first: Gran, order: Order)
         requires { first + 2 ^ order ≤ length self.old }
         ensures { self.new ≡ set_each None (range_with_len first (2 ^ order)) self.old }

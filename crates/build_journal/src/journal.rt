@@ -8,7 +8,8 @@ use realm_model::{Act, JOURNAL_ROOM};
 use std::alloc::{AllocError, Global};
 use std::marker::Model;
 
-/// The open operations of a build, with the newest last. All memory of a journal is taken when the journal is built.
+/// A stack of a build's open operations, which can still be undone. The newest is last. All memory of a journal is
+/// taken when the journal is built.
 #[derive(Drop)]
 pub struct Journal {
     entries: Vec<Act>,
@@ -62,7 +63,7 @@ impl Journal {
         }
     }
 
-    /// The newest open operation, if there is one.
+    /// Returns the build's newest open operation, if there is one.
     pub fn newest(&self) -> Option<&Act>
         ensures value { option_map (λ a. a.now) result ≡ last_or None (self.now) }
         ensures paired { IfSome result (λ a. is_paired a.now ≡ true) }
@@ -70,7 +71,7 @@ impl Journal {
         self.entries.last()
     }
 
-    /// The open operations after the first `count`, the newest last.
+    /// Returns the build's open operations without the oldest `count`. The newest is last.
     pub fn above(&self, count: u16) -> &[Act]
         requires { count ≤ length self.now }
         ensures { result.now ≡ drop count self.now }

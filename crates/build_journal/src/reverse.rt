@@ -1,4 +1,4 @@
-//! Reverses of operations.
+//! The reverses of operations, such as UnTake, which undoes Take.
 ghost use Rattle.std.specs.Prelude.{◌≡◌, ◌↔◌, Some, true};
 ghost use Rattle.realm_model.specs.Act as acts;
 

@@ -51,7 +51,7 @@ impl Leases {
         push_run(&mut self.stacks[build.number() as usize], first, order);
     }
 
-    /// Removes the last pages from a build's stack. They are as many as a block of order `order` has.
+    /// Removes the last 2^`order` pages from a build's stack. They are as many as a block of order `order` has.
     pub fn pop_block(&mut self, build: BuildId, order: Order)
         requires there { build < length self.old.stacks }
         requires enough { 2 ^ order ≤ length (stack_of self.old build) }
@@ -60,7 +60,8 @@ impl Leases {
         pop_run(&mut self.stacks[build.number() as usize], order);
     }
 
-    /// Returns the granule of a build's page `k`. The result is `None` if and only if the build has no such page.
+    /// Returns the granule that is page number `k` of a build. The result is `None` if and only if the build has no
+    /// such page.
     pub fn page(&self, build: BuildId, k: u16) -> Option<Gran>
         requires { build < length self.now.stacks }
         ensures { result ≡ slice_get (stack_of self.now build) k }

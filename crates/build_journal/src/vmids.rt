@@ -1,4 +1,4 @@
-//! The pool of VMIDs.
+//! The pool from which realms get their VMIDs.
 ghost use Rattle.std.specs.Prelude.{◌≡◌, ℕ, true, false, IfSome, IfNone};
 ghost use Rattle.std.specs.Bool.{OnTrue, OnFalse};
 ghost use Rattle.granule_addr.specs.Vmids.{is_used};
@@ -61,7 +61,7 @@ impl VmidPool {
         true
     }
 
-    /// Gives the VMID back: it is no longer in use.
+    /// Removes a VMID from the set of those in use.
     pub fn give_back(&mut self, vmid: Vmid)
         ensures { IsClaimed self.old self.new vmid false }
     {

@@ -1,5 +1,5 @@
-//! A worker's questions to its teller. For each question the worker waits for its turn, calls the teller, and adds a
-//! line to its report.
+//! Questions of a build's worker to its host: commands, undos and marks. For each question the worker waits for its
+//! turn, calls its `Teller`, and adds a line to its report.
 ghost use Rattle.std.specs.Prelude.{◌≡◌, ◌+◌, ◌^◌, ◌<◌, [], ◌∷◌, ◌++◌, vec_len, vec_capacity};
 ghost use Rattle.build_seats.specs.Asked.{answer_of, line, ArePut};
 ghost use Rattle.build_seats.specs.Report.{ending_of};
@@ -12,7 +12,8 @@ use crate::standing::Standing;
 use crate::teller::{Gate, Teller};
 use host_commands::{Cmd, Refusal};
 
-/// A question from a worker to its teller. The answer becomes a line of the worker's report.
+/// A question that a build's worker asks the host: a command, an undo or a mark. The answer becomes a line of the
+/// worker's report.
 #[derive(Drop)]
 pub enum Question {
     Do(Cmd),
@@ -20,14 +21,15 @@ pub enum Question {
     Mark,
 }
 
-/// The outcome of a list of questions.
+/// The outcome of the questions that a build's worker asks the host.
 #[derive(Clone, Copy)]
 pub enum Ending {
-    /// The outcome if all questions were accepted.
+    /// The outcome if the host accepted all questions of a build's worker.
     Done,
-    /// The outcome if a question was refused.
+    /// The outcome if the host refused a question of a build's worker.
     Refused,
-    /// The outcome if the gate did not give a turn. The question of that turn was not asked.
+    /// The outcome if a build's worker did not get a turn to ask its next question. The gate did not give the turn, and
+    /// the question was not asked.
     Cut,
 }
 
@@ -85,7 +87,8 @@ fn ending_of(answer: &Answer) -> Ending
     }
 }
 
-/// Adds a line with an answer to the report. Returns the outcome: `Refused` for a refusal, and otherwise `Done`.
+/// Adds a line to a worker's report, with a question and its answer. Returns the outcome: `Refused` for a refusal, and
+/// otherwise `Done`.
 pub fn tell(report: &mut Report, asked: Asked, answer: Answer) -> Ending
     requires room { vec_len report.old.lines < vec_capacity report.old.lines }
     ensures ending { result ≡ ending_of answer }
@@ -98,8 +101,8 @@ pub fn tell(report: &mut Report, asked: Asked, answer: Answer) -> Ending
     end
 }
 
-/// Asks the teller to perform a command. The worker waits for its next turn first. The answer is added to the report.
-/// The command is borrowed and not copied: a copy between two calls would take time in which others wait for the lock.
+/// Asks the host to perform a command, once a build's worker gets its next turn. The answer is added to the report. The
+/// command is borrowed and not copied: a copy between two calls would take time in which others wait for the lock.
 pub fn ask_command<T: Teller, G: Gate>(
     report: &mut Report,
     standing: &mut Standing,
@@ -128,7 +131,7 @@ pub fn ask_command<T: Teller, G: Gate>(
     }
 }
 
-/// Asks the teller a question. The worker waits for its next turn first. The answer is added to the report.
+/// Asks the host a question, once a build's worker gets its next turn. The answer is added to the report.
 pub fn ask<T: Teller, G: Gate>(
     report: &mut Report,
     standing: &mut Standing,

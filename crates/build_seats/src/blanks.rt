@@ -3,7 +3,7 @@ ghost use Rattle.std.specs.Prelude.{◌≡◌};
 
 use std::sync::ledger::Blank;
 
-/// A blank for each build. A blank is a ghost ledger that has a single part and is not yet bound to a type.
+/// A ghost ledger for each build, not yet bound to a type. Each ledger has a single part.
 #[derive(Drop)]
 pub struct Blanks {
     pub blank0: Blank,

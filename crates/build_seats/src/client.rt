@@ -1,4 +1,4 @@
-//! The work of a build. It consists of the build's steps, and of the exits and undos after the first refusal.
+//! Performs a build's steps, and undoes the build's open operations after the first refusal.
 ghost use Rattle.std.specs.Prelude.{◌≡◌, ◌+◌, ◌*◌, ◌^◌, ◌<◌, ◌≤◌, [], length, map, is_ok, vec_len, vec_capacity};
 ghost use Rattle.build_seats.specs.Asked.{ArePut};
 ghost use Rattle.build_seats.specs.Report.{clearing, exit_of, is_over, IsWorkerReport, IsWork};

@@ -13,13 +13,14 @@ use realm_model::Event;
 /// The reason why a shared host is not closed.
 #[derive(Clone, Copy, PartialEq, Eq)]
 pub enum CloseFault {
-    /// A build that does not have exactly one seat.
+    /// A build that does not have exactly one session handle (seat) on the shared host.
     SeatMissing(BuildId),
-    /// A build with a mismatched seat. The seat's trail is not the build's part of the history.
+    /// A build with a session handle (seat) whose events differ from the history. The seat's trail has to be the
+    /// build's part of the history.
     RecordMismatch(BuildId),
 }
 
-/// Shows that each seat's count equals the count under the lock. The two counts are of the same build. Nothing changes.
+/// Proves that the event count of each build's session handle (seat) equals that in `books`. Nothing changes.
 pub fn audit<L: Ledgers>(books: &mut Books<L>, seats: &mut [Seat<L>])
     ensures books { books.new ≡ books.old }
     ensures seats { seats.new ≡ seats.old }
@@ -30,7 +31,7 @@ pub fn audit<L: Ledgers>(books: &mut Books<L>, seats: &mut [Seat<L>])
     }
 }
 
-/// Finds the lowest build that does not have exactly one seat.
+/// Finds the lowest build that does not have exactly one session handle (seat).
 #[tactic(auto, unfolding(crate::specs::Close::AreSeatsWhole))]
 pub fn missing<L: Ledgers>(seats: &[Seat<L>], builds: u8) -> Option<BuildId>
     requires { builds ≤ 8 }
@@ -53,7 +54,8 @@ fn seat_count<L: Ledgers>(seats: &[Seat<L>], build: BuildId) -> usize
     seats.iter().filter(|seat| seat.build() == build).count()
 }
 
-/// Finds the lowest build with a mismatched seat. The trail of such a seat is not the build's part of the history.
+/// Finds the lowest build with a session handle (seat) whose events differ from the history. The seat's trail has to be
+/// the build's part of the history.
 #[tactic(auto, unfolding(crate::specs::Close::FitsAll))]
 pub fn mismatch<L: Ledgers>(seats: &[Seat<L>], history: &[Event]) -> Option<BuildId>
     ensures some { IfSome result (λ build. Differs build history.now seats.now) }

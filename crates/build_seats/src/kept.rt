@@ -1,4 +1,4 @@
-//! The data under the lock: the host, and each build's number of events.
+//! The data that a lock protects: a shared host, and each build's event count.
 ghost use Rattle.std.specs.Prelude.{◌≡◌, ◌+◌, ◌<◌, List, [], ◌∷◌, ◌++◌, length, map, slice_set, IfOk, IfErr, MatchResult};
 ghost use Rattle.std.specs.List.{range_with_len};
 ghost use Rattle.std.specs.Result.{OnOk};
@@ -19,14 +19,14 @@ use crate::blanks::Blanks;
 use crate::close;
 use crate::close::CloseFault;
 use crate::ledgers::{Books, Ledgers, Opened};
-use crate::seat::{Seat, new_trails, seated};
+use crate::seat::{Seat, new_trails, seats_of_trails};
 use page_arena::PageStore;
 use realm_host::{Cmd, Host, Mark, Refusal, Reply, Undone};
 use realm_model::Event;
 use std::alloc::{AllocError, Global};
 use std::marker::Model;
 
-/// A host, with the number of events of each build. The events are those in the history. No build is in abort.
+/// A shared host, with the number of events of each build in the history. No build is in abort.
 #[derive(Drop)]
 pub struct Kept<S: PageStore, L: Ledgers> {
     host: Host<S>,
@@ -47,9 +47,9 @@ impl<S: PageStore, L: Ledgers> Model for Kept<S, L> {
 }
 
 impl<S: PageStore, L: Ledgers> Kept<S, L> {
-    /// Prepares a host to be shared, and makes the seats of its builds. The host's history is empty. Each build gets
-    /// one seat, the lowest build first. All memory for the builds' events is taken here. If there is none, blanks and
-    /// host come back.
+    /// Prepares a host to be shared, and makes a session handle (seat) for each build. The host's history is empty.
+    /// Each build gets one seat, the lowest build first. All memory for the builds' events is taken here. If there is
+    /// none, blanks and host come back.
     pub fn start(
         alloc: Global,
         blanks: Blanks,
@@ -72,12 +72,13 @@ impl<S: PageStore, L: Ledgers> Kept<S, L> {
         // (called only for its contract, which gives the invariant of a host)
         let _ = host.history();
         let Opened { books, passes } = Opened::new(blanks);
-        let seats = seated(seats, passes, trails);
+        let seats = seats_of_trails(seats, passes, trails);
         Ok((Kept { host, books }, seats))
     }
 
-    /// Asks the host to perform a command for the seat's build. The answer is the host's. An accepted command appends
-    /// one event of the build to the history and to the trail. A refusal leaves both as they are. No memory is taken.
+    /// Asks the host to perform a command of the build whose session handle is `seat`. The answer is the host's. An
+    /// accepted command appends one event of the build to the history and to the trail. A refusal leaves both as they
+    /// are. No memory is taken.
     pub fn call(&mut self, seat: &mut Seat<L>, cmd: Cmd) -> Result<Reply, Refusal>
         ensures answer { IsAnswer self.old.host seat.old.build (Ask cmd) (replied result) self.new.host }
         ensures noted { IfOk result (λ _. IsNoted self.old seat.old self.new seat.new) }
@@ -92,8 +93,9 @@ impl<S: PageStore, L: Ledgers> Kept<S, L> {
         Ok(reply)
     }
 
-    /// Undoes the newest operation that the seat's build has open. The answer is the host's. An accepted undo appends
-    /// one event of the build to the history and to the trail. A refusal leaves both as they are. No memory is taken.
+    /// Undoes the newest open operation of the build whose session handle is `seat`. The answer is the host's. An
+    /// accepted undo appends one event of the build to the history and to the trail. A refusal leaves both as they are.
+    /// No memory is taken.
     pub fn undo(&mut self, seat: &mut Seat<L>) -> Result<Undone, Refusal>
         ensures answer { IsAnswer self.old.host seat.old.build Undo (undone result) self.new.host }
         ensures noted { IfOk result (λ _. IsNoted self.old seat.old self.new seat.new) }
@@ -108,7 +110,8 @@ impl<S: PageStore, L: Ledgers> Kept<S, L> {
         Ok(undone)
     }
 
-    /// Sets a mark for the seat's build. Returns the host's answer. A mark is not an event.
+    /// Sets a rollback mark for the build whose session handle is `seat`. Returns the host's answer. A mark is not an
+    /// event.
     pub fn mark(&mut self, seat: &mut Seat<L>) -> Result<Mark, Refusal>
         ensures answer { IsMarked self.old.host seat.old.build result self.new.host }
         ensures books { self.new.books ≡ self.old.books }
@@ -124,8 +127,8 @@ impl<S: PageStore, L: Ledgers> Kept<S, L> {
         Ok(mark)
     }
 
-    /// Counts the open operations of the seat's build above a mark. Returns their number, or the host's refusal.
-    /// Nothing changes.
+    /// Returns the number of operations that a rollback to a mark would undo. They are open operations of the seat's
+    /// build. The error is the host's refusal to go back to the mark. Nothing changes.
     pub fn check_back(&mut self, seat: &mut Seat<L>, mark: Mark) -> Result<u16, Refusal>
         ensures answer { result ≡ way_back self.old.host seat.old.build mark }
         ensures stands { OnOk result (IsMarkOf self.old.host seat.old.build mark) }
@@ -137,8 +140,8 @@ impl<S: PageStore, L: Ledgers> Kept<S, L> {
         self.host.check_back(build, mark)
     }
 
-    /// Takes back the seats of all builds, and returns the host unchanged. Each build has to have one seat, with the
-    /// events that the history has of the build. At `Err` the host comes back too.
+    /// Takes back the builds' session handles (seats), and returns the host unchanged. Each build has to have one seat,
+    /// with the events that the history has of the build. At `Err` the host comes back too.
     pub fn close(self, mut seats: Vec<Seat<L>>) -> Result<Host<S>, (CloseFault, Host<S>)>
         ensures closed { IfOk result (λ host. IsClosed host seats.items) }
         ensures fault { IfErr result (λ e. IsFault e.0 e.1 seats.items) }

@@ -1,4 +1,5 @@
-//! Ghost ledgers, one for each build. The lock protects their counts, and the seats carry their passes.
+//! Ghost ledgers, each of which counts the events of one build. The lock protects their counts, and the seats carry
+//! their passes.
 ghost use Rattle.std.specs.Prelude.{◌≡◌, ℕ, ◌+◌, ◌<◌, [], ◌∷◌, length, map, slice_index, slice_set};
 ghost use Rattle.std.specs.List.{range_with_len};
 ghost use Rattle.host_ledger.specs.View.{HostView};
@@ -11,12 +12,12 @@ use granule_addr::BuildId;
 use std::marker::{Brand, Model, PhantomData};
 use std::sync::ledger::{Book, Ledger, Share};
 
-/// A family of ledgers for the builds of a host. It has the name of each build's ledger, and the state of the host when
-/// the builds began to share it.
+/// A family of ghost ledgers, one for each build of a shared host. It has the name of each build's ledger, and the
+/// state of the host when the builds began to share it.
 pub trait Ledgers {
     ghost opened: { HostView };
 
-    /// The name of each build's ledger.
+    /// The name of each build's ghost ledger, by the number of the build.
     ghost names: { ℕ → ℕ };
 }
 
@@ -26,7 +27,7 @@ impl Ledgers for Brand {
     ghost names = { λ build. 0 };
 }
 
-/// The type of one build's ledger. The ledger has one part.
+/// The type of the ghost ledger that counts the events of build `BUILD`. The ledger has one part.
 pub struct LedgerOf<L, const BUILD: u8>(PhantomData<L>);
 
 impl<L: Ledgers, const BUILD: u8> Ledger for LedgerOf<L, BUILD> {
@@ -35,7 +36,7 @@ impl<L: Ledgers, const BUILD: u8> Ledger for LedgerOf<L, BUILD> {
     ghost parts = { 1 };
 }
 
-/// The counts that the lock protects, one for each build. The view is the list of their totals.
+/// The event counts of the builds, which the lock of a shared host protects. The view is the list of their totals.
 #[derive(Drop)]
 pub struct Books<L: Ledgers> {
     book0: Book<LedgerOf<L, 0>>,
@@ -57,8 +58,7 @@ impl<L: Ledgers> Model for Books<L> {
 }
 
 impl<L: Ledgers> Books<L> {
-    /// Shows that a pass's count equals the count under the lock. The two counts are of the same build. Nothing
-    /// changes.
+    /// Proves that a build's event count in `Books` equals the count of its `Pass`. Nothing changes.
     pub fn audit(&mut self, pass: &mut Pass<L>)
         ensures same { (self.new ≡ self.old) × (pass.new ≡ pass.old) }
         ensures build { pass.old.build < 8 }
@@ -77,7 +77,7 @@ impl<L: Ledgers> Books<L> {
         }
     }
 
-    /// Adds one to the count of a pass. The count that the lock protects for the same build rises too.
+    /// Adds one to a build's event count, both in its `Pass` and in `Books`.
     pub(crate) fn raise(&mut self, pass: &mut Pass<L>)
         ensures book { self.new ≡ slice_set self.old pass.old.build (pass.old.count + 1) }
         ensures pass { pass.new ≡ record pass.old { count = pass.old.count + 1 } }
@@ -109,7 +109,7 @@ enum Whole<L: Ledgers> {
     Build7(Share<LedgerOf<L, 7>>),
 }
 
-/// The sole share of one build's ledger. The view is the build and the count.
+/// The sole share of the ghost ledger that counts one build's events. The view is the build and the count.
 #[derive(Drop)]
 pub struct Pass<L: Ledgers> {
     whole: Whole<L>,
@@ -128,7 +128,7 @@ impl<L: Ledgers> Model for Pass<L> {
 }
 
 impl<L: Ledgers> Pass<L> {
-    /// The build whose events the pass counts.
+    /// Returns the build whose ghost ledger this share belongs to.
     pub fn build(&self) -> BuildId
         ensures build { result ≡ self.now.build }
         ensures range { self.now.build < 8 }
@@ -147,8 +147,8 @@ impl<L: Ledgers> Pass<L> {
     }
 }
 
-/// Newly opened ledgers, in which nothing is counted yet. They are the counts that the lock will protect, and a pass
-/// for each build, the lowest build first.
+/// Newly opened ghost ledgers of all builds, in which no event is counted yet. They are the counts that the lock will
+/// protect, and a pass for each build, the lowest build first.
 #[derive(Drop)]
 pub struct Opened<L: Ledgers> {
     pub books: Books<L>,
@@ -158,7 +158,7 @@ pub struct Opened<L: Ledgers> {
 }
 
 impl<L: Ledgers> Opened<L> {
-    /// Opens each blank as the ledger of its build.
+    /// Opens the blank ghost ledger of each build, with no event counted yet.
     pub fn new(blanks: Blanks) -> Opened<L>
         requires named { AreNamed L.names blanks }
     {

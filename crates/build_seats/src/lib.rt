@@ -1,5 +1,5 @@
-//! A host with a seat for each of its builds. The work of a build is here too. Nothing in this crate depends on locks
-//! or threads.
+//! A shared host, with a session handle (seat) for each build. The work of a build is here too. Nothing in this crate
+//! depends on locks or threads.
 //!
 //! `Kept` is what a lock protects: the host, and for each build the number of its events in the history. A `Seat` is a
 //! session handle of one build: it has the same number, and a list of these events. A call of `Kept` asks the host, and

@@ -1,33 +1,33 @@
-//! The report of a worker: a line for each answer.
+//! The report of a build's worker, with a line for each answer.
 use granule_addr::{BuildId, RecNo};
 use host_commands::{Refusal, Reply, Undone};
 
-/// The question that a line of a report answers.
+/// The question that one line of a worker's report answers: a step, exit or undo.
 #[derive(Clone, Copy, PartialEq, Eq)]
 pub enum Asked {
-    /// A step of the plan, by its index from 0.
+    /// A step of a build in the plan, by its index from 0.
     Step(usize),
-    /// An exit from a REC, after a refusal.
+    /// An exit of a running REC, asked for after a refused step.
     Exit(RecNo),
-    /// An undo, after a refusal.
+    /// An undo of the newest open operation, asked for after a refused step.
     Undo,
 }
 
-/// The answer in a line of a report.
+/// The answer to a worker's question, as a line of the report gives it.
 #[derive(Clone, Copy, PartialEq, Eq)]
 pub enum Answer {
     /// The reply to an accepted command.
     Replied(Reply),
-    /// The result of an undo.
+    /// The kind of an undone operation, and the number of operations left open.
     Undone(Undone),
-    /// A mark that was set. The value is the number of operations open at the mark.
+    /// The number of open operations at a mark that was set.
     Marked(u16),
     /// The answer to a step that has nothing to undo. The step is an abort or a `back`.
     Nothing,
     Refused(Refusal),
 }
 
-/// One line of a report.
+/// One line of a worker's report: a question and the answer to it.
 #[derive(Clone, Copy, PartialEq, Eq)]
 pub struct ReportLine {
     pub asked: Asked,
@@ -41,6 +41,6 @@ pub struct Report {
     pub lines: Vec<ReportLine>,
 }
 
-/// The error of a worker that waited for its turn in vain.
+/// The error of a build's worker that waited in vain for its next turn.
 #[derive(Clone, Copy)]
 pub struct Stuck;

@@ -1,4 +1,5 @@
-//! Seats: a build's pass, and the trail of its accepted events.
+//! Seats: the session handles of builds on a shared host. A seat has a build's pass, and the trail of its accepted
+//! events.
 ghost use Rattle.std.specs.Prelude.{◌≡◌, ◌+◌, ◌<◌, ◌≤◌, [], ◌∷◌, ◌++◌, length, map, vec_len, vec_capacity, replicate, IfOk};
 ghost use Rattle.std.specs.List.{range_with_len};
 ghost use Rattle.build_seats.specs.Passes.{unused};
@@ -29,7 +30,7 @@ impl<L: Ledgers> Model for Trail<L> {
 }
 
 impl<L: Ledgers> Trail<L> {
-    /// Creates an empty trail with capacity for `room` events.
+    /// Creates an empty list of a build's events, with capacity for `room` events.
     pub fn build(alloc: Global, room: u16) -> Result<Trail<L>, AllocError>
         requires { room ≡ L.opened.capacity }
         ensures { IfOk result (λ trail. trail ≡ []) }
@@ -41,7 +42,7 @@ impl<L: Ledgers> Trail<L> {
         })
     }
 
-    /// Adds an event. No memory is taken.
+    /// Appends an event to the list of a build's events. No memory is taken.
     pub fn add(&mut self, event: Event)
         requires { length self.old < L.opened.capacity }
         ensures { self.new ≡ self.old ++ event ∷ [] }
@@ -49,7 +50,7 @@ impl<L: Ledgers> Trail<L> {
         self.events.push_reserved(event);
     }
 
-    /// The events of the trail.
+    /// Returns the accepted events of the build, in sequence.
     pub fn events(&self) -> &[Event]
         ensures { result.now ≡ self.now }
     {
@@ -57,7 +58,7 @@ impl<L: Ledgers> Trail<L> {
     }
 }
 
-/// Makes `count` empty trails, each with capacity for `room` events.
+/// Makes `count` empty event lists for builds, each with capacity for `room` events.
 pub(crate) fn new_trails<L: Ledgers>(
     alloc: Global,
     count: u8,
@@ -93,7 +94,7 @@ impl<L: Ledgers> Model for Seat<L> {
 }
 
 impl<L: Ledgers> Seat<L> {
-    /// The build that the seat belongs to.
+    /// Returns the build that this session handle belongs to.
     pub fn build(&self) -> BuildId
         ensures build { result ≡ self.now.build }
         ensures range { self.now.build < 8 }
@@ -101,7 +102,8 @@ impl<L: Ledgers> Seat<L> {
         self.pass.build()
     }
 
-    /// The number of the build's events that the seat has counted. It is the length of the seat's trail.
+    /// Returns the number of the build's events that this session handle has counted. It is the length of the seat's
+    /// trail.
     pub fn count(&self) -> usize
         ensures count { result ≡ self.now.count }
         ensures trail { result ≡ length self.now.trail }
@@ -109,7 +111,7 @@ impl<L: Ledgers> Seat<L> {
         self.trail.events().len()
     }
 
-    /// The accepted events of the seat's build, in sequence.
+    /// Returns the accepted events of this session handle's build, in sequence.
     pub fn trail(&self) -> &[Event]
         ensures { result.now ≡ self.now.trail }
     {
@@ -117,8 +119,9 @@ impl<L: Ledgers> Seat<L> {
     }
 }
 
-/// Makes a seat from each trail and a pass. The lowest build comes first. The passes that are left are dropped.
-pub(crate) fn seated<L: Ledgers>(
+/// Makes the session handles (seats) of the lowest builds, one for each list of events. Each seat has its build's pass
+/// too, and the lowest build comes first. The passes that are left are dropped.
+pub(crate) fn seats_of_trails<L: Ledgers>(
     mut seats: Vec<Seat<L>>,
     passes: [Pass<L>; 8],
     mut trails: Vec<Trail<L>>,

@@ -1,4 +1,5 @@
-//! A worker's record of its build's state. The teller's replies keep the record up to date.
+//! A worker's record of its build's open operations, running RECs and last mark. The teller's replies keep the record
+//! up to date.
 ghost use Rattle.std.specs.Prelude.{◌≡◌, ◌+◌, ◌-◌, ◌^◌, ◌<◌, ◌≤◌, ◌++◌, length, take, drop, slice_index, Some};
 ghost use Rattle.build_seats.specs.Standing.{first_standing, with_number, without_number, standing_after_command, left_to_clear};
 
@@ -7,10 +8,11 @@ use host_commands::Cmd;
 use host_ledger::Mark;
 use std::marker::Model;
 
-/// The limit on the running RECs of a build. It is equal to the limit on a build's steps.
+/// The maximum number of running RECs that a worker records for its build. It is equal to the limit on a build's steps.
 pub const MOST: usize = 1024;
 
-/// A worker's record of its build's state. The teller's replies keep the record up to date.
+/// A worker's record of its build: turns, open operations, running RECs and last mark. The teller's replies keep the
+/// record up to date.
 #[derive(Drop)]
 pub struct Standing {
     turn: usize,
@@ -61,7 +63,7 @@ fn exit(running: &mut ArrayVec<u16, MOST>, number: u16)
 }
 
 impl Standing {
-    /// Creates the record of a build before the first question.
+    /// Creates the record of a worker that has not asked the host anything yet.
     pub fn first() -> Standing
         ensures { result ≡ first_standing }
     {
@@ -73,14 +75,14 @@ impl Standing {
         }
     }
 
-    /// The number of the next turn.
+    /// Returns the number of the worker's next turn, counted from 0.
     pub fn turn(&self) -> usize
         ensures { result ≡ self.now.turn }
     {
         self.turn
     }
 
-    /// Adds one to the number of the next turn.
+    /// Adds one to the number of the worker's next turn.
     pub(crate) fn take_turn(&mut self)
         requires { self.old.turn + 1 < 2 ^ 64 }
         ensures { self.new ≡ record self.old { turn = self.old.turn + 1 } }
@@ -88,7 +90,7 @@ impl Standing {
         self.turn += 1;
     }
 
-    /// The numbers of the running RECs, the lowest first.
+    /// Returns the numbers of the build's running RECs, the lowest first.
     pub fn running(&self) -> &[u16]
         ensures value { result.now ≡ self.now.running }
         ensures few { length result.now ≤ 1024 }
@@ -96,7 +98,7 @@ impl Standing {
         self.running.as_slice()
     }
 
-    /// Updates the state after an accepted command.
+    /// Updates the worker's record after the host accepted a command.
     #[tactic(auto, unfolding(crate::specs::Standing::standing_after_command))]
     pub(crate) fn count_command(&mut self, cmd: &Cmd)
         requires { left_to_clear self.old < 1024 }
@@ -112,28 +114,28 @@ impl Standing {
         }
     }
 
-    /// The number of open operations.
+    /// Returns the number of open operations of the worker's build.
     pub fn journal(&self) -> usize
         ensures { result ≡ self.now.journal }
     {
         self.journal
     }
 
-    /// Updates the state after an accepted undo.
+    /// Subtracts one from the number of open operations, after an accepted undo. The number stays 0 if it is 0.
     pub(crate) fn count_undo(&mut self)
         ensures { self.new ≡ record self.old { journal = self.old.journal - 1 } }
     {
         self.journal = self.journal.saturating_sub(1);
     }
 
-    /// The last mark, if there is one.
+    /// Returns the last mark that was set for the worker's build, if any.
     pub fn mark(&self) -> Option<Mark>
         ensures { result ≡ self.now.mark }
     {
         self.mark
     }
 
-    /// Updates the state after an accepted mark.
+    /// Records a new mark as the last mark of the worker's build.
     pub(crate) fn count_mark(&mut self, mark: Mark)
         ensures { self.new ≡ record self.old { mark = Some mark } }
     {

@@ -1,4 +1,4 @@
-//! The steps of a plan, as a worker takes them.
+//! Functions by which a build's worker performs the steps of a plan.
 ghost use Rattle.std.specs.Prelude.{◌≡◌, ◌+◌, ◌^◌, ◌<◌, ◌≤◌, List, [], ◌∷◌, ◌++◌, replicate, vec_len, vec_capacity};
 ghost use Rattle.build_seats.specs.Asked.{ArePut};
 ghost use Rattle.build_seats.specs.Exchange.{Exchange, CheckedBack};
@@ -13,8 +13,8 @@ use crate::teller::{Gate, Teller};
 use host_commands::{Refusal, Step};
 use host_ledger::Mark;
 
-/// Asks for `count` undos in sequence. Each answer is added to the report. A refusal ends the sequence, and so does a
-/// turn that the gate does not give.
+/// Asks the host for `count` undos of a build's operations, in sequence. Each answer is added to the report. A refusal
+/// ends the sequence, and so does a turn that the gate does not give.
 pub(crate) fn undo_each<T: Teller, G: Gate>(
     report: &mut Report,
     standing: &mut Standing,
@@ -150,7 +150,8 @@ fn go_back<T: Teller, G: Gate>(
     }
 }
 
-/// Performs one step of a build. The answers are added to the report. The step's index in the build's list is `place`.
+/// Performs one step of a build's part of a plan. The answers are added to the report. The step's index in the build's
+/// list is `place`.
 pub(crate) fn take_step<T: Teller, G: Gate>(
     report: &mut Report,
     standing: &mut Standing,

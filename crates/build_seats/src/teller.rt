@@ -1,4 +1,5 @@
-//! The two traits that a worker depends on. A teller answers the worker's questions, and a gate gives the worker turns.
+//! The traits by which a build's worker asks the host and waits for its turns. A `Teller` answers the worker's
+//! questions, and a `Gate` gives the worker turns.
 ghost use Rattle.std.specs.Prelude.{◌≡◌, ℕ, List, [], ◌∷◌, ◌++◌, OnOk, OnErr};
 ghost use Rattle.build_seats.specs.Exchange.{Exchange, Did, Undid, KeptMark, CheckedBack};
 
@@ -10,8 +11,8 @@ use host_ledger::Mark;
 /// The client side of a host, for the worker of one build. A teller asks the host the worker's questions, and returns
 /// the answers. A seat with its shared host is a teller.
 pub trait Teller {
-    /// Whether a list has all exchanges of the teller, in sequence. An exchange is a question that the teller was
-    /// asked, with its answer.
+    /// States that a list has all questions to this teller so far, with their answers. The list is in sequence. An
+    /// exchange is a question that the teller was asked, with its answer.
     ghost tells: { Self → List Exchange → Type 0 };
 
     /// A number that identifies the teller's mutable borrow. The teller writes through that borrow, if there is one.
@@ -27,27 +28,29 @@ pub trait Teller {
         ensures told { (earlier : List Exchange) → tells self.old earlier → tells self.new (earlier ++ Undid result ∷ []) }
         ensures loan { loan self.new ≡ loan self.old };
 
-    /// Asks the host to set a mark for the build.
+    /// Asks the host to set a mark to which the build can be rolled back.
     fn mark(&mut self) -> Result<Mark, Refusal>
         ensures told { (earlier : List Exchange) → tells self.old earlier → tells self.new (earlier ++ KeptMark result ∷ []) }
         ensures loan { loan self.new ≡ loan self.old };
 
-    /// Asks for the number of the build's open operations above a mark.
+    /// Asks for the number of operations that a rollback to a mark would undo.
     fn check_back(&mut self, mark: Mark) -> Result<u16, Refusal>
         ensures told { (earlier : List Exchange) → tells self.old earlier → tells self.new (earlier ++ CheckedBack mark result ∷ []) }
         ensures loan { loan self.new ≡ loan self.old };
 }
 
-/// The scheduler of workers' turns.
+/// The scheduler that gives the workers of builds their turns.
 pub trait Gate {
-    /// Whether the gate gives a turn to a build. The arguments are the build and the number of the turn.
+    /// Whether the scheduler (gate) gives a turn to a build's worker. The arguments are the build and the number of the
+    /// turn.
     ghost passes: { Self → ℕ → ℕ → Type 0 };
 
-    /// Whether the gate withholds a turn from a build. The arguments are the build and the number of the turn.
+    /// Whether the scheduler (gate) withholds a turn from a build's worker. The arguments are the build and the number
+    /// of the turn.
     ghost stops: { Self → ℕ → ℕ → Type 0 };
 
-    /// Waits for a turn of a build. The build's worker calls this function before each question. Turns are counted from
-    /// 0.
+    /// Waits until a build's worker gets the turn with the number `turn`. The build's worker calls this function before
+    /// each question. Turns are counted from 0.
     fn pass(&self, build: BuildId, turn: usize) -> Result<(), Stuck>
         ensures ok { OnOk result (passes self.now build turn) }
         ensures stuck { OnErr result (stops self.now build turn) };

@@ -1,4 +1,5 @@
-//! A host under a lock, shared by threads. Each build of the host has a seat, and workers run the builds in threads.
+//! A realm host under a lock, which the threads of its builds share. Each build of the host has a seat, and workers run
+//! the builds in threads.
 //!
 //! A call through `Shared` takes the lock, and asks the host that is kept behind it (`build_seats::Kept`). So a caller
 //! knows that each of its calls is in one legal history, once and in sequence. `Shared::close` gives the host back, if

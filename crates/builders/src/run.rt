@@ -1,4 +1,4 @@
-//! The run of all workers at once: a thread for each worker.
+//! The parallel run of builds' workers. Each has a thread of its own.
 ghost use Rattle.std.specs.Prelude.{◌≡◌, [], true, All, MatchOption, MatchResult};
 ghost use Rattle.builders.specs.Runs.{AreRun, IsLowestWaiting};
 ghost use Rattle.builders.specs.Workers.{IsWorkerRun};
@@ -13,8 +13,9 @@ use std::sync::Wait;
 use std::thread;
 use std::thread::Threads;
 
-/// Runs each worker in a thread of its own. The call waits for all workers. If no thread can be made, the workers run
-/// one after another. An `Err` has the lowest build whose worker has not ended: the gate stopped one of its turns.
+/// Runs the worker of each build in a thread of its own. The call waits for all workers. If no thread can be made, the
+/// workers run one after another. An `Err` has the lowest build whose worker has not ended: the gate stopped one of its
+/// turns.
 pub fn run_builds<
     R: Threads + Wait + Sync,
     S: PageStore + Send,
@@ -36,11 +37,11 @@ pub fn run_builds<
             ensures { IsWorkerRun L.opened (G.passes gate.entry.now worker.old.seat.build) (G.stops gate.entry.now worker.old.seat.build) worker.old worker.new }
         { worker.run(rt, shared, gate) },
     );
-    lowest_waiting(workers).map_or(Ok(()), Err)
+    lowest_unended_build(workers).map_or(Ok(()), Err)
 }
 
 // The lowest build whose worker has not ended.
-fn lowest_waiting<L: Ledgers>(workers: &[Worker<L>]) -> Option<BuildId>
+fn lowest_unended_build<L: Ledgers>(workers: &[Worker<L>]) -> Option<BuildId>
     ensures { MatchOption result (All (λ worker. worker.ended ≡ true) workers.now) (λ build. IsLowestWaiting workers.now build) }
 {
     workers

@@ -1,4 +1,4 @@
-//! The implementation of `Teller` by a seat of a shared host.
+//! An implementation of the trait `Teller` by calls to a shared host.
 ghost use Rattle.std.specs.Prelude.{◌+◌, ◌*◌};
 ghost use Rattle.builders.specs.Answered.{AreAnswered};
 ghost use Rattle.build_seats.specs.Seats.{new_seat};
@@ -10,8 +10,8 @@ use page_arena::PageStore;
 use realm_host::{Cmd, Mark, Refusal, Reply, Undone};
 use std::sync::Wait;
 
-/// A teller for a seat of a shared host. Each question of the seat's build takes the lock once and is answered by the
-/// host. The accepted commands and undos are the events of the seat's trail.
+/// A `Teller` that passes the commands of one build to a shared host. Each of its calls takes the host's lock once. The
+/// accepted commands and undos are the events of the seat's trail.
 #[derive(Drop)]
 pub struct SeatTeller<'a, R: Wait, S: PageStore, L: Ledgers> {
     pub rt: &'a R,
@@ -43,7 +43,7 @@ impl<'a, R: Wait, S: PageStore, L: Ledgers> Teller for SeatTeller<'a, R, S, L> {
     }
 }
 
-/// A gate that lets every turn pass.
+/// A `Gate` that lets each build take its turns without waiting.
 #[derive(Clone, Copy)]
 pub struct OpenGate;
 

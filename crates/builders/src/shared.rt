@@ -1,4 +1,4 @@
-//! A host under a lock, shared by its builds.
+//! A host that the threads of its builds share under a lock.
 ghost use Rattle.std.specs.Prelude.{◌≡◌, [], map, IfOk, IfErr, MatchResult};
 ghost use Rattle.std.specs.List.{range_with_len};
 ghost use Rattle.realm_host.specs.Call.{Ask, Undo};
@@ -16,16 +16,16 @@ use realm_host::{Cmd, Host, Mark, Refusal, Reply, Undone};
 use std::alloc::{AllocError, Global};
 use std::sync::{Mutex, Wait};
 
-/// A host that threads share. Each call takes the lock once.
+/// A realm host under a lock, for calls from several threads. Each call takes the lock once.
 #[derive(Drop)]
 pub struct Shared<S: PageStore, L: Ledgers> {
     kept: Mutex<Kept<S, L>>,
 }
 
 impl<S: PageStore, L: Ledgers> Shared<S, L> {
-    /// Shares a host, and returns the seats of its builds. The host has no history. Each build gets one seat, the
-    /// lowest build first. All memory for the builds' events is taken here. If there is none, blanks and host come
-    /// back.
+    /// Puts a host under a lock, and returns a session (seat) for each build. The host has no history. The seat of the
+    /// lowest build comes first. All memory for the builds' events is taken here. If there is none, blanks and host
+    /// come back.
     pub fn start(
         alloc: Global,
         blanks: Blanks,
@@ -46,7 +46,7 @@ impl<S: PageStore, L: Ledgers> Shared<S, L> {
         }
     }
 
-    /// Performs a command of the seat's build on the host. Returns the reply, or the host's refusal.
+    /// Performs a command on the shared host for the build of `seat`. Returns the reply, or the host's refusal.
     pub fn call(&self, rt: &impl Wait, seat: &mut Seat<L>, cmd: Cmd) -> Result<Reply, Refusal>
         ensures told { IfOk result (λ reply. IsCallTold L.opened (Ask cmd) (Replied reply) seat.old seat.new) }
         ensures refused { IfErr result (λ refusal. IsCallRefused L.opened (Ask cmd) refusal seat.old × (seat.new ≡ seat.old)) }
@@ -54,7 +54,7 @@ impl<S: PageStore, L: Ledgers> Shared<S, L> {
         self.kept.lock(rt).call(seat, cmd)
     }
 
-    /// Undoes the newest open operation of the seat's build.
+    /// Undoes the newest open operation of the build that has the session `seat`.
     pub fn undo(&self, rt: &impl Wait, seat: &mut Seat<L>) -> Result<Undone, Refusal>
         ensures told { IfOk result (λ done. IsCallTold L.opened Undo (WasUndone done) seat.old seat.new) }
         ensures refused { IfErr result (λ refusal. IsCallRefused L.opened Undo refusal seat.old × (seat.new ≡ seat.old)) }
@@ -62,8 +62,8 @@ impl<S: PageStore, L: Ledgers> Shared<S, L> {
         self.kept.lock(rt).undo(seat)
     }
 
-    /// Sets a mark for the seat's build. Returns the mark, or the host's refusal. The seat is borrowed mutably, since
-    /// its count is compared with the one under the lock; it stays as it is.
+    /// Sets a mark to which the build of `seat` can later be rolled back. Returns the mark, or the host's refusal. The
+    /// seat is borrowed mutably, since its count is compared with the one under the lock; it stays as it is.
     pub fn mark(&self, rt: &impl Wait, seat: &mut Seat<L>) -> Result<Mark, Refusal>
         ensures told { IsMarkTold L.opened seat.old result }
         ensures seat { seat.new ≡ seat.old }
@@ -71,8 +71,8 @@ impl<S: PageStore, L: Ledgers> Shared<S, L> {
         self.kept.lock(rt).mark(seat)
     }
 
-    /// Counts the open operations of the seat's build above a mark. Returns their number, or the host's refusal. The
-    /// seat is borrowed as for `mark`.
+    /// Returns the number of undos that would roll back the build of `seat` to a mark. The error is the host's refusal.
+    /// The seat is borrowed as for `mark`.
     pub fn check_back(&self, rt: &impl Wait, seat: &mut Seat<L>, mark: Mark) -> Result<u16, Refusal>
         ensures told { IsBackTold L.opened seat.old mark result }
         ensures seat { seat.new ≡ seat.old }
@@ -80,10 +80,10 @@ impl<S: PageStore, L: Ledgers> Shared<S, L> {
         self.kept.lock(rt).check_back(seat, mark)
     }
 
-    /// Takes back the seats of the host's builds, and returns the host. Each build has to have one seat, with the
-    /// events that the history has of the build. At `Err` the host comes back too. Its limits and its room are those of
-    /// the host that was handed to `start`. Its world is a function of the seats' lists alone. The schedule in which
-    /// the builds took the lock is in the history, and leaves nothing behind in the world.
+    /// Ends the sharing: takes back each build's session (seat) and returns the host. Each build has to have one seat,
+    /// with the events that the history has of the build. At `Err` the host comes back too. Its limits and its room are
+    /// those of the host that was handed to `start`. Its world is a function of the seats' lists alone. The schedule in
+    /// which the builds took the lock is in the history, and leaves nothing behind in the world.
     pub fn close(self, seats: Vec<Seat<L>>) -> Result<Host<S>, (CloseFault, Host<S>)>
         ensures closed { IfOk result (λ host. IsClosed host seats.items) }
         ensures order { IfOk result (λ host. IsWorldOfSeats host seats.items) }

@@ -1,4 +1,4 @@
-//! The worker of a build: its seat, its steps and its report.
+//! The worker that performs the steps of a build on a shared host.
 ghost use Rattle.std.specs.Prelude.{◌≡◌, ◌+◌, ◌*◌, ◌<◌, ◌≤◌, [], false, length, vec_len, vec_capacity, IfOk, IfErr};
 ghost use Rattle.builders.specs.Workers.{IsFaithful, IsWorkerRun};
 
@@ -12,7 +12,8 @@ use std::alloc::{AllocError, Global};
 use std::marker::Model;
 use std::sync::Wait;
 
-/// The worker of a build. It has the build's seat and steps, and the answers that the worker got.
+/// A worker that performs the steps of one build on a shared host. It has the build's seat and steps, and the answers
+/// that the worker got.
 #[derive(Drop)]
 pub struct Worker<L: Ledgers> {
     seat: Seat<L>,
@@ -34,8 +35,8 @@ impl<L: Ledgers> Model for Worker<L> {
 }
 
 impl<L: Ledgers> Worker<L> {
-    /// Creates the worker of a seat's build. Its report is empty. If there is no memory for the report, seat and steps
-    /// come back.
+    /// Creates a worker for the build of `seat`, with the given steps. Its report is empty. If there is no memory for
+    /// the report, seat and steps come back.
     pub fn build(
         alloc: Global,
         seat: Seat<L>,
@@ -61,21 +62,22 @@ impl<L: Ledgers> Worker<L> {
         })
     }
 
-    /// The build of the worker.
+    /// Returns the number of the worker's build.
     pub fn number(&self) -> BuildId
         ensures { result ≡ self.now.seat.build }
     {
         self.seat.build()
     }
 
-    /// Whether the worker has ended. It has if it ran, and the gate gave it every turn that it waited for.
+    /// Whether the worker has run to its end, without being stopped by a gate. The gate then gave it every turn that it
+    /// waited for.
     pub fn has_ended(&self) -> bool
         ensures { result ≡ self.now.ended }
     {
         self.ended
     }
 
-    /// Performs the worker's steps, in the turns that the gate gives.
+    /// Performs the steps of the worker's build, in turns that `gate` gives.
     pub fn run<R: Wait, S: PageStore, G: Gate>(&mut self, rt: &R, shared: &Shared<S, L>, gate: &G)
         requires { self.old.lines ≡ [] }
         ensures { IsWorkerRun L.opened (G.passes gate.now self.old.seat.build) (G.stops gate.now self.old.seat.build) self.old self.new }
@@ -89,7 +91,7 @@ impl<L: Ledgers> Worker<L> {
         *ended = work_at(rt, shared, seat, steps.as_slice(), report, gate);
     }
 
-    /// Consumes the worker, and returns its seat, steps and report.
+    /// Consumes the worker, and returns its build's session (seat), its steps and its report.
     pub fn end(self) -> (Seat<L>, Vec<Step>, Report)
         ensures parts { (result.0 ≡ self.seat) × (result.1.items ≡ self.steps) × (result.2.lines.items ≡ self.lines) }
         ensures build { result.2.build ≡ self.seat.build }

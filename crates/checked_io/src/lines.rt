@@ -1,4 +1,4 @@
-//! The lines of a reader, one after the other.
+//! Reads an input line by line through a buffer.
 ghost use Rattle.std.specs.Prelude.{◌≡◌, ◌<◌, [], ◌∷◌, length, true, false, is_err, ◌↔◌, Err, IfOk, OnOk};
 ghost use Rattle.std.specs.Io.KnownBytes.{Consumes, IsAtEnd, prepend_known};
 ghost use Rattle.checked_io.specs.Lines.{IsNext};
@@ -8,7 +8,7 @@ use crate::{DeviceFailed, ReadError, Told};
 use std::io::Read;
 use std::marker::Model;
 
-/// The next item of an input: a line, or the end.
+/// The outcome of an attempt to read the next line of an input.
 #[derive(Clone, Copy)]
 pub enum Next {
     /// A line that was read completely.
@@ -38,7 +38,7 @@ impl Model for Lines {
 }
 
 impl Lines {
-    /// Creates an empty buffer, before anything was read.
+    /// Creates an empty buffer.
     pub fn new() -> Lines
         ensures { result ≡ [] }
     {

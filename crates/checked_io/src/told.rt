@@ -9,7 +9,7 @@ use std::alloc::Global;
 use std::io::{ErrorKind, Read, Write};
 use std::marker::Model;
 
-/// The failure of a call to the device.
+/// The error of a failed call to a reader or writer.
 #[derive(Clone, Copy)]
 pub struct DeviceFailed;
 
@@ -33,8 +33,7 @@ impl From<DeviceFailed> for ReadError {
     }
 }
 
-/// A device with a flag for failed calls. The device is a reader or a writer, and the flag says whether a call has
-/// failed.
+/// A reader or writer with a flag that says whether a call has failed.
 #[derive(Drop)]
 pub struct Told<D> {
     device: D,
@@ -55,7 +54,7 @@ impl<D> Model for Told<D> {
 }
 
 impl<D> Told<D> {
-    /// Wraps a device. No call has failed so far.
+    /// Wraps a reader or writer, with the flag for failed calls unset.
     pub fn new(device: D) -> Told<D>
         ensures { result ≡ record { device = device; failed = false; is_closed = false; reads = 0 } }
     {
@@ -67,14 +66,15 @@ impl<D> Told<D> {
         }
     }
 
-    /// Whether a call to the device has failed.
+    /// Returns whether a call to the wrapped reader or writer has failed.
     pub fn has_failed(&self) -> bool
         ensures { result ≡ self.now.failed }
     {
         self.failed
     }
 
-    /// Whether a write or flush failed because of a closed pipe. The device is then a pipe whose other end is closed.
+    /// Returns whether a write or flush failed because of a closed pipe. The device is then a pipe whose other end is
+    /// closed.
     pub fn is_closed(&self) -> bool
         ensures value { result ≡ self.now.is_closed }
         ensures failed { result ≡ true → self.now.failed ≡ true }
@@ -82,7 +82,7 @@ impl<D> Told<D> {
         self.is_closed
     }
 
-    /// A reference to the device.
+    /// Returns a reference to the wrapped reader or writer.
     pub fn device(&self) -> &D
         ensures { result.now ≡ self.now.device }
     {
@@ -98,7 +98,7 @@ impl<D> Told<D> {
         DeviceFailed
     }
 
-    /// The number of read calls to the device. The counter saturates at the greatest `u64`.
+    /// Returns the number of read calls made so far. The counter saturates at the greatest `u64`.
     pub fn reads(&self) -> u64
         ensures { result ≡ self.now.reads }
     {
@@ -107,7 +107,8 @@ impl<D> Told<D> {
 }
 
 impl<R: Read> Told<R> {
-    /// Reads from the device with one call. Every error of the device is a failure, and an `Err` sets `failed`.
+    /// Reads bytes from the wrapped reader with one call. Every error of the device is a failure, and an `Err` sets
+    /// `failed`.
     pub fn read(&mut self, buf: &mut [u8]) -> Result<usize, DeviceFailed>
         requires { self.old.failed ≡ false }
         ensures told { self.new.failed ≡ is_err result }
@@ -125,8 +126,8 @@ impl<R: Read> Told<R> {
 }
 
 impl<W: Write> Told<W> {
-    /// Writes bytes with one call to the device. If there are any, a successful call writes at least one. Every error
-    /// of the device is a failure, and so is a write that takes none of the bytes. An `Err` sets `failed`.
+    /// Writes bytes to the wrapped writer with one call. If there are any, a successful call writes at least one. Every
+    /// error of the device is a failure, and so is a write that takes none of the bytes. An `Err` sets `failed`.
     pub fn write(&mut self, buf: &[u8]) -> Result<usize, DeviceFailed>
         requires { self.old.failed ≡ false }
         ensures told { self.new.failed ≡ is_err result }
@@ -142,7 +143,7 @@ impl<W: Write> Told<W> {
         }
     }
 
-    /// Flushes the device. Every error of the device is a failure, and an `Err` sets `failed`.
+    /// Flushes the wrapped writer. Every error of the device is a failure, and an `Err` sets `failed`.
     pub fn flush(&mut self) -> Result<(), DeviceFailed>
         requires { self.old.failed ≡ false }
         ensures told { self.new.failed ≡ is_err result }

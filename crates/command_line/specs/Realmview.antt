@@ -5,7 +5,7 @@ use Rattle.command_line.specs.declared.realmview.Schedules.TheVariants.{All, Dra
 use Rattle.command_line.specs.declared.realmview.AfterRefusal.{AfterRefusal}
 use Rattle.command_line.specs.declared.realmview.AfterRefusal.TheVariants.{GoOn, GiveUp}
 use Rattle.command_line.specs.declared.realmview.BadOption.{BadOption}
-use Rattle.command_line.specs.declared.realmview.BadOption.TheVariants.{SampleAboveMost, GiveUpInPlan, NoStep, NoGranules, TwoQuestions}
+use Rattle.command_line.specs.declared.realmview.BadOption.TheVariants.{SampleAboveMost, GiveUpInPlan, NoStep, GranulesOutOfRange, TwoQuestions}
 use Rattle.command_line.specs.declared.realmview.ScheduleQuestion.{ScheduleQuestion}
 use Rattle.command_line.specs.declared.realmview.ScheduleQuestion.TheVariants.{Refused, Waiting, Leased}
 use Rattle.command_line.specs.declared.realmview.StepPlace.{StepPlace}
@@ -33,10 +33,10 @@ after_refusal true _ = Err GiveUpInPlan
 
 -- from one granule to the most that a machine has
 abbrev pub question_of_leased : ℕ → Result ScheduleQuestion BadOption
-question_of_leased granules = if granules == 0 || nat_lt 4096 granules then Err (NoGranules granules) else Ok (Leased granules)
+question_of_leased granules = if granules == 0 || nat_lt 4096 granules then Err (GranulesOutOfRange granules) else Ok (Leased granules)
 
 abbrev pub asked_of_leased : ℕ → Result (Option ScheduleQuestion) BadOption
-asked_of_leased granules = if granules == 0 || nat_lt 4096 granules then Err (NoGranules granules) else Ok (Some (Leased granules))
+asked_of_leased granules = if granules == 0 || nat_lt 4096 granules then Err (GranulesOutOfRange granules) else Ok (Some (Leased granules))
 
 -- The one question that is asked, if any is: by the step of `--refused`, if its text is one, by the build of `--waiting`,
 -- or by the granules of `--leased`.

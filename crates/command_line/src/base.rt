@@ -20,7 +20,8 @@ impl Model for BaseAddress {
 }
 
 impl BaseAddress {
-    /// The default address, 0x80000000. Most RMMs that are built for tests have memory there.
+    /// Returns the default address of a machine's first granule, 0x80000000. Most RMMs that are built for tests have
+    /// memory there.
     pub fn usual() -> BaseAddress
         ensures { result ≡ 0x80000000 }
     {

@@ -13,11 +13,11 @@ use std::io::Write;
 /// The outcome of a program that stops without an error.
 #[derive(Clone, Copy)]
 pub enum Ended<V> {
-    /// A request that was carried out, with its verdict.
+    /// The outcome in which the request was carried out, with the given verdict.
     Done(V),
-    /// A help or version text that was printed.
+    /// The outcome in which a help or version text was printed.
     Shown,
-    /// An output that is closed: nobody reads it any more.
+    /// The outcome in which nobody reads the output any more, because it is closed.
     Closed,
 }
 

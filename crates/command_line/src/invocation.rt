@@ -1,10 +1,10 @@
-//! The parsed words of a command line.
+//! The request and the file that a command line gives to a program.
 
 /// A parsed command line: the request, and the file to read.
 #[derive(Clone, Copy)]
 pub struct Invocation<'a, A> {
     /// The request that the command line makes to the program.
     pub asked: A,
-    /// The file that the program reads, or none for standard input.
+    /// The name of the file to read, or `None` for standard input.
     pub file: Option<&'a str>,
 }

@@ -1,5 +1,5 @@
-//! The command lines of the programs. The crate also has what the programs share: arguments, reasons to stop, outcomes,
-//! and terminal output.
+//! The command lines of `realmhost`, `realmview` and `rmitrace`. The crate also has what the programs share: arguments,
+//! reasons to stop, outcomes, and terminal output.
 //!
 //! A program has its own faults, each a `Reason` with its exit status and its line; `Stop` adds that the words are
 //! refused. The command line of `realmhost` is proved to be what `clap`'s definition says of it. Those of `realmview`
@@ -23,7 +23,7 @@ mod waiting;
 pub use base::BaseAddress;
 pub use ended::Ended;
 pub use invocation::Invocation;
-pub use paint::{Colour, Painting, painted};
+pub use paint::{Colour, TextKind, painted};
 pub use process::arguments;
 pub use stop::{Reason, Stop};
 pub use terminal::{Input, Output};

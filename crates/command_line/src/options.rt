@@ -51,14 +51,16 @@ pub(crate) fn matched<'a>(
     program.try_get_matches_from(words)
 }
 
-/// Returns the build that a number names. The result is `None` if there is no number, or if the number is not below 8.
+/// Returns the build with the given number. The result is `None` if there is no number, or if the number is not below
+/// 8.
 pub(crate) fn build_of(number: Option<u8>) -> Option<BuildId>
     ensures { result ≡ option_and_then (λ n. if nat_lt n 8 then Some n else None) number }
 {
     BuildId::new(number?)
 }
 
-/// Returns the build that `--erase` leaves out. The result is `None` if the matched words do not have the option.
+/// Returns the build that the option `--erase` leaves out. The result is `None` if the matched words do not have the
+/// option.
 pub(crate) fn erased(matches: &ArgMatches) -> Option<BuildId>
     requires { ArePassed built_erase matches.now }
     ensures { IsErase (one_of (codes "erase") (rows_of (found_of matches.now))) result }
@@ -66,7 +68,7 @@ pub(crate) fn erased(matches: &ArgMatches) -> Option<BuildId>
     build_of(matches.get_one("erase"))
 }
 
-/// Returns the file that a text names. The text `-` means standard input, and its result is `None`.
+/// Returns the file name in an argument, or `None` for standard input. The text `-` means standard input.
 pub(crate) fn named_file(text: &str) -> Option<&str>
     ensures { option_map (λ s. s.now) result ≡ named_file text.now }
 {

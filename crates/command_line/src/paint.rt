@@ -4,29 +4,29 @@ ghost use Rattle.command_line.specs.Painted.{code_of, shown_by, AddsPainted, IsP
 
 use std::alloc::{AllocError, Global};
 
-/// The kind of a text. It decides how the lines of the text are coloured.
+/// The kind of a text, by which its lines are coloured.
 #[derive(Clone, Copy)]
-pub enum Painting {
-    /// Messages of a program. The labels `error:`, `warning:` and `help:` are coloured, and so are lines of carets and
-    /// lines of refused turns.
+pub enum TextKind {
+    /// A text of program messages, such as errors and warnings. The labels `error:`, `warning:` and `help:` are
+    /// coloured, and so are lines of carets and lines of refused turns.
     Messages,
-    /// Differences in a trace. A heading with the verdict `wrong` or `allowed` is coloured, and so is the line with the
-    /// model's answer. The labels of messages are coloured here too.
+    /// A text of differences between a trace and the answers of the model. A heading with the verdict `wrong` or
+    /// `allowed` is coloured, and so is the line with the model's answer. The labels of messages are coloured here too.
     Difference,
 }
 
 /// A colour for text on a terminal.
 #[derive(Clone, Copy)]
 pub enum Colour {
-    /// Red and bold.
+    /// Bold red, the colour of the label `error:`.
     Error,
-    /// Red.
+    /// The colour red, used for refusals and for the verdict `wrong`.
     Red,
-    /// Green.
+    /// The colour green, used for the model's answers.
     Green,
-    /// Yellow.
+    /// The colour yellow, used for the label `warning:` and the verdict `allowed`.
     Yellow,
-    /// Cyan.
+    /// The colour cyan, used for the label `help:`.
     Cyan,
 }
 
@@ -138,11 +138,11 @@ fn colour_of_difference(line: &[u8]) -> Option<Colour> {
 }
 
 // The colour of a line that is coloured as a whole; `None` for any other line.
-fn colour_of_line(painting: Painting, line: &[u8]) -> Option<Colour> {
+fn colour_of_line(painting: TextKind, line: &[u8]) -> Option<Colour> {
     match painting {
-        Painting::Messages if is_refused_turn(line) || is_of_carets(line) => Some(Colour::Red),
-        Painting::Messages => None,
-        Painting::Difference => colour_of_difference(line),
+        TextKind::Messages if is_refused_turn(line) || is_of_carets(line) => Some(Colour::Red),
+        TextKind::Messages => None,
+        TextKind::Difference => colour_of_difference(line),
     }
 }
 
@@ -159,7 +159,7 @@ fn push(out: &mut Vec<u8>, colour: Option<Colour>, piece: &[u8]) -> Result<(), A
 }
 
 // Appends a line in its colours. The line has no line feed.
-fn push_line(out: &mut Vec<u8>, painting: Painting, line: &[u8]) -> Result<(), AllocError>
+fn push_line(out: &mut Vec<u8>, painting: TextKind, line: &[u8]) -> Result<(), AllocError>
     ensures { OnOk result (AddsPainted out.old.items line.now out.new.items) }
 {
     let whole = colour_of_line(painting, line);
@@ -189,8 +189,9 @@ fn line_len(text: &[u8]) -> usize
     text.len()
 }
 
-/// Returns a coloured copy of the text. Terminal escape sequences are around the pieces that are coloured.
-pub fn painted(alloc: Global, text: &[u8], painting: Painting) -> Result<Vec<u8>, AllocError>
+/// Returns a copy of a text, coloured for a terminal. Terminal escape sequences are around the pieces that are
+/// coloured.
+pub fn painted(alloc: Global, text: &[u8], painting: TextKind) -> Result<Vec<u8>, AllocError>
     ensures { IfOk result (λ out. IsPainted text.now out.items) }
 {
     let mut out = Vec::new(alloc);

@@ -12,9 +12,9 @@ use std::alloc::{AllocError, Global};
 /// The request that a command line of `realmhost` makes.
 #[derive(Clone, Copy)]
 pub enum Line {
-    /// Replays the plan; a build may be left out.
+    /// A request to replay the plan, optionally without the events of one build.
     Replay(Option<BuildId>),
-    /// Runs each build of the plan in a thread of its own.
+    /// A request to run each build of the plan in its own thread.
     Run,
 }
 
@@ -48,7 +48,7 @@ fn command<'a>(alloc: Global) -> Result<Command<'a>, AllocError>
 }
 
 impl Line {
-    /// Parses a command line. Returns the request, or the error. The first word is the program's name.
+    /// Parses a command line of `realmhost`. Returns the request, or the error. The first word is the program's name.
     pub fn of(alloc: Global, words: &[String]) -> Result<Line, Error>
         // The request is the one for the subcommand that the specification of `clap` finds in the words.
         ensures ok { IfOk result (IsHostSubcommand (subcommand_of realmhost (map string_bytes words.now))) }

@@ -13,7 +13,7 @@ use std::alloc::{AllocError, Global};
 /// The request that a command line of `realmview` makes.
 #[derive(Clone, Copy)]
 pub enum ViewSubcommand {
-    /// Writes the history of a plan; a build may be left out.
+    /// Writes the history that a plan's run leads to. A build may be left out.
     History(Option<BuildId>),
     /// Applies a history, and writes the resulting map of the host. A build may be left out.
     Apply(Option<BuildId>),
@@ -21,12 +21,12 @@ pub enum ViewSubcommand {
     Json,
     /// Writes a web page that shows a plan's run.
     Page,
-    /// Writes the mistakes of a plan.
+    /// Checks a plan, and writes the mistakes found in it.
     Check,
-    /// Writes the run of a plan, and explains each refused turn. The failed check is below the turn. If `all`, the
-    /// checks that passed are written too.
+    /// Writes a plan's run, and explains each refused turn of a build. The failed check is below the turn. If `all`,
+    /// the checks that passed are written too.
     Why { all: bool },
-    /// Writes the outcomes of schedules of a plan.
+    /// Explores schedules of a plan, and writes their outcomes.
     Explore(Schedules, AfterRefusal),
     /// Writes a plan with a complete schedule. The schedule gives each build all the turns that the build needs.
     Order(SchedulingPolicy),
@@ -34,35 +34,37 @@ pub enum ViewSubcommand {
     Calls(BaseAddress, CallsForm),
 }
 
-/// The form in which calls are written.
+/// The output format for calls to an RMM.
 #[derive(Clone, Copy, Drop)]
 pub enum CallsForm {
-    /// The lines of a trace for `rmitrace`.
+    /// Lines of a trace that `rmitrace` can read.
     Trace,
-    /// The rows of a C table.
+    /// Rows of a table in C source code.
     Rows,
 }
 
 /// The schedules that are explored for a plan.
 #[derive(Clone, Copy, Drop)]
 pub enum Schedules {
-    /// All schedules. Their runs may have at most the given number of states.
+    /// All schedules, within a limit on the number of explored states.
     All(u32),
-    /// Schedules drawn at random. The values are the number of schedules, and the seed of the random numbers.
+    /// A given number of schedules drawn at random. The values are the number of schedules, and the seed of the random
+    /// numbers.
     Drawn(u32, u32),
-    /// The shortest schedule whose last turn answers a question. The runs may have at most the given number of states.
+    /// The shortest schedule whose last turn meets a given condition. The runs may have at most the given number of
+    /// states.
     Shortest(u32, ScheduleQuestion),
 }
 
-/// The question that the last turn of a schedule answers.
+/// A condition on the last turn of a schedule that is searched for.
 #[derive(Clone, Copy, Drop)]
 pub enum ScheduleQuestion {
-    /// Whether the step is refused.
+    /// The condition that the given step of a build is refused.
     Refused(StepPlace),
-    /// Whether the given build waits while another build holds no page. A build waits if its step is refused for want
-    /// of a block or a VMID.
+    /// The condition that the given build waits for a resource while another holds no page. A build waits if its step
+    /// is refused for want of a block or a VMID.
     Waiting(u32),
-    /// Whether at least the given number of granules is leased.
+    /// The condition that at least the given number of granules is leased.
     Leased(u32),
 }
 
@@ -75,7 +77,7 @@ pub enum AfterRefusal {
     GiveUp,
 }
 
-/// A step of a plan. It is named by its build, and by its index in the build's list of steps.
+/// The position of a step in a plan: the step's build and index. The index is that in the build's list of steps.
 #[derive(Clone, Copy, Drop)]
 pub struct StepPlace {
     pub build: u32,
@@ -85,32 +87,34 @@ pub struct StepPlace {
 /// The reason why the options of a subcommand are refused.
 #[derive(Clone, Copy, Drop)]
 pub enum BadOption {
-    /// A sample of more schedules than may be drawn.
+    /// A request to draw more schedules than the limit allows.
     SampleAboveMost { sample: u32 },
-    /// A text that is no base address. It is not an address, or the address is too high or not a multiple of 4,096.
+    /// An option value that is not a valid base address. It is not an address, or the address is too high or not a
+    /// multiple of 4,096.
     NoBase,
-    /// A text that does not name a step of a build.
+    /// An option value that does not name a step of a build.
     NoStep,
-    /// The option `--give-up` together with a question. The answer to a question is a plan, and a plan cannot say that
-    /// its builds give up.
+    /// The option `--give-up` together with a question about schedules. The answer to a question is a plan, and a plan
+    /// cannot say that its builds give up.
     GiveUpInPlan,
-    /// A number of granules out of range. It is 0, or more than a machine can have.
-    NoGranules { granules: u32 },
-    /// More than one question.
+    /// A number of granules that is 0 or too large for a machine.
+    GranulesOutOfRange { granules: u32 },
+    /// More than one question about schedules on a command line.
     TwoQuestions,
 }
 
 /// The policy by which the builds of a plan take turns.
 #[derive(Clone, Copy, Drop)]
 pub enum SchedulingPolicy {
-    /// Turns in rotation, for each build that has a step left.
+    /// Gives turns in rotation to the builds that have a step left.
     InRotation,
-    /// Turns of one build after another. A build begins when the previous build has no step left.
+    /// Gives all turns to one build before the next build begins. A build begins when the previous build has no step
+    /// left.
     OneByOne,
 }
 
 // The limit on explored states, if no option gives one.
-const MOST_STATES: u32 = 1000000;
+const DEFAULT_STATE_LIMIT: u32 = 1000000;
 
 // The most schedules that may be drawn.
 const MOST_DRAWN: u32 = 1000000;
@@ -138,7 +142,7 @@ fn schedules_asked(
     ensures { result ≡ schedules_asked most_states sample seed }
 {
     match (sample, seed) {
-        (None, None) => Ok(Schedules::All(most_states.unwrap_or(MOST_STATES))),
+        (None, None) => Ok(Schedules::All(most_states.unwrap_or(DEFAULT_STATE_LIMIT))),
         (None, Some(seed)) => Ok(Schedules::Drawn(SAMPLE, seed)),
         (Some(sample), seed) => schedules_drawn(sample, seed.unwrap_or(0)),
     }
@@ -164,7 +168,7 @@ fn question_of_leased(granules: u32) -> Result<ScheduleQuestion, BadOption>
     ensures { result ≡ question_of_leased granules }
 {
     if granules == 0 || granules > MOST_GRANULES {
-        Err(BadOption::NoGranules { granules })
+        Err(BadOption::GranulesOutOfRange { granules })
     } else {
         Ok(ScheduleQuestion::Leased(granules))
     }
@@ -401,7 +405,7 @@ fn schedules_by(explore: &ArgMatches) -> Result<Schedules, BadOption> {
         explore.get_one("leased"),
     )?;
     if let Some(question) = question {
-        let most = most_states.unwrap_or(MOST_STATES);
+        let most = most_states.unwrap_or(DEFAULT_STATE_LIMIT);
         return Ok(Schedules::Shortest(most, question));
     }
     schedules_asked(
@@ -436,7 +440,7 @@ fn form_by(calls: &ArgMatches) -> CallsForm {
 }
 
 // The scheduling policy that the matched words ask for.
-fn turns_by(order: &ArgMatches) -> SchedulingPolicy {
+fn scheduling_policy_by(order: &ArgMatches) -> SchedulingPolicy {
     if order.get_flag("one-by-one") {
         SchedulingPolicy::OneByOne
     } else {
@@ -455,7 +459,7 @@ fn asked_by(name: &str, matches: &ArgMatches) -> Result<ViewSubcommand, BadOptio
             all: matches.get_flag("all"),
         }),
         "explore" => explore_by(matches),
-        "order" => Ok(ViewSubcommand::Order(turns_by(matches))),
+        "order" => Ok(ViewSubcommand::Order(scheduling_policy_by(matches))),
         "calls" => Ok(ViewSubcommand::Calls(base_by(matches)?, form_by(matches))),
         _ => Ok(ViewSubcommand::Check),
     }
@@ -470,7 +474,7 @@ fn bad_option(alloc: Global, reason: BadOption) -> Result<Error, AllocError> {
         BadOption::NoBase => String::from_str(alloc, NO_BASE)?,
         BadOption::NoStep => String::from_str(alloc, NO_STEP)?,
         BadOption::GiveUpInPlan => String::from_str(alloc, GIVE_UP_IN_PLAN)?,
-        BadOption::NoGranules { granules } => {
+        BadOption::GranulesOutOfRange { granules } => {
             format!(in alloc; "--leased {granules} is not from 1 to {MOST_GRANULES}")?
         }
         BadOption::TwoQuestions => String::from_str(alloc, TWO_QUESTIONS)?,
@@ -481,8 +485,8 @@ fn bad_option(alloc: Global, reason: BadOption) -> Result<Error, AllocError> {
 }
 
 impl ViewSubcommand {
-    /// Parses a command line. Returns the request and the name of the file, or the error. The first word is the
-    /// program's name.
+    /// Parses a command line of `realmview`. Returns the request and the name of the file, or the error. The first word
+    /// is the program's name.
     pub fn of<'a>(
         alloc: Global,
         words: &'a [String],

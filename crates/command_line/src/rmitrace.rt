@@ -18,8 +18,8 @@ pub struct NameSet {
     pub places: [bool; 256],
 }
 
-/// The options of a check. They say which lines the check compares, which verdicts it prints, and whether it stops at a
-/// wrong line.
+/// The options of `rmitrace check`. They say which lines the check compares, which verdicts it prints, and whether it
+/// stops at a wrong line.
 #[derive(Clone, Copy)]
 pub struct Comparison {
     /// Whether the verdict on each compared line is printed. That includes the lines whose answers are the same.
@@ -35,13 +35,13 @@ pub struct Comparison {
 /// The request that a command line of `rmitrace` makes.
 #[derive(Clone, Copy)]
 pub enum TraceSubcommand {
-    /// Answers each line of a trace.
+    /// Writes each line of a trace with the answer of the model.
     Answer,
     /// Compares the answers in a trace with those of the model.
     Check(Comparison),
-    /// Writes a trace with its raw calls in their named form.
+    /// Writes a trace, with its raw calls written by name.
     Names,
-    /// Answers each line of a trace, and explains each refusal.
+    /// Writes a trace with the model's answers, and explains each refusal.
     Why,
 }
 
@@ -236,8 +236,8 @@ fn asked_by(alloc: Global, matches: &ArgMatches) -> Result<TraceSubcommand, Erro
 }
 
 impl TraceSubcommand {
-    /// Parses a command line. Returns the request and the name of the file, or the error. The first word is the
-    /// program's name.
+    /// Parses a command line of `rmitrace`. Returns the request and the name of the file, or the error. The first word
+    /// is the program's name.
     pub fn of<'a>(
         alloc: Global,
         words: &'a [String],

@@ -10,17 +10,17 @@ use std::fmt::Display;
 
 /// A reason why a program has not carried out its command line. Its text is a line for standard error.
 pub trait Reason: Display + Drop {
-    /// The exit status of each reason.
+    /// The function from each reason to its exit status.
     ghost status_of: { Self → ℕ };
 
     /// The reason to stop after a failed allocation.
     ghost memory: { Self };
 
-    /// The exit status of the program.
+    /// Returns the exit status with which a program stops for this reason.
     fn status(&self) -> u8
         ensures { result ≡ status_of self.now };
 
-    /// The reason to stop after a failed allocation.
+    /// Returns the reason to stop after a failed allocation.
     fn of_memory() -> Self
         ensures { result ≡ memory };
 }
@@ -28,19 +28,19 @@ pub trait Reason: Display + Drop {
 /// The reason why a program stops. It has an exit status, and one or more lines for standard error.
 #[derive(Drop)]
 pub enum Stop<F> {
-    /// A command line with an error of `clap`. The line is refused, or asks for help or for the version: `clap` says
-    /// which.
+    /// An error that `clap` returns for the command line. The line is refused, or asks for help or for the version:
+    /// `clap` says which.
     Usage(Error),
-    /// An argument that is not UTF-8.
+    /// A command line argument that is not UTF-8.
     NotUtf8,
-    /// A file of the command line that cannot be opened. The value is the error message.
+    /// A file named on the command line that cannot be opened. The value is the error message.
     Unopened(String),
     /// A failure to do what the command line asks for. The value is its reason.
     Run(F),
 }
 
 impl<F: Reason> Stop<F> {
-    /// The exit status of the program.
+    /// Returns the exit status with which the program stops.
     pub fn status(&self) -> u8
         ensures { result ≡ status_of_stop F.status_of self.now }
     {
@@ -52,7 +52,7 @@ impl<F: Reason> Stop<F> {
     }
 }
 
-/// The text for standard error.
+/// Formats the text that a stopped program writes to standard error.
 impl<F: Reason> Display for Stop<F> {
     fn fmt<W: fmt::Write>(&self, f: &mut fmt::Formatter<W>) -> fmt::Result {
         match self {

@@ -1,4 +1,5 @@
-//! Command lines as tables. A program has subcommands, and each subcommand reads a FILE and has options.
+//! The command line of a program, described by a table of subcommands and options. A program has subcommands, and each
+//! subcommand reads a FILE and has options.
 use crate::options::{erase, named_file, program, subcommand};
 use clap::{Arg, ArgAction, ArgMatches, Command, Error, value_parser};
 use std::alloc::{AllocError, Global};
@@ -6,11 +7,11 @@ use std::alloc::{AllocError, Global};
 /// An option of a subcommand, with its help.
 #[derive(Clone, Copy)]
 pub(crate) enum Opt {
-    /// `--erase B`, the build that is left out.
+    /// The option `--erase B`, which leaves out build B.
     Erase(&'static str),
     /// An option whose value is a 32-bit number. The texts are the option's name, the value's name, and the help.
     Number(&'static str, &'static str, &'static str),
-    /// A flag: its name and its help.
+    /// An option without a value. The texts are its name and its help.
     Flag(&'static str, &'static str),
     /// An option that may be repeated, with a name each time.
     Names(&'static str, &'static str),

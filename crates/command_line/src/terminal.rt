@@ -4,7 +4,7 @@ ghost use Rattle.std.specs.Process.{exit_status};
 ghost use Rattle.command_line.specs.Stop.{status_of_stop};
 ghost use Rattle.command_line.specs.declared.stop.Stop.TheVariants.{Run};
 
-use crate::paint::{Painting, painted};
+use crate::paint::{TextKind, painted};
 use crate::stop::{Reason, Stop};
 use crate::waiting::WaitingStream;
 use std::alloc::Global;
@@ -19,7 +19,7 @@ use std::{env, io};
 pub enum Input<'a> {
     /// Standard input.
     Standard(WaitingStream<'a, Stdin>),
-    /// A file.
+    /// The file that the command line names.
     File(File),
 }
 
@@ -95,17 +95,17 @@ fn allows_colours(rt: &HostRuntime) -> bool {
     }
 }
 
-/// Standard output. On a terminal it is painted, if the program asks for that.
+/// Standard output, in colour on a terminal if the program asks for that.
 #[derive(Drop)]
 pub struct Output<'a> {
     stdout: WaitingStream<'a, Stdout>,
     alloc: Global,
-    painting: Option<Painting>,
+    painting: Option<TextKind>,
 }
 
 impl<'a> Output<'a> {
     /// Opens standard output. The output gets the painting if it is a terminal and the environment allows colours.
-    pub fn open(rt: &'a HostRuntime, painting: Option<Painting>) -> Output<'a> {
+    pub fn open(rt: &'a HostRuntime, painting: Option<TextKind>) -> Output<'a> {
         let is_painted = rt.stdout().is_terminal() && allows_colours(rt);
         Output {
             stdout: WaitingStream::new(rt, rt.stdout()),
@@ -141,7 +141,7 @@ impl<F: Reason> Stop<F> {
         if rt.stderr().is_terminal()
             && allows_colours(rt)
             && let Ok(text) = format!(in rt.alloc(); "{self}")
-            && let Ok(text) = painted(rt.alloc(), text.as_bytes(), Painting::Messages)
+            && let Ok(text) = painted(rt.alloc(), text.as_bytes(), TextKind::Messages)
         {
             let _lost = rt.stderr().write_all(text.as_slice());
             return ExitCode::from(self.status());

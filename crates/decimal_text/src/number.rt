@@ -39,7 +39,7 @@ pub fn cut_at_space(text: &str) -> (&str, &str)
     }
 }
 
-/// Parses at most `MOST` 32-bit numbers. Each number is in decimal, with one space before it. Any other text gives
+/// Parses a text of at most `MOST` 32-bit decimal numbers. One space is before each number. Any other text gives
 /// `None`.
 pub fn numbers_of<const MOST: usize>(text: &str) -> Option<ArrayVec<u32, MOST>>
     ensures found { IfSome result (λ v. AreNumbers MOST v.items × (text.now ≡ spelled_numbers v.items)) }

@@ -1,15 +1,17 @@
-//! Operands of a word, made from numbers. There are as many numbers as the word takes, each in the range of its type.
+//! The conversion of numbers to typed operands. There are as many numbers as operands, each in the range of its
+//! operand's type.
 ghost use Rattle.std.specs.Prelude.{◌≡◌, ℕ, nat_le, ◌&&◌, if◌then◌else◌, Some, None};
 ghost use Rattle.decimal_text.specs.Rows.{one, two, three, four};
 ghost use Rattle.decimal_text.specs.Written.{u8, u16, u32};
 
-/// A type that an operand can have. Each value is made from a number that is at most `maximum`.
+/// An operand's type, whose values are made from the numbers up to `maximum`.
 pub trait Operand: Copy {
     ghost maximum: { ℕ };
 
     ghost of: { ℕ → Self };
 
-    /// Makes an operand from a number. Returns `None` if the number is above the type's maximum.
+    /// Converts a number to an operand, if the number is in the type's range. Returns `None` if the number is above the
+    /// type's maximum.
     fn from_number(number: u32) -> Option<Self>
         ensures { result ≡ (if nat_le number maximum then Some (of number) else None) };
 }
@@ -51,8 +53,8 @@ fn both<A: Operand, B: Operand>(first: u32, second: u32) -> Option<(A, B)>
     A::from_number(first).zip(B::from_number(second))
 }
 
-/// Makes an operand from exactly one number. Returns `None` for another count of numbers, or if the number is out of
-/// range.
+/// Converts a list of exactly one number to an operand. Returns `None` for another count of numbers, or if the number
+/// is out of range.
 pub fn one_operand<A: Operand>(numbers: &[u32]) -> Option<A>
     ensures { result ≡ one A.maximum (λ k. A.of k) numbers.now }
 {
@@ -62,8 +64,8 @@ pub fn one_operand<A: Operand>(numbers: &[u32]) -> Option<A>
     }
 }
 
-/// Makes two operands from exactly two numbers. Returns `None` for another count of numbers, or if a number is out of
-/// its operand's range.
+/// Converts a list of exactly two numbers to two operands. Returns `None` for another count of numbers, or if a number
+/// is out of its operand's range.
 pub fn two_operands<A: Operand, B: Operand>(numbers: &[u32]) -> Option<(A, B)>
     ensures { result ≡ two A.maximum B.maximum (λ k l. (A.of k, B.of l)) numbers.now }
 {
@@ -73,8 +75,8 @@ pub fn two_operands<A: Operand, B: Operand>(numbers: &[u32]) -> Option<(A, B)>
     }
 }
 
-/// Makes three operands from exactly three numbers. Returns `None` for another count of numbers, or if a number is out
-/// of its operand's range.
+/// Converts a list of exactly three numbers to three operands. Returns `None` for another count of numbers, or if a
+/// number is out of its operand's range.
 pub fn three_operands<A: Operand, B: Operand, C: Operand>(numbers: &[u32]) -> Option<(A, B, C)>
     ensures { result ≡ three A.maximum B.maximum C.maximum (λ k l m. (A.of k, B.of l, C.of m)) numbers.now }
 {
@@ -86,8 +88,8 @@ pub fn three_operands<A: Operand, B: Operand, C: Operand>(numbers: &[u32]) -> Op
     Some((first, second, third))
 }
 
-/// Makes four operands from exactly four numbers. Returns `None` for another count of numbers, or if a number is out of
-/// its operand's range.
+/// Converts a list of exactly four numbers to four operands. Returns `None` for another count of numbers, or if a
+/// number is out of its operand's range.
 pub fn four_operands<A: Operand, B: Operand, C: Operand, D: Operand>(
     numbers: &[u32],
 ) -> Option<(A, B, C, D)>
@@ -102,9 +104,9 @@ pub fn four_operands<A: Operand, B: Operand, C: Operand, D: Operand>(
     Some((first, second, third, fourth))
 }
 
-/// Maps an `Option` of operands to an `Option` of a value. The value is a variant whose fields are the operands in
-/// sequence, or any expression. This is a macro for a `match`, since a closure for each would be one more function to
-/// prove.
+/// Turns an `Option` of operands into an `Option` of a value made from them. The value is a variant whose fields are
+/// the operands in sequence, or any expression. This is a macro for a `match`, since a closure for each would be one
+/// more function to prove.
 #[macro_export]
 macro_rules! made_of {
     ($found:expr => $type:ident::$kind:ident { $($field:ident),+ }) => {

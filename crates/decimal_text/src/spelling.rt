@@ -1,4 +1,4 @@
-//! The text of numbers in decimal.
+//! Decimal numbers as text, alone or after a word.
 use std::fmt;
 
 /// Decimal numbers as text, with one space before each.

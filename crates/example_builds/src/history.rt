@@ -1,5 +1,5 @@
-//! An example that applies a history to a host. The history comes from standard input, and is applied up to the first
-//! refused event. Then the example prints the host's map.
+//! An example that applies a recorded history of builds to a new host. The history comes from standard input, and is
+//! applied up to the first refused event. Then the example prints the host's map.
 use anyhow::{Context, Result};
 use history_text::{Opening, parse_event, parse_opening};
 use plan_replay::map_text;
@@ -46,7 +46,8 @@ fn show(rt: &impl Print, alloc: Global, host: &mut Host<PlainStore>, text: &str)
     Ok(())
 }
 
-/// Applies the history on standard input, and prints the host's map. If standard input is empty, nothing is printed.
+/// Reads a history of builds from standard input, and applies the history to a new host. Then the host's map of pages
+/// and realms is printed. If standard input is empty, nothing is printed.
 pub(crate) fn run(rt: &HostRuntime) -> Result<()> {
     let alloc = rt.alloc();
     let text = io::read_to_string(alloc, rt.stdin())?;

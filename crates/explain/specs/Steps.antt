@@ -23,7 +23,7 @@ abbrev pub undo_checks : HostView → ℕ → List Check
 undo_checks host build =
     build_there host build
     ∷ record { fact = fact.Undo (undo.Open (length (open_of host build))); fails = nat_lt (length (open_of host build)) 1; refusal = NothingToUndo }
-    ∷ record { fact = fact.Undo undo.NewestRests; fails = refusals.is_newest_running host build; refusal = RecRunning } ∷ []
+    ∷ record { fact = fact.Undo undo.NewestIsNotRunning; fails = refusals.is_newest_running host build; refusal = RecRunning } ∷ []
 
 -- ---- an abort that begins
 
@@ -34,7 +34,7 @@ running_of host build = if nat_lt build host.limits.builds then running_count (r
 abbrev pub begin_checks : HostView → ℕ → List Check
 begin_checks host build =
     checks_of_build host build
-    ++ record { fact = fact.Undo (undo.AllRest (running_of host build)); fails = nat_lt 0 (running_of host build); refusal = RecRunning } ∷ []
+    ++ record { fact = fact.Undo (undo.AllAreReady (running_of host build)); fails = nat_lt 0 (running_of host build); refusal = RecRunning } ∷ []
 
 -- ---- a way back to a mark
 
@@ -54,7 +54,7 @@ back_checks host build None = mark_checks true
 back_checks host build (Some mark) =
     checks_of_build host build
     ++ (mark_checks (is_nothing (way_back host build mark))
-    ++ record { fact = fact.Undo undo.AboveRests; fails = is_refused_by_running (way_back host build mark); refusal = RecRunning } ∷ [])
+    ++ record { fact = fact.Undo undo.NoneRunsAboveMark; fails = is_refused_by_running (way_back host build mark); refusal = RecRunning } ∷ [])
 
 -- ---- the turn of a step
 

@@ -35,7 +35,7 @@ pub(crate) fn push_error(
     text.push_str(")")
 }
 
-/// Returns the words for a failed check of a step. They say the required fact, and the fact that was found.
+/// Returns the phrase that explains a failed check of a step. It has the required fact, and the fact that was found.
 pub(crate) fn error_of<S: PageStore>(
     host: &Host<S>,
     build: BuildId,
@@ -147,7 +147,7 @@ fn of_room(machine: u16, fact: RoomFact) -> Phrase {
     }
 }
 
-/// Returns the error for the newest operation's RUNNING REC. The newest open operation created that REC.
+/// Returns the message that REC `number`, created by the newest open operation, is RUNNING.
 pub(crate) fn newest_error(number: u16) -> Phrase {
     one(
         "REC {}, the newest operation's, must be READY; it is RUNNING",
@@ -171,18 +171,18 @@ fn running_error<S: PageStore>(
 fn of_undo<S: PageStore>(host: &Host<S>, build: BuildId, fact: UndoFact) -> Phrase {
     match fact {
         UndoFact::Open(_) => plain("the build must have an operation to undo; it has none"),
-        UndoFact::NewestRests => match newest_rec(host, build) {
+        UndoFact::NewestIsNotRunning => match newest_rec(host, build) {
             Some(number) => newest_error(number),
             None => plain("the newest operation's REC must be READY; it is RUNNING"),
         },
-        UndoFact::AllRest(_) => running_error(
+        UndoFact::AllAreReady(_) => running_error(
             host,
             build,
             "each REC of the build must be READY; REC {} is RUNNING",
             "each REC of the build must be READY; {} RECs are RUNNING",
         ),
         UndoFact::Mark => plain("the build must have a mark to go back to; it has none"),
-        UndoFact::AboveRests => running_error(
+        UndoFact::NoneRunsAboveMark => running_error(
             host,
             build,
             "each REC created since the mark must be READY; REC {} is RUNNING",
@@ -257,7 +257,7 @@ fn of_input(step: &Step, fact: InputFact) -> Phrase {
     }
 }
 
-/// Returns the number of protected IPA granules. They are half of the address space, which has `width` bits.
+/// Returns the first IPA granule above the protected half of an address space. The address space has `width` bits.
 pub(crate) fn protected_end(width: u8) -> u64 {
     1 << width.saturating_sub(13).min(32)
 }

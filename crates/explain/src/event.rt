@@ -1,4 +1,4 @@
-//! Words for why a host does not apply a recorded event.
+//! Explanations for recorded events that a host does not apply.
 use crate::check::Check;
 use crate::error::{error_of, newest_error, push_error};
 use crate::of_build::build_there;
@@ -14,8 +14,8 @@ use plan_replay::PlanCursor;
 use realm_host::{Act, Event, Host, Refusal};
 use std::alloc::{AllocError, Global};
 
-/// Explains in words why a host does not apply an event. The words name granules instead of pages. The words are empty
-/// if neither a check nor a recorded value explains it.
+/// Explains in words why a host does not apply a recorded event. The words name granules instead of pages. The words
+/// are empty if neither a check nor a recorded value explains it.
 pub fn event_words<S: PageStore>(
     alloc: Global,
     host: &Host<S>,

@@ -1,11 +1,11 @@
-//! Turns of a run, with the reasons for refusals.
+//! Turns of a plan's run, with the reasons for refusals.
 use crate::check::Check;
 use host_commands::Step;
 
-/// The reason why a turn is refused.
+/// The reason why a host refuses a turn of a plan's run.
 #[derive(Drop)]
 pub struct Explanation {
-    /// The step that the build asked for.
+    /// The refused step of the plan.
     pub step: Step,
     /// The checks of the step, up to and including the first failed check.
     pub checks: Vec<Check>,
@@ -15,10 +15,10 @@ pub struct Explanation {
     pub help: String,
 }
 
-/// A turn of a run.
+/// A turn of a plan's run, with the reason for a refusal, if any.
 #[derive(Drop)]
 pub struct ExplainedTurn {
-    /// The line of the turn, as a replay prints it.
+    /// The text of the turn, as a replay of the plan prints it.
     pub line: String,
     /// The reason for the refusal, if the turn is refused.
     pub reason: Option<Explanation>,

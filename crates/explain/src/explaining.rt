@@ -117,8 +117,8 @@ fn explain_turn<S: PageStore>(
     Ok(turn)
 }
 
-/// Runs a plan, and returns its turns. Each turn has its line, and the reason for its refusal, if any. The reason has
-/// the checks up to and including the first failed check. At an `Err` allocation failed.
+/// Runs a plan, and returns its turns with the reasons for refusals. Each turn has its line too. A reason has the
+/// checks up to and including the first failed check. At an `Err` allocation failed.
 pub fn explain_turns<S: PageStore>(
     alloc: Global,
     host: &mut Host<S>,

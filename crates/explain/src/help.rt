@@ -1,4 +1,4 @@
-//! The help for a refused step. It proposes steps in the notation of plans.
+//! Proposals of plan steps, printed as help for a refused step. They are in the notation of plans.
 use crate::check::Fact;
 use crate::help_host::{build_help, room_help, undo_help};
 use crate::help_input::input_help;
@@ -12,19 +12,19 @@ use page_arena::PageStore;
 use realm_host::{GranuleState, Host};
 use std::alloc::AllocError;
 
-/// The help for a check that fails.
+/// The help message for a failed check of a step.
 #[derive(Clone, Copy)]
 pub(crate) enum Help {
     Nothing,
     Say(Phrase),
-    /// Two phrases, one after the other.
+    /// Help that consists of two phrases.
     Both(Phrase, Phrase),
-    /// A number of undos, between leading and closing words. An `exit` step for each RUNNING REC comes before the
-    /// undos.
+    /// Help that proposes a number of undos, between leading and closing words. An `exit` step for each RUNNING REC
+    /// comes before the undos.
     Undo(Phrase, usize, &'static str),
-    /// An `exit` step for each RUNNING REC.
+    /// Help that proposes an `exit` step for each RUNNING REC.
     Exit,
-    /// Words, then a `rec` step with all the pages that a REC needs.
+    /// Help that proposes a `rec` step with all the pages that a REC needs. The words come before the step.
     Rec(&'static str),
 }
 

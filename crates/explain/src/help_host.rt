@@ -12,7 +12,8 @@ use host_commands::Step;
 use page_arena::PageStore;
 use realm_host::{GranuleState, Host};
 
-/// Proposes the smallest `take` that gives at least `count` pages. Returns `None` if no block of its size is free.
+/// Proposes the smallest `take` step that gives a build at least `count` pages. Returns `None` if no block of its size
+/// is free.
 pub(crate) fn take_of<S: PageStore>(host: &Host<S>, build: BuildId, count: u16) -> Option<Phrase> {
     let order = order_for(count)?;
     if !has_block(host, order) {
@@ -70,7 +71,7 @@ fn realm_first<S: PageStore>(host: &Host<S>, build: BuildId, step: &Step) -> Phr
     }
 }
 
-/// Returns the help for a `BuildFact` that does not hold.
+/// Returns the help for a failed check on a build or a block order.
 pub(crate) fn build_help<S: PageStore>(
     host: &Host<S>,
     build: BuildId,
@@ -126,8 +127,8 @@ fn other_block<S: PageStore>(host: &Host<S>, order: u8) -> Phrase {
     }
 }
 
-/// Returns the help for a step that lacks free room. It lacks room in the journal or the history, a free VMID, or a
-/// free block.
+/// Returns the help for a failed check on free entries, VMIDs or blocks. The entries are those of the journal or the
+/// history.
 pub(crate) fn room_help<S: PageStore>(host: &Host<S>, fact: RoomFact) -> Help {
     Help::Say(match fact {
         RoomFact::Journal(_) => plain(
@@ -144,15 +145,15 @@ pub(crate) fn room_help<S: PageStore>(host: &Host<S>, fact: RoomFact) -> Help {
     })
 }
 
-/// Returns the help for a failed check of an undo, abort or `back`.
+/// Returns the help for a failed check of an undo, an abort or a `back` step.
 pub(crate) fn undo_help<S: PageStore>(host: &Host<S>, build: BuildId, fact: UndoFact) -> Help {
     match fact {
         UndoFact::Open(_) => Help::Nothing,
-        UndoFact::NewestRests => match newest_rec(host, build) {
+        UndoFact::NewestIsNotRunning => match newest_rec(host, build) {
             Some(number) => Help::Say(one("`exit {}` first", Number(number as u64))),
             None => Help::Nothing,
         },
-        UndoFact::AllRest(_) | UndoFact::AboveRests => Help::Exit,
+        UndoFact::AllAreReady(_) | UndoFact::NoneRunsAboveMark => Help::Exit,
         UndoFact::Mark => Help::Say(plain(
             "`mark` before the steps that `back` is to undo; an undo of steps before it drops it",
         )),

@@ -13,7 +13,7 @@ use realm_host::{GranuleState, Host};
 
 // ---- pages
 
-/// Proposes another page of the build. It is a DELEGATED page, or else a page to delegate first.
+/// Proposes a DELEGATED page of the build, or else a page to delegate first. The refused step does not name that page.
 pub(crate) fn other_page<S: PageStore>(host: &Host<S>, build: BuildId, step: &Step) -> Help {
     let delegated = other_pages(host, build, step, GranuleState::Delegated);
     if let [page, ..] = delegated.as_slice() {
@@ -39,7 +39,12 @@ fn is_source(step: &Step, page: u16) -> bool {
 }
 
 // The help `words`, followed by the undos that make a page UNDELEGATED again.
-fn given_back<S: PageStore>(host: &Host<S>, build: BuildId, page: u16, words: Phrase) -> Help {
+fn undelegating_help<S: PageStore>(
+    host: &Host<S>,
+    build: BuildId,
+    page: u16,
+    words: Phrase,
+) -> Help {
     match undos_of_delegation(host, build, page) {
         Some(count) => Help::Undo(words, count, " undelegates it"),
         None => Help::Say(words),
@@ -83,11 +88,11 @@ fn undelegated_help<S: PageStore>(
         },
         Step::Ask(Cmd::Fill { .. }) => {
             let words = one("fill the page before `delegate {}`; ", Number(page as u64));
-            given_back(host, build, page, words)
+            undelegating_help(host, build, page, words)
         }
         Step::Ask(Cmd::Peek { .. }) => {
             let words = plain("the host reads a page before `delegate` or after its undo; ");
-            given_back(host, build, page, words)
+            undelegating_help(host, build, page, words)
         }
         _ => other_source(host, build, other),
     }

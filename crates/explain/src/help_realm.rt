@@ -242,7 +242,8 @@ fn other_entry<S: PageStore>(host: &Host<S>, build: BuildId, step: &Step, ipa: u
     }
 }
 
-/// Returns the help for a failed check on a walk. The check is on the level or the entry at which the walk ends.
+/// Returns the help for a failed check on a walk of translation tables. The check is on the level or the entry at which
+/// the walk ends.
 pub(crate) fn walk_help<S: PageStore>(
     host: &Host<S>,
     build: BuildId,

@@ -1,48 +1,53 @@
 //! Facts that the host checks before it calls the RMM.
 use granule_addr::{Gran, Vmid};
 
-/// A fact about a build or a block order. Refusals 1 to 6 (`NoBuild` to `NoRealm`) depend on it.
+/// A required fact about a build or a block order. Refusals 1 to 6 (`NoBuild` to `NoRealm`) depend on it.
 #[derive(Clone, Copy)]
 pub enum BuildFact {
-    /// The build exists. The value is the number of builds of the host.
+    /// Requires that the build exists. The value is the number of builds of the host.
     There(u8),
-    /// The build is not aborting.
+    /// Requires that the build is not aborting.
     NotAborting,
-    /// The order of a block is at most 9. The value is the order.
+    /// Requires that the order of a block is at most 9. The value is the order.
     Order(u8),
-    /// The build has the page. The values are the page's number, the page's granule, if any, and how many pages the
-    /// build has.
+    /// Requires that the build has a given page. The values are the page's number, the page's granule, if any, and how
+    /// many pages the build has.
     Page(u16, Option<Gran>, u16),
-    /// The build has a realm. The value is the RD that was found, if any.
+    /// Requires that the build has a realm. The value is the RD that was found, if any.
     Realm(Option<Gran>),
-    /// The build has no realm. The value is the RD that was found, if any.
+    /// Requires that the build has no realm. The value is the RD that was found, if any.
     NoRealm(Option<Gran>),
 }
 
-/// A fact about free room. Refusals 9 to 12 (`JournalFull` to `NoVmid`) depend on it.
+/// A required fact about free capacity: entries, VMIDs or blocks. The entries are those of the journal or the history.
+/// Refusals 9 to 12 (`JournalFull` to `NoVmid`) depend on it.
 #[derive(Clone, Copy)]
 pub enum RoomFact {
-    /// Fewer than 512 operations of the build are open. The value is the number of open operations.
+    /// Requires that fewer than 512 operations of the build are open. The value is the number of open operations.
     Journal(usize),
-    /// The build has enough room left in the history. The values are the numbers of entries left and needed.
+    /// Requires that the history has enough free entries for the build. The values are the numbers of entries left and
+    /// needed.
     History(u16, u16),
-    /// A VMID is free. The value is the lowest free VMID, if any.
+    /// Requires that a VMID is free. The value is the lowest free VMID, if any.
     Vmid(Option<Vmid>),
-    /// An aligned block is free. The values are the block's order and the number of free pages.
+    /// Requires that an aligned block of a given order is free. The values are the block's order and the number of free
+    /// pages.
     Block(u8, u16),
 }
 
-/// A fact about an undo, an abort or a `back` step. Refusals 7 (`NothingToUndo`) and 8 (`RecRunning`) depend on it.
+/// A fact that an undo, an abort or a `back` step requires. Refusals 7 (`NothingToUndo`) and 8 (`RecRunning`) depend on
+/// it.
 #[derive(Clone, Copy)]
 pub enum UndoFact {
-    /// The build has an open operation. The value is the number of open operations.
+    /// Requires that the build has an open operation. The value is the number of open operations.
     Open(usize),
-    /// The newest open operation created no REC that is RUNNING.
-    NewestRests,
-    /// The build's RECs are all READY. The value is the number of RUNNING RECs.
-    AllRest(u16),
-    /// The build has a valid mark.
+    /// Requires that no REC created by the newest open operation is RUNNING.
+    NewestIsNotRunning,
+    /// Requires that all RECs of the build are READY. The value is the number of RUNNING RECs.
+    AllAreReady(u16),
+    /// Requires a valid mark to which the build can be rolled back.
     Mark,
-    /// No REC created after the mark is RUNNING. RECs count only if the operation that created them is still open.
-    AboveRests,
+    /// Requires that no REC created after the mark of the build is RUNNING. RECs count only if the operation that
+    /// created them is still open.
+    NoneRunsAboveMark,
 }

@@ -1,4 +1,4 @@
-//! Checks of a host before it calls the store or the RMM. They are for refusals 1 to 6, 9, 10 and 12.
+//! Checks that a host makes before it calls the page store or the RMM. They are for refusals 1 to 6, 9, 10 and 12.
 ghost use Rattle.std.specs.Prelude.{◌≡◌, ◌++◌, [], OnOk, map};
 ghost use Rattle.std.specs.List.{cons_option};
 ghost use Rattle.explain.specs.OfBuild.{build_there, not_aborting, checks_of_build, checks_of_order, page_there, checks_of_realm, checks_of_journal, room_left, room_check, checks_of_vmid, needs_checks};
@@ -160,8 +160,8 @@ fn vmid_check<S: PageStore>(host: &Host<S>, wanted: bool) -> Option<Check>
     })
 }
 
-/// Adds the checks of a command's needs. The host makes them before it calls the store or the RMM. They are for
-/// refusals 1 to 6, 9, 10 and 12.
+/// Appends the checks that the host makes before it calls the page store or the RMM. They are for refusals 1 to 6, 9,
+/// 10 and 12.
 pub(crate) fn add_needs<S: PageStore>(
     host: &Host<S>,
     build: BuildId,

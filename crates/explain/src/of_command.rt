@@ -193,7 +193,8 @@ fn add_monitor<S: PageStore>(
     }
 }
 
-/// Adds the checks of a command. Those that the host makes come first, then those that the store or the RMM makes.
+/// Appends the checks of a command to a list of checks. Those that the host makes come first, then those that the store
+/// or the RMM makes.
 #[tactic(auto, unfolding(crate::specs::Commands::command_checks))]
 pub(crate) fn add_command<S: PageStore>(
     host: &Host<S>,

@@ -1,4 +1,5 @@
-//! Checks on pages, IPAs and numbers. The refusal of each check is RMI_ERROR_INPUT. RMM 1.0, RMI command conditions.
+//! Checks on operands of commands: pages, IPA granules, levels and counts. The refusal of each check is
+//! RMI_ERROR_INPUT. RMM 1.0, RMI command conditions.
 ghost use Rattle.std.specs.Prelude.{◌≡◌, ◌++◌, OnOk, map, unwrap_or, option_map};
 ghost use Rattle.explain.specs.OfInput.{input_check, page_check, state_of_page, page_delegated, page_undelegated, width_of, protected, table_level, table_start, run_count, one_table};
 ghost use Rattle.granule_addr.specs.Ipa.{is_protected_at};
@@ -11,7 +12,7 @@ use realm_host::{GranuleState, Host, Refusal, Rmi};
 use realm_model::GranuleState::{Delegated, Undelegated};
 use std::alloc::AllocError;
 
-/// A check whose refusal is RMI_ERROR_INPUT.
+/// Creates a check whose failure gives RMI_ERROR_INPUT.
 pub(crate) fn input_check(fact: Fact, fails: bool) -> Check
     ensures { result ≡ input_check fact fails }
 {
@@ -104,7 +105,7 @@ pub(crate) fn table_level(level: u8) -> Check
     )
 }
 
-/// The check that a table of the level may begin at the IPA granule.
+/// The check that a table's first IPA granule is aligned for its level.
 pub(crate) fn table_start(ipa: u32, level: u8) -> Check
     ensures { result ≡ table_start ipa level }
 {
@@ -125,7 +126,8 @@ pub(crate) fn run_count(count: u16) -> Check
     )
 }
 
-/// The check that one table of level 3 serves a range. The range is the `count` IPA granules from `ipa` on.
+/// The check that one table of level 3 covers a range of IPA granules. The range is the `count` IPA granules from `ipa`
+/// on.
 pub(crate) fn one_table(ipa: u32, count: u16) -> Check
     ensures { result ≡ one_table ipa count }
 {

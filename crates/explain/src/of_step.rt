@@ -1,4 +1,4 @@
-//! The checks made in a turn of a step.
+//! The checks that a plan's step must pass in its next turn.
 ghost use Rattle.std.specs.Prelude.{◌≡◌, ◌∷◌, ◌++◌, [], OnOk, IfOk, Some};
 ghost use Rattle.explain.specs.Steps.{undo_checks, running_of, begin_checks, mark_checks, back_checks, step_checks};
 
@@ -26,7 +26,7 @@ fn undo<S: PageStore>(host: &Host<S>, build: BuildId) -> [Check; 3]
             refusal: Refusal::NothingToUndo,
         },
         Check {
-            fact: Fact::Undo(UndoFact::NewestRests),
+            fact: Fact::Undo(UndoFact::NewestIsNotRunning),
             fails: host.is_newest_running(build),
             refusal: Refusal::RecRunning,
         },
@@ -53,7 +53,7 @@ fn begin<S: PageStore>(host: &Host<S>, build: BuildId) -> [Check; 3]
         build_there(host, build),
         not_aborting(host, build),
         Check {
-            fact: Fact::Undo(UndoFact::AllRest(running)),
+            fact: Fact::Undo(UndoFact::AllAreReady(running)),
             fails: 0 < running,
             refusal: Refusal::RecRunning,
         },
@@ -61,7 +61,7 @@ fn begin<S: PageStore>(host: &Host<S>, build: BuildId) -> [Check; 3]
 }
 
 // The check of a `back` step that the build has a valid mark, for refusal 7 (`NothingToUndo`).
-fn has_mark(fails: bool) -> Check
+fn mark_check(fails: bool) -> Check
     ensures { result ∷ [] ≡ mark_checks fails }
 {
     Check {
@@ -79,9 +79,9 @@ fn back<S: PageStore>(host: &Host<S>, build: BuildId, mark: Mark) -> [Check; 4]
     [
         build_there(host, build),
         not_aborting(host, build),
-        has_mark(matches!(answer, Err(Refusal::NothingToUndo))),
+        mark_check(matches!(answer, Err(Refusal::NothingToUndo))),
         Check {
-            fact: Fact::Undo(UndoFact::AboveRests),
+            fact: Fact::Undo(UndoFact::NoneRunsAboveMark),
             fails: matches!(answer, Err(Refusal::RecRunning)),
             refusal: Refusal::RecRunning,
         },
@@ -99,7 +99,7 @@ fn add_back<S: PageStore>(
 {
     match mark {
         Some(mark) => checks.extend_from_slice(&back(host, build, mark)),
-        None => add(checks, has_mark(true)),
+        None => add(checks, mark_check(true)),
     }
 }
 
@@ -123,8 +123,8 @@ fn add_step<S: PageStore>(
     }
 }
 
-/// Returns the checks of a step's next turn, in their order. The cursor `place` has the number of undos that are left
-/// of the step, and the build's mark.
+/// Returns the checks that a plan's step must pass in its next turn. They are in order. The cursor `place` has the
+/// number of undos that are left of the step, and the build's mark.
 pub fn step_checks<S: PageStore>(
     alloc: Global,
     host: &Host<S>,

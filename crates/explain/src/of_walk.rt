@@ -1,4 +1,4 @@
-//! Checks on the level and the entry at which a walk ends. RMM 1.0, RTT walk, RMI_ERROR_RTT.
+//! Checks on the end of a table walk: its level and its entry. RMM 1.0, RTT walk, RMI_ERROR_RTT.
 ghost use Rattle.std.specs.Prelude.{◌≡◌, ◌+◌, ◌-◌, ◌≤◌};
 ghost use Rattle.realm_host.specs.declared.reading.RowView.{RowView as Row};
 ghost use Rattle.explain.specs.OfWalk.{rtt_check, level_of, state_of, granule_of_row, walk_ends, entry_unassigned};
@@ -130,8 +130,8 @@ fn are_free<S: PageStore>(host: &Host<S>, build: BuildId, ipa: u32, count: u16) 
     true
 }
 
-/// The check that `count` entries from `ipa` on are UNASSIGNED. For each of these IPA granules, the walk to level 3
-/// ends at an UNASSIGNED entry.
+/// The check that `count` entries of level 3 from `ipa` on are UNASSIGNED. For each of these IPA granules, the walk to
+/// level 3 ends at an UNASSIGNED entry.
 pub(crate) fn entries_free<S: PageStore>(
     host: &Host<S>,
     build: BuildId,

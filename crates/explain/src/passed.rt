@@ -1,4 +1,4 @@
-//! The words for checks that passed: the facts that hold.
+//! The phrases for the passed checks of a step.
 use crate::check::Fact;
 use crate::host_facts::{BuildFact, RoomFact, UndoFact};
 use crate::names::{entry_state, rec_state};
@@ -9,7 +9,7 @@ use crate::roles::{role_by_state, role_of};
 use host_commands::Step;
 use realm_plan::{realm_word, state_word};
 
-/// Returns the words for a passed check of a step.
+/// Returns the phrase that describes a passed check of a step.
 pub(crate) fn passed(step: &Step, fact: Fact) -> Phrase {
     match fact {
         Fact::Build(fact) => of_build(step, fact),
@@ -66,10 +66,12 @@ fn of_room(fact: RoomFact) -> Phrase {
 fn of_undo(fact: UndoFact) -> Phrase {
     match fact {
         UndoFact::Open(open) => one("{} open", Many(open, "operation is", "operations are")),
-        UndoFact::NewestRests => plain("the newest operation's REC is READY, or it created none"),
-        UndoFact::AllRest(_) => plain("each REC of the build is READY"),
+        UndoFact::NewestIsNotRunning => plain(
+            "the newest operation's REC is READY, or it created none",
+        ),
+        UndoFact::AllAreReady(_) => plain("each REC of the build is READY"),
         UndoFact::Mark => plain("the build has a mark"),
-        UndoFact::AboveRests => plain("each REC created since the mark is READY"),
+        UndoFact::NoneRunsAboveMark => plain("each REC created since the mark is READY"),
     }
 }
 

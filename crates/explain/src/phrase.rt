@@ -1,4 +1,4 @@
-//! Phrases: words with a `{}` in place of each value.
+//! Phrases: message texts with a `{}` in place of each value.
 //!
 //! A function that chooses words returns a phrase, and `Phrase::push` writes it. So the choice is an expression over
 //! the numbers of a check, and cannot fail.
@@ -7,12 +7,12 @@ use page_arena::PageStore;
 use realm_host::Host;
 use std::alloc::AllocError;
 
-/// A value in a phrase.
+/// A value that replaces a `{}` in a phrase.
 #[derive(Clone, Copy)]
 pub(crate) enum Value {
     Number(u64),
     Word(&'static str),
-    /// A count with its noun. The fields are the number, the singular noun and the plural noun.
+    /// A count with its noun, such as `3 pages`. The fields are the number, the singular noun and the plural noun.
     Many(usize, &'static str, &'static str),
     /// A page of a build, such as `data page 5`. The fields are the role, which ends with a space, and the number.
     Page(&'static str, u16),
@@ -20,7 +20,7 @@ pub(crate) enum Value {
     Granule(&'static str, u16),
 }
 
-/// Words, with a value for each `{}` among them.
+/// A message text, with a value for each `{}` in it.
 #[derive(Clone, Copy)]
 pub(crate) struct Phrase {
     words: &'static str,
@@ -88,7 +88,7 @@ fn push_named(text: &mut String, role: &str, noun: &str, number: u16) -> Result<
 }
 
 impl Value {
-    /// Replaces a page of the build by its granule. Any other value is returned unchanged.
+    /// Converts the value to a granule if it is a page of the build. Any other value is returned unchanged.
     pub(crate) fn in_granules<S: PageStore>(self, host: &Host<S>, build: BuildId) -> Value {
         let Value::Page(role, page) = self else {
             return self;
@@ -127,7 +127,7 @@ fn fill(text: &mut String, words: &str, values: &[Value]) -> Result<(), AllocErr
 }
 
 impl Phrase {
-    /// Replaces each page of the build by its granule.
+    /// Replaces each page of the build in the phrase by its granule.
     pub(crate) fn in_granules<S: PageStore>(self, host: &Host<S>, build: BuildId) -> Phrase {
         four(
             self.words,
@@ -138,7 +138,7 @@ impl Phrase {
         )
     }
 
-    /// Appends the phrase.
+    /// Appends the phrase, with its values filled in, to a text.
     pub(crate) fn push(self, text: &mut String) -> Result<(), AllocError> {
         let values = [self.first, self.second, self.third, self.fourth];
         fill(text, self.words, &values)

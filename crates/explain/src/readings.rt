@@ -1,4 +1,4 @@
-//! Readings of a host or a step, for messages. These messages need more than the values of a check.
+//! Functions that read values for messages from a host or a step. These messages need more than the values of a check.
 use crate::of_block::has_block;
 use crate::operands::pages_named;
 use arrayvec::ArrayVec;
@@ -137,7 +137,7 @@ pub(crate) fn order_for(count: u16) -> Option<Order> {
     None
 }
 
-/// Counts the undos that it takes to undo a page's delegation. Returns `None` if the delegation is not open.
+/// Counts the undos needed to reverse the delegation of a page. Returns `None` if the delegation is not open.
 pub(crate) fn undos_of_delegation<S: PageStore>(
     host: &Host<S>,
     build: BuildId,
@@ -155,8 +155,7 @@ pub(crate) fn undos_of_delegation<S: PageStore>(
     None
 }
 
-/// Counts the undos that it takes to undo a realm's creation. Returns `None` if the creation of the build's realm is
-/// not open.
+/// Counts the undos needed to reverse the creation of a build's realm. Returns `None` if that creation is not open.
 pub(crate) fn undos_of_realm<S: PageStore>(host: &Host<S>, build: BuildId) -> Option<usize> {
     let open = host.open_acts(build);
     for (place, act) in open.iter().enumerate() {
@@ -167,8 +166,7 @@ pub(crate) fn undos_of_realm<S: PageStore>(host: &Host<S>, build: BuildId) -> Op
     None
 }
 
-/// Returns the number of the REC that a build's newest operation created. Returns `None` if the newest open operation
-/// created no REC.
+/// Returns the REC number, if the build's newest open operation created a REC.
 pub(crate) fn newest_rec<S: PageStore>(host: &Host<S>, build: BuildId) -> Option<u16> {
     match host.open_acts(build).last() {
         Some(Act::Rec { number, .. }) => Some(number.number()),
@@ -176,7 +174,7 @@ pub(crate) fn newest_rec<S: PageStore>(host: &Host<S>, build: BuildId) -> Option
     }
 }
 
-/// Returns the number of the next REC in a build's realm. It is 0 if the build has no realm.
+/// Returns the number that the next REC of a build's realm gets. It is 0 if the build has no realm.
 pub(crate) fn next_rec<S: PageStore>(host: &Host<S>, build: BuildId) -> u16 {
     match host.realm(build) {
         Some(realm) => realm.next_number().number(),
@@ -184,7 +182,7 @@ pub(crate) fn next_rec<S: PageStore>(host: &Host<S>, build: BuildId) -> u16 {
     }
 }
 
-/// Whether the realm of a build has REC `number`. If `only_running` is set, the REC has to be RUNNING.
+/// Returns whether the realm of a build has REC `number`. If `only_running` is set, the REC has to be RUNNING.
 pub(crate) fn has_rec<S: PageStore>(
     host: &Host<S>,
     build: BuildId,
@@ -214,7 +212,7 @@ pub(crate) fn count_of_recs<S: PageStore>(
     (count, last)
 }
 
-/// Whether an IPA granule has an entry of level 3 that is UNASSIGNED.
+/// Returns whether the entry of an IPA granule is UNASSIGNED at level 3.
 pub(crate) fn is_unassigned<S: PageStore>(host: &Host<S>, build: BuildId, ipa: u32) -> bool {
     match host.row(build, ipa, Level::last()) {
         Some(row) => row.level.number() == 3 && matches!(row.entry.state, EntryState::Unassigned),
@@ -222,8 +220,8 @@ pub(crate) fn is_unassigned<S: PageStore>(host: &Host<S>, build: BuildId, ipa: u
     }
 }
 
-/// Finds the first IPA granule for which `is_unassigned` returns `unassigned`. The search begins at `from`. Only the
-/// table of level 3 that serves `from` is searched.
+/// Finds the first IPA granule with, or without, an UNASSIGNED entry of level 3. The granule has one if `unassigned` is
+/// `true`, and lacks one if not. The search begins at `from`. Only the table of level 3 that serves `from` is searched.
 pub(crate) fn first_entry<S: PageStore>(
     host: &Host<S>,
     build: BuildId,
@@ -239,12 +237,12 @@ pub(crate) fn first_entry<S: PageStore>(
     None
 }
 
-/// Returns how many IPA granules a table serves. The table is of level 2 or 3.
+/// Returns the number of IPA granules that a table covers. The table is of level 2 or 3.
 pub(crate) fn served(level: u8) -> u32 {
     if level == 2 { 262_144 } else { 512 }
 }
 
-/// Returns the first IPA granule of the table that serves `ipa`. The table is of level 2 or 3.
+/// Returns the first IPA granule of the table that covers `ipa`. The table is of level 2 or 3.
 pub(crate) fn first_served(ipa: u32, level: u8) -> u32 {
     let served = if level == 2 { 262_144 } else { 512 };
     ipa - ipa % served

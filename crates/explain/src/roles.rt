@@ -1,9 +1,10 @@
-//! The role of a page in a step. A role is RD, starting table, table, data, source, REC or auxiliary.
+//! The roles of pages in a step, such as RD or source. A role is RD, starting table, table, data, source, REC or
+//! auxiliary.
 use host_commands::{Cmd, Step};
 use realm_host::GranuleState;
 
-/// Returns the role of a page in a step. It is the words before the noun `page`, or empty if the step gives the page no
-/// role. A page that is named twice has its first role.
+/// Returns the words for the role of a page in a step, such as RD. They come before the noun `page`, and are empty if
+/// the step gives the page no role. A page that is named twice has its first role.
 pub(crate) fn role_of(step: &Step, page: u16) -> &'static str {
     let Step::Ask(cmd) = step else {
         return "";
@@ -21,8 +22,8 @@ pub(crate) fn role_of(step: &Step, page: u16) -> &'static str {
     }
 }
 
-/// Returns the role of a page in a step, by its required state. The step requires the state `wanted` of the page. The
-/// page of a `data` step that has to be UNDELEGATED is the source.
+/// Returns the role of a page from the state that the step requires of it. That state is `wanted`. The page of a `data`
+/// step that has to be UNDELEGATED is the source.
 pub(crate) fn role_by_state(step: &Step, page: u16, wanted: GranuleState) -> &'static str {
     match (wanted, step) {
         (GranuleState::Undelegated, Step::Ask(Cmd::Data { .. })) => "source ",

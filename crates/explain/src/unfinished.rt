@@ -1,4 +1,4 @@
-//! Aborts that are under way when a run ends.
+//! Aborts of builds that are unfinished when a plan's run ends.
 ghost use Rattle.std.specs.Prelude.{◌≡◌, ◌++◌, [], IfOk, OnOk};
 ghost use Rattle.std.specs.List.{cons_option, filter_map, range_with_len};
 ghost use Rattle.explain.specs.Unfinished.{unfinished_abort};
@@ -11,7 +11,7 @@ use page_arena::PageStore;
 use realm_host::Host;
 use std::alloc::{AllocError, Global};
 
-/// An unfinished abort. It has the abort's build, and the number of turns still needed, one for each open operation.
+/// The unfinished abort of a build, with the number of turns still needed. Each open operation needs one turn.
 #[derive(Clone, Copy)]
 pub struct UnfinishedAbort {
     pub build: BuildId,
@@ -44,7 +44,7 @@ fn add_if(
     }
 }
 
-/// Returns the aborts that are under way, in the order of their builds.
+/// Returns the unfinished aborts of a host, in the order of their builds.
 pub fn unfinished_aborts<S: PageStore>(
     alloc: Global,
     host: &Host<S>,

@@ -1,4 +1,4 @@
-//! The words for refusals. They are tested, not proved; `error` and `help` have the sentences.
+//! The messages that explain a refused step. They are tested, not proved; `error` and `help` have the sentences.
 use crate::check::Check;
 use crate::error::{error_of, push_error};
 use crate::explained::Explanation;
@@ -12,7 +12,7 @@ use page_arena::PageStore;
 use realm_host::Host;
 use std::alloc::{AllocError, Global};
 
-/// Returns the error and the help for a refused step. The failed check is the last of `checks`.
+/// Returns the error message and the help message for a refused step. The failed check is the last of `checks`.
 pub(crate) fn words_of<S: PageStore>(
     alloc: Global,
     host: &Host<S>,
@@ -45,8 +45,8 @@ fn push_passed(text: &mut String, step: &Step, check: &Check) -> Result<(), Allo
     text.push_str("\n")
 }
 
-/// Returns the lines below a refused turn. They say the error, the help, and the number of passed checks. If `all` is
-/// set, each passed check has a line too.
+/// Returns the lines that explain a refused turn of a plan's run. They say the error, the help, and the number of
+/// passed checks. If `all` is set, each passed check has a line too.
 pub fn reason_lines(alloc: Global, reason: &Explanation, all: bool) -> Result<String, AllocError> {
     let mut text = String::new(alloc);
     push_line(&mut text, "error", &reason.error)?;

@@ -53,8 +53,8 @@ pub fn align_down(number: u16, order: Order) -> u16
     number / size * size
 }
 
-/// Returns the number of the granule at which a block's buddy begins. The number differs from `first` in bit `order`
-/// alone. A machine may lack that granule.
+/// Returns the number of the first granule of a block's buddy. The number differs from `first` in bit `order` alone. A
+/// machine may lack that granule.
 pub fn buddy_of(first: Gran, order: Order) -> u16
     ensures { result ≡ bit_xor first (2 ^ order) }
 {

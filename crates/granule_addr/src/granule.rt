@@ -1,4 +1,4 @@
-//! Numbers of the machine's granules.
+//! The numbers by which a machine's granules are named.
 ghost use Rattle.std.specs.Prelude.{◌≡◌, ◌<◌, ◌&&◌, nat_lt, Some, None, if◌then◌else◌};
 
 use std::marker::Model;
@@ -6,7 +6,7 @@ use std::marker::Model;
 /// The largest number of granules that a machine can have.
 pub const MOST_PAGES: u16 = 4096;
 
-/// The number of a granule. The granule's address is the number times 4,096. RMM 1.0, Granule.
+/// The number of a granule: its address divided by 4,096. RMM 1.0, Granule.
 #[derive(Clone, Copy, Default, PartialEq, Eq)]
 pub struct Gran(u16);
 
@@ -35,7 +35,7 @@ impl Gran {
         }
     }
 
-    /// Creates a granule number for the largest machine.
+    /// Converts a number below 4,096 to a granule number.
     pub fn from_number(number: u16) -> Gran
         requires { number < 4096 }
         ensures { result ≡ number }

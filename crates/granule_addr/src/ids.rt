@@ -1,4 +1,4 @@
-//! Numbers of builds, realms and RECs.
+//! The numbers that name builds, realms and RECs.
 ghost use Rattle.std.specs.Prelude.{◌≡◌, ◌<◌, ◌≤◌, nat_lt, nat_le, Some, None, if◌then◌else◌};
 
 use std::marker::Model;

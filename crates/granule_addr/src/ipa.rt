@@ -5,7 +5,7 @@ ghost use Rattle.granule_addr.specs.Ipa.{is_width, is_in_space, is_protected_at,
 use crate::{IpaWidth, Level};
 use std::marker::Model;
 
-/// The number of an IPA granule. The granule's IPA is the number times 4,096. RMM 1.0, Realm address space.
+/// The number of an IPA granule: its IPA divided by 4,096. RMM 1.0, Realm address space.
 #[derive(Clone, Copy, PartialEq, Eq)]
 pub struct IpaGran(u32);
 
@@ -44,16 +44,14 @@ impl IpaGran {
     }
 }
 
-/// Whether the IPA is protected. The protected IPAs are the lower half of the realm's address space. RMM 1.0, Protected
-/// IPA.
+/// Whether an IPA granule is in the protected, lower half of the realm's address space. RMM 1.0, Protected IPA.
 pub fn is_protected(ipa: IpaGran, width: IpaWidth) -> bool
     ensures { result ≡ is_protected_at ipa width }
 {
     ipa.number() < 1 << (width.number() - 13)
 }
 
-/// Returns the index of the entry that covers the IPA granule. The entry is in a table of the level, and the index is 0
-/// to 511.
+/// Returns the index of the RTT entry that covers an IPA granule at a level. The index is 0 to 511.
 pub fn index_at(ipa: IpaGran, level: Level) -> u16
     ensures value { result ≡ entry_index level ipa }
     ensures below { result < 512 }

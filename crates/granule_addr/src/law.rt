@@ -1,8 +1,8 @@
-//! A theorem on the starting tables for all IPA widths.
+//! The theorem that starting tables cover a realm's address space, for all IPA widths.
 ghost use Rattle.std.specs.Prelude.{ℕ};
 ghost use Rattle.granule_addr.specs.Root.{ServesSpace};
 
-/// A realm's starting tables serve exactly its address space. They serve all IPA granules of that space, and no others.
+/// A realm's starting tables cover exactly the IPA granules of its address space.
 pub fn starting_tables_serve_the_space()
     ensures { (width : ℕ) → ServesSpace width }
 {}

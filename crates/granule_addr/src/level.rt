@@ -30,7 +30,7 @@ impl Level {
         }
     }
 
-    /// Returns the level at which a walk starts.
+    /// Returns the level at which an RTT walk starts.
     pub fn start() -> Level
         ensures { result ≡ 1 }
     {
@@ -44,7 +44,7 @@ impl Level {
         Level(3)
     }
 
-    /// Returns the level below. Entries of this level lead to tables of that level.
+    /// Returns the next level in an RTT walk, which is one greater. Entries of this level lead to tables of that level.
     pub fn below(self) -> Level
         requires { self < 3 }
         ensures { result ≡ self + 1 }
@@ -52,7 +52,8 @@ impl Level {
         Level(self.0 + 1)
     }
 
-    /// Returns the level above. Entries of that level lead to tables of this level.
+    /// Returns the previous level in an RTT walk, which is one less. Entries of that level lead to tables of this
+    /// level.
     pub fn above(self) -> Level
         requires { 1 < self }
         ensures { result + 1 ≡ self }

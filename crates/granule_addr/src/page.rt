@@ -1,4 +1,4 @@
-//! Offsets in a page.
+//! Byte offsets in a page.
 ghost use Rattle.std.specs.Prelude.{◌≡◌, ◌<◌, nat_lt, Some, None, if◌then◌else◌};
 
 use std::marker::Model;

@@ -5,7 +5,7 @@ ghost use Rattle.granule_addr.specs.Vmids.{is_used, IsMarked};
 use crate::Vmid;
 use std::marker::Model;
 
-/// A set of VMIDs: a flag for each number.
+/// A set of VMIDs, kept as a flag for each number from 0 to 255.
 #[derive(Drop)]
 pub struct VmidSet {
     flags: [bool; 256],

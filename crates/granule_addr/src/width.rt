@@ -1,4 +1,4 @@
-//! Widths of realms' address spaces, and starting tables.
+//! IPA widths of realms, and the starting tables that they need.
 ghost use Rattle.std.specs.Prelude.{◌≡◌, ◌-◌, ◌^◌, ◌<◌, ◌≤◌, Some, None, if◌then◌else◌};
 ghost use Rattle.granule_addr.specs.Ipa.{is_width};
 ghost use Rattle.granule_addr.specs.Root.{start_count};
@@ -33,14 +33,14 @@ impl IpaWidth {
         }
     }
 
-    /// Returns the least width, which needs one starting table.
+    /// Returns the least IPA width, which needs one starting table.
     pub fn least() -> IpaWidth
         ensures { result ≡ 39 }
     {
         IpaWidth(39)
     }
 
-    /// Returns the width in bits.
+    /// Returns the IPA width as a number of bits.
     pub fn number(self) -> u8
         ensures value { result ≡ self }
         ensures at_least { 39 ≤ result }
@@ -49,7 +49,7 @@ impl IpaWidth {
         self.0
     }
 
-    /// Returns how many starting tables this width needs. The number is 1, 2, 4, 8 or 16.
+    /// Returns the number of starting tables that this IPA width needs. The number is 1, 2, 4, 8 or 16.
     pub fn start_count(self) -> u16
         ensures value { result ≡ start_count self }
         ensures some { 0 < result }

@@ -60,7 +60,7 @@ use Rattle.host_ledger.specs.Summary.{summary_of}
 use Rattle.host_ledger.specs.View.{HostView, world_of, granule_of_page}
 use Rattle.host_ledger.proofs.Worlds.{world_is}
 use Rattle.host_ledger.specs.Vmids.{is_vmid_free, lowest_vmid}
-use Rattle.history_calls.specs.Refused.{unless, is_delegated_in, can_start, end_in, room_refusal, is_free_row, are_free_rows, run_refusal, write_refusal, rec_of_number, enter_refusal, poke_refusal, rec_refusal, realm_refusal}
+use Rattle.history_calls.specs.Refused.{unless, is_delegated_in, can_start, end_in, new_table_refusal, is_free_row, are_free_rows, run_refusal, write_refusal, rec_of_number, enter_refusal, poke_refusal, rec_refusal, realm_refusal}
 use Rattle.history_calls.specs.Refused.{refusal_in_realm, refusal_if_realm, refusal_without_act, refusal_of_act, else, is_undelegated_page, model_refusal}
 use Rattle.history_calls.specs.Prepared.{allocated_before, act_before, access_refusal, entry_refusal, exit_refusal}
 
@@ -90,7 +90,7 @@ inside row ipa level is = ap (λ (t : Bool). option_map (row_view ipa) (cond t (
 
 module _ (rows : Rows) (ipa : ℕ) where
   room : (above : ℕ) (f : Row → List Update)
-      → room_refusal above (option_map (row_view ipa) (walk rows ipa above)) ≡ refusal_in (with_row rows ipa above (λ row. check (not (is_table row)) (error_rtt above) (Ok (f row))))
+      → new_table_refusal above (option_map (row_view ipa) (walk rows ipa above)) ≡ refusal_in (with_row rows ipa above (λ row. check (not (is_table row)) (error_rtt above) (Ok (f row))))
   unfolding check with_end
   room above f = at (walk rows ipa above)
     where
@@ -106,7 +106,7 @@ module _ (rows : Rows) (ipa : ℕ) where
       by end true is true = refl
       by end true is false = ap (λ n. Some (error_rtt n)) (eqb-true end.level above is)
 
-      at : (o : Option Walk) → room_refusal above (option_map (row_view ipa) o) ≡ refusal_in (outcome o)
+      at : (o : Option Walk) → new_table_refusal above (option_map (row_view ipa) o) ≡ refusal_in (outcome o)
       at None = refl
       at (Some end) = by end (end.level == above) refl (not (is_table end.row))
 
@@ -290,7 +290,7 @@ module _ (host : HostView) (build : ℕ) where
         → refusal_if_realm host granules ready (acts.Rtt granule ipa level) (row_in realm) ≡ refusal_in (on_realm realm (λ rd. rtt_create rd (seen machine granule) ipa level))
     rtt_refused granule ipa level realm = in_realm (acts.Rtt granule ipa level) realm _ (λ rd row there.
         guarded (is_delegated (seen machine granule) && is_table_place ipa level && is_protected row ipa) error_input _ _ (λ is.
-        ap (room_refusal (level - 1)) (inside row ipa (level - 1) (in_space ipa row.root.width (last (is_delegated (seen machine granule)) (is_table_place ipa level) (is_protected row ipa) is))) ∙ room row.rows ipa (level - 1) _))
+        ap (new_table_refusal (level - 1)) (inside row ipa (level - 1) (in_space ipa row.root.width (last (is_delegated (seen machine granule)) (is_table_place ipa level) (is_protected row ipa) is))) ∙ room row.rows ipa (level - 1) _))
 
     unknown_refused : (granule ipa : ℕ) (realm : Option Seen)
         → refusal_if_realm host granules ready (acts.Unknown granule ipa) (row_in realm) ≡ refusal_in (on_realm realm (λ rd. data_create_unknown rd (seen machine granule) ipa))

@@ -43,10 +43,10 @@ is_undelegated_page None = false
 
 -- The page of the host that a command names is UNDELEGATED: that of RMI_GRANULE_DELEGATE, and the source of
 -- RMI_DATA_CREATE.
-abbrev pub is_host_page : HostView → ℕ → Cmd → Bool
-is_host_page host build (Delegate page) = is_undelegated_page (state_of_leased host build page)
-is_host_page host build (Data page ipa source) = is_undelegated_page (state_of_leased host build source)
-is_host_page host build _ = true
+abbrev pub is_host_page_undelegated : HostView → ℕ → Cmd → Bool
+is_host_page_undelegated host build (Delegate page) = is_undelegated_page (state_of_leased host build page)
+is_host_page_undelegated host build (Data page ipa source) = is_undelegated_page (state_of_leased host build source)
+is_host_page_undelegated host build _ = true
 
 -- a granule can be a starting table beside that RD
 abbrev pub can_start : World → ℕ → ℕ → Bool
@@ -77,9 +77,9 @@ abbrev pub end_in : Option RealmRow → ℕ → ℕ → Option RowView
 end_in row ipa level = option_map (row_view ipa) (option_and_then (λ (realm : RealmRow). walk_of realm ipa level) row)
 
 -- the walk ends at the level above a table, and not at a TABLE
-abbrev pub room_refusal : ℕ → Option RowView → Option Rmi
-room_refusal above (Some row) = unless (row.level == above && not (is_table row.entry)) (error_rtt row.level) None
-room_refusal above None = Some (error_rtt 0)
+abbrev pub new_table_refusal : ℕ → Option RowView → Option Rmi
+new_table_refusal above (Some row) = unless (row.level == above && not (is_table row.entry)) (error_rtt row.level) None
+new_table_refusal above None = Some (error_rtt 0)
 
 -- the walk ends at level 3, at an entry that is UNASSIGNED
 abbrev pub is_free_row : Option RowView → Bool
@@ -121,7 +121,7 @@ poke_refusal protected row None = Some error_input
 abbrev pub refusal_in_memory : World → Option RealmRow → Bool → RealmAttributes → Act → Option Rmi
 refusal_in_memory world row ready realm (acts.Rtt granule ipa level) =
     unless (is_delegated_in world granule && is_table_place ipa level && is_protected_at ipa realm.root.width) error_input
-    (room_refusal (level - 1) (end_in row ipa (level - 1)))
+    (new_table_refusal (level - 1) (end_in row ipa (level - 1)))
 refusal_in_memory world row ready realm (acts.Ripas ipa count) =
     unless (is_page_run ipa count && is_protected_at ipa realm.root.width) error_input
     (unless (is_new realm.state) error_realm (run_refusal (are_free_rows row ipa count) (end_in row ipa 3)))
@@ -173,4 +173,4 @@ else None rest = rest
 -- The refusal of the model, after the host's own checks.
 abbrev pub model_refusal : HostView → ℕ → List ℕ → Cmd → Option Act → Option Refusal
 model_refusal host build granules cmd act =
-    else (refused_before host build cmd) (option_map refusal.Rmi (refusal_of_act host (row_of (world_of host) build) granules (is_host_page host build cmd) cmd act))
+    else (refused_before host build cmd) (option_map refusal.Rmi (refusal_of_act host (row_of (world_of host) build) granules (is_host_page_undelegated host build cmd) cmd act))

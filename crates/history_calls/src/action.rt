@@ -1,12 +1,11 @@
-//! Operations of a host and of guests.
+//! Operations of a host and its guests on an RMM.
 use arrayvec::ArrayVec;
 use rmi_abi::Call;
 
-/// An operation on an RMM. The host performs it, or the guest of a REC. Addresses are physical, but for that of a
-/// guest.
+/// An operation of a host or a guest on an RMM. Addresses are physical, but for that of a guest.
 #[derive(Drop)]
 pub enum HostAction {
-    /// The host writes one value to each byte of granules.
+    /// The host writes `value` to each byte of consecutive granules.
     Fill {
         address: u64,
         granules: u16,
@@ -31,12 +30,12 @@ pub enum HostAction {
         mpidr: u64,
         auxiliaries: ArrayVec<u64, 16>,
     },
-    /// A call of the RMM that succeeds. `x1` is the output in X1, if that output is known beforehand.
+    /// The host calls the RMM, and the call succeeds. `x1` is the output in X1, if that output is known beforehand.
     Call {
         call: Call,
         x1: Option<u64>,
     },
-    /// RMI_REC_ENTER of a REC whose guest keeps running.
+    /// The host enters a REC by RMI_REC_ENTER, and the guest keeps running.
     Enter {
         rec: u64,
         run: u64,
@@ -55,7 +54,7 @@ pub enum HostAction {
     Spin {
         rec: u64,
     },
-    /// The guest reports its last write as done.
+    /// The guest has seen that its last write is done.
     Saw {
         rec: u64,
     },

@@ -1,4 +1,4 @@
-//! Operations on an RMM for an event. By these operations a host performs the event of its history.
+//! The operations on an RMM by which a host performs an event.
 ghost use Rattle.std.specs.Prelude.{◌≡◌, ◌<◌, ◌-◌, ◌^◌, ◌++◌, [], ◌∷◌, map, length};
 ghost use Rattle.std.specs.Option.{unwrap_or};
 ghost use Rattle.history_calls.specs.declared.action.HostAction.TheVariants.{Fill, RealmParams, RecParams};
@@ -11,10 +11,10 @@ use granule_addr::{Gran, IpaGran, RecNo, Root, Vmid};
 use realm_model::{Act, RealmAndRec};
 use rmi_abi::Call;
 
-/// The largest number of operations for one event.
+/// The maximum number of operations on an RMM by which a host performs one event.
 pub const MOST_ACTIONS: usize = 5;
 
-/// The operations by which a host performs one event.
+/// The operations on an RMM by which a host performs one event.
 pub type Actions = ArrayVec<HostAction, MOST_ACTIONS>;
 
 // The address of an IPA granule, in bytes.
@@ -255,8 +255,8 @@ fn push_on_rec(actions: &mut Actions, rec: u64, run: u64, act: &Act)
     }
 }
 
-/// Returns the actions by which a host carries out an operation. `subject` is the realm and the REC of the operation.
-/// The exits of a run go to the page with the number `run`, which is below `MOST_RUNS`.
+/// Returns the operations on an RMM by which a host carries out a build's operation. `subject` is the realm and the REC
+/// of the build's operation. The exits of a run go to the page with the number `run`, which is below `RUN_PAGE_COUNT`.
 ///
 /// A take and its reverse are the host's own: a take needs no operation, and what is given back is cleared.
 pub fn actions_of(frame: Frame, subject: RealmAndRec, run: u16, act: &Act) -> Actions

@@ -5,13 +5,16 @@ ghost use Rattle.history_calls.specs.Frame as frames;
 use granule_addr::Gran;
 use std::marker::Model;
 
-/// The number of pages for exits from RECs. At most as many running RECs have a page of their own.
-pub const MOST_RUNS: u16 = 64;
+/// The number of the host's run pages, which RMI_REC_ENTER uses for running RECs. At most as many running RECs have a
+/// page of their own.
+pub const RUN_PAGE_COUNT: u16 = 64;
 
-/// The number of the host's granules. They follow the granules of the history's machine.
+/// The number of granules that the host keeps for parameters and runs. They follow the granules of the history's
+/// machine.
 pub const HOST_GRANULES: u16 = 66;
 
-/// The position of a history's machine. It is the address of granule 0, together with the machine's number of granules.
+/// The base address and the size of a history's machine. They are the address of granule 0, and the machine's number of
+/// granules.
 #[derive(Clone, Copy)]
 pub struct Frame {
     base: u64,
@@ -31,7 +34,7 @@ impl Model for Frame {
 }
 
 impl Frame {
-    /// Creates the frame of a machine with `pages` pages. Granule 0 is at the address `base`.
+    /// Places a machine with `pages` pages at a physical base address. Granule 0 is at the address `base`.
     pub fn new(base: u64, pages: u16) -> Frame
         requires granule { base % 4096 ≡ 0 }
         requires low { base < 2 ^ 46 }
@@ -41,14 +44,14 @@ impl Frame {
         Frame { base, pages }
     }
 
-    /// Returns the address of granule 0, in bytes.
+    /// Returns the physical address of the machine's granule 0, in bytes.
     pub fn base(self) -> u64
         ensures { result ≡ self.base }
     {
         self.base
     }
 
-    /// Returns the number of granules, including those of the host.
+    /// Returns the number of granules of the machine and the host together.
     pub fn granules(self) -> u16
         ensures { result ≡ self.pages + 66 }
     {

@@ -1,4 +1,4 @@
-//! Theorems on calls for histories, and on prepared commands and undos.
+//! Theorems on the operations on an RMM for histories, commands and undos.
 ghost use Rattle.std.specs.Prelude.{ℕ, List};
 ghost use Rattle.realm_model.specs.declared.act.Event.{Event};
 ghost use Rattle.realm_model.specs.Machine.{Limits};
@@ -8,32 +8,31 @@ ghost use Rattle.history_calls.specs.Frame.{Place};
 ghost use Rattle.history_calls.specs.Made.{LeadsToItsMachine};
 ghost use Rattle.history_calls.specs.Prepared.{IsPreparedAsAsked, IsRefusedAsAsked, IsDecidedBefore, IsUndoPrepared};
 
-/// A legal history's calls lead a fresh RMM to the model's machine. It is the machine that the model has after the
-/// history. The RMM gets the calls in sequence, and accepts each. A host's RMM has that machine.
+/// Proves that the calls for a legal history lead a fresh RMM to the model's machine. It is the machine that the model
+/// has after the history. The RMM gets the calls in sequence, and accepts each. A host's RMM has that machine.
 pub fn calls_lead_to_the_machine()
     ensures { (limits : Limits) (history : List Event) → LeadsToItsMachine limits history }
 {}
 
-/// The host performs the operation that is prepared for a command. It does so when the command is committed. This holds
-/// of each command but the read of a page, whose byte is not known before.
+/// Proves that the host performs the operation that was prepared for a command. It does so when the command is
+/// committed. This holds of each command but the read of a page, whose byte is not known before.
 pub fn prepared_is_performed()
     ensures { (host : HostView) (build : ℕ) (cmd : Cmd) → IsPreparedAsAsked host build cmd }
 {}
 
-/// A prepared command is refused as the host refuses it. The refusal is the one that the host gives when it is asked
-/// for the command.
+/// Proves that the host refuses each command that `actions_asked` refuses. The refusal is the same.
 pub fn refused_as_asked()
     ensures { (place : Place) (host : HostView) (build run : ℕ) (cmd : Cmd) → IsRefusedAsAsked place host build run cmd }
 {}
 
-/// A prepared Take, Fill, Peek or Exit is not refused when it is committed. It makes no call of an RMM, from which the
-/// model could diverge.
+/// Proves that a prepared Take, Fill, Peek or Exit is not refused when committed. It makes no call of an RMM, from
+/// which the model could diverge.
 pub fn decided_before()
     ensures { (place : Place) (host : HostView) (build run : ℕ) (cmd : Cmd) → IsDecidedBefore place host build run cmd }
 {}
 
-/// An undo is prepared as the host performs it. The refusal is the same, or the operation is. The host does not refuse
-/// an undo that is prepared without a refusal.
+/// Proves that a prepared undo agrees with the undo that the host performs. The refusal is the same, or the operation
+/// is. The host does not refuse an undo that is prepared without a refusal.
 pub fn undo_as_prepared()
     ensures { (place : Place) (host : HostView) (build : ℕ) → IsUndoPrepared place host build }
 {}

@@ -1,9 +1,9 @@
-//! Operations on an RMM for events, and for prepared commands and undos. By these operations a host performs the event
-//! of a history, the command or the undo. A call passes its arguments in registers.
+//! The operations on an RMM by which a host performs events, commands and undos. The events are those of a history, and
+//! the commands and undos are prepared first. A call passes its arguments in registers.
 //!
 //! An event names granules by their numbers in the machine of the history. A frame places that machine at an address.
-//! After it are granules of the host: one for the parameters of realms, one for those of RECs, and one for each REC that
-//! runs at a time.
+//! After it are granules of the host: one for the parameters of realms, one for those of RECs, and one for each REC
+//! that runs at a time.
 //!
 //! The operations for an event are a function of the frame, of the event, of its realm and REC, and of the page for the
 //! exits of its run (`specs/Actions.antt`). No function but those of texts takes memory.
@@ -21,8 +21,8 @@ mod text;
 
 pub use action::HostAction;
 pub use actions::{Actions, actions_of};
-pub use frame::{Frame, HOST_GRANULES, MOST_RUNS};
+pub use frame::{Frame, HOST_GRANULES, RUN_PAGE_COUNT};
 pub use prepared::{actions_asked, actions_back};
-pub use refusal::refusal_asked;
+pub use refusal::refusal_of_command;
 pub use runs::RunPages;
 pub use text::{push_action, push_platform};

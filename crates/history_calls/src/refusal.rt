@@ -47,8 +47,8 @@ fn is_delegated<S: PageStore>(host: &Host<S>, granule: Gran) -> bool
 }
 
 // Whether the host's page that a command names is UNDELEGATED; `true` if the command names none.
-fn is_host_page<S: PageStore>(host: &Host<S>, build: BuildId, cmd: &Cmd) -> bool
-    ensures { result ≡ refused.is_host_page host.now build cmd.now }
+fn is_host_page_undelegated<S: PageStore>(host: &Host<S>, build: BuildId, cmd: &Cmd) -> bool
+    ensures { result ≡ refused.is_host_page_undelegated host.now build cmd.now }
 {
     match cmd {
         Cmd::Delegate { page } | Cmd::Data { source: page, .. } => {
@@ -158,13 +158,13 @@ fn is_page_run(ipa: IpaGran, count: u16) -> bool
 }
 
 // The refusal of a new table, according to the level at which the walk to its parent ends.
-fn room_refusal<S: PageStore>(
+fn new_table_refusal<S: PageStore>(
     host: &Host<S>,
     build: BuildId,
     ipa: IpaGran,
     above: Level,
 ) -> Option<Rmi>
-    ensures { result ≡ refused.room_refusal above (refused.end_in (row_of (world_of host.now) build) ipa above) }
+    ensures { result ≡ refused.new_table_refusal above (refused.end_in (row_of (world_of host.now) build) ipa above) }
 {
     match host.row(build, ipa.number(), above) {
         Some(row) => {
@@ -302,7 +302,7 @@ fn refusal_in_memory<S: PageStore>(
             {
                 return Some(Rmi::INPUT);
             }
-            room_refusal(host, build, *ipa, level.above())
+            new_table_refusal(host, build, *ipa, level.above())
         }
         Act::Ripas { ipa, count } => {
             if !(is_page_run(*ipa, *count) && is_protected(*ipa, width)) {
@@ -393,7 +393,13 @@ fn model_refusal<S: PageStore>(
         return Some(refusal);
     }
     let rmi = match act {
-        Some(act) => call_refusal(host, build, granules, is_host_page(host, build, cmd), &act)?,
+        Some(act) => call_refusal(
+            host,
+            build,
+            granules,
+            is_host_page_undelegated(host, build, cmd),
+            &act,
+        )?,
         None => match cmd {
             Cmd::Take { .. } => return None,
             _ => Rmi::INPUT,
@@ -403,7 +409,11 @@ fn model_refusal<S: PageStore>(
 }
 
 /// Returns the refusal that the host would give to a command. The command is not performed.
-pub fn refusal_asked<S: PageStore>(host: &Host<S>, build: BuildId, cmd: &Cmd) -> Option<Refusal>
+pub fn refusal_of_command<S: PageStore>(
+    host: &Host<S>,
+    build: BuildId,
+    cmd: &Cmd,
+) -> Option<Refusal>
     ensures { result ≡ refusal_of host.now build (Ask cmd.now) }
 {
     // (the contract of `history` says that the history is legal, so each realm has a width that realms may have)

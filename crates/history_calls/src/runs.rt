@@ -1,4 +1,4 @@
-//! The pages for the exits of running RECs.
+//! The assignment of run pages to running RECs.
 ghost use Rattle.std.specs.Prelude.{◌≡◌, ◌<◌, replicate, None};
 ghost use Rattle.std.specs.List.{position_from};
 ghost use Rattle.history_calls.specs.Runs as runs;
@@ -7,9 +7,9 @@ use granule_addr::Gran;
 use realm_model::Act;
 use std::marker::Model;
 
-/// The pages for the exits of running RECs. Each page in use has the granule of the REC that uses it.
+/// The run pages of a host, and the REC that uses each. Each page in use has the granule of its REC.
 ///
-/// With `MOST_RUNS` RECs running, those entered later share the last page.
+/// With `RUN_PAGE_COUNT` RECs running, those entered later share the last page.
 #[derive(Drop)]
 pub struct RunPages {
     recs: [Option<Gran>; 64],
@@ -36,7 +36,7 @@ fn place_of(recs: &[Option<Gran>], rec: Option<Gran>) -> Option<usize>
 }
 
 impl RunPages {
-    /// Creates the pages for exits, with no page in use.
+    /// Creates the run pages, with no page in use.
     pub fn new() -> RunPages
         ensures { result ≡ replicate 64 None }
     {
@@ -54,8 +54,8 @@ impl RunPages {
         }
     }
 
-    /// Returns the number of the page for a REC's event. The list of pages in use is updated: after an entry the page
-    /// is in use, and after an exit it is free again.
+    /// Returns the number of the run page for a REC's entry or exit. The list of pages in use is updated: after an
+    /// entry the page is in use, and after an exit it is free again.
     pub fn page_for(&mut self, rec: Option<Gran>, act: &Act) -> u16
         ensures value { result ≡ runs.run_page_for rec act.now self.old }
         ensures below { result < 64 }

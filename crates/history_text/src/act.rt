@@ -1,4 +1,4 @@
-//! A parser for operations. An operation is spelled as a word and numbers.
+//! The parser for operations in a history. An operation is spelled as a word and numbers.
 ghost use Rattle.std.specs.Prelude.{◌≡◌, ◌≤◌};
 ghost use Rattle.decimal_text.specs.Rows.{none, one, two, three, four};
 ghost use Rattle.decimal_text.specs.Written.{u8, u16};

@@ -1,4 +1,4 @@
-//! The text of an event. It is the event's line in a history, without the line feed.
+//! The text of an event in a history. It is the event's line, without the line feed.
 ghost use Rattle.std.specs.Prelude.{◌≡◌, ◌≢◌, ℕ, ◌<◌, [], ◌∷◌, IfSome, IfNone};
 ghost use Rattle.std.specs.Fmt.{decimal};
 ghost use Rattle.realm_model.specs.declared.act.Event.{Event};
@@ -11,7 +11,7 @@ use granule_addr::BuildId;
 use realm_model::Event;
 use std::fmt;
 
-/// The text of an event, as in the line of a history.
+/// An event that is displayed as its line in a history.
 #[derive(Clone, Copy)]
 pub struct EventText<'a>(pub &'a Event);
 

@@ -1,4 +1,4 @@
-//! Numbers of granules and of IPA granules in a text.
+//! Granule numbers and IPA granule numbers in the text of a history.
 ghost use Rattle.std.specs.Prelude.{◌≡◌, ◌≤◌};
 ghost use Rattle.decimal_text.specs.Rows.{up_to};
 ghost use Rattle.history_text.specs.Written.{granule, ipa};

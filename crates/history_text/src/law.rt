@@ -10,7 +10,7 @@ ghost use Rattle.history_text.specs.Histories.{IsOpeningText};
 use granule_addr::{Gran, RecNo, Root, Vmid};
 use realm_model::{Act, Event};
 
-/// The maximum number of bytes of a line, without its line feed.
+/// The maximum number of bytes in a line of a history. The line feed is not counted.
 pub const MOST_LINE: u16 = 256;
 
 /// Event texts are injective: different events have different texts.
@@ -97,7 +97,7 @@ fn act_in_range(act: &Act)
     }
 }
 
-/// Each event has a text. The event's numbers are in their ranges.
+/// Proves that each event has a text in a history. The event's numbers are in their ranges.
 pub fn events_have_texts(event: &Event)
     ensures { IsEventText (event_text event.now) event.now }
 {

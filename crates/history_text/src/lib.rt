@@ -1,4 +1,4 @@
-//! The text of a history. It has a line for the size of the machine, and a line for each event.
+//! The text of a history: a line for the machine's size, and one for each event.
 //!
 //! A line is an event exactly when it is the event's own text (`specs/Events.antt`): the build, a word and its numbers,
 //! with nothing before or after. Each event has one text, no two have the same, and the text of an event is read as the

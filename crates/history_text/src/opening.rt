@@ -7,7 +7,7 @@ ghost use Rattle.history_text.specs.Histories.{opening_numbers, opening_maxima, 
 use decimal_text::{SpelledText, at_most, numbers_of};
 use std::fmt;
 
-/// The maximum of each number in an opening. The order is that of the fields of `Opening`.
+/// The maximum of each number in the first line of a history. The order is that of the fields of `Opening`.
 const MAXIMA: [u32; 5] = [4096, 255, 16, 16_384, 8];
 
 /// The size of a machine, as in the first line of a history. The numbers are those of pages, of VMIDs, of auxiliary

@@ -1,4 +1,4 @@
-//! The writer of a history's text.
+//! The function that writes a history as text.
 ghost use Rattle.std.specs.Prelude.{◌≡◌, ◌++◌, OnOk, string_bytes};
 ghost use Rattle.history_text.specs.Histories.{history_text, shown};
 

@@ -1,10 +1,10 @@
-//! A view of a host's builds, for the checks of a command.
+//! A read-only view of a host's builds, for checking a build's command.
 ghost use Rattle.std.specs.Prelude.{◌≡◌, ◌<◌, nat_lt, IsSome};
 ghost use Rattle.host_commands.specs.BuildsSummary.{BuildsSummary, granule_of_page};
 
 use granule_addr::{BuildId, Gran};
 
-/// A view of the builds of a host. It has what the checks of a command need.
+/// A read-only view of a host's builds, with the data that command checks need.
 pub trait BuildsView {
     ghost seen: { Self → BuildsSummary };
 
@@ -17,7 +17,8 @@ pub trait BuildsView {
         requires { build < (seen self.now).builds }
         ensures { result ≡ (seen self.now).aborting build };
 
-    /// The granule of a build's page. No build has more pages than the largest machine.
+    /// Returns the granule of a build's page, if the build has that page. No build has more pages than the largest
+    /// machine.
     fn page(&self, build: BuildId, page: u16) -> Option<Gran>
         requires { build < (seen self.now).builds }
         ensures value { result ≡ granule_of_page (seen self.now) build page }
@@ -28,17 +29,18 @@ pub trait BuildsView {
         requires { build < (seen self.now).builds }
         ensures { result ≡ (seen self.now).realm build };
 
-    /// The number of operations that the build has open.
+    /// Returns the number of a build's reversible operations that are not yet reversed. These are the build's open
+    /// operations.
     fn open_count(&self, build: BuildId) -> u16
         requires { build < (seen self.now).builds }
         ensures { result ≡ (seen self.now).opened build };
 
-    /// The number of history entries left for the build.
+    /// Returns the number of history entries that are left for the build.
     fn room_left(&self, build: BuildId) -> u16
         requires { build < (seen self.now).builds }
         ensures { result ≡ (seen self.now).room_left build };
 
-    /// Whether a VMID is free.
+    /// Whether the host has a free VMID for a new realm.
     fn has_vmid(&self) -> bool
         ensures { result ≡ (seen self.now).vmid };
 }

@@ -1,4 +1,4 @@
-//! The checks of a command, in the order of the refusals' numbers.
+//! The checks of a build's command, in ascending order of the refusals' numbers.
 ghost use Rattle.std.specs.Prelude.{◌≡◌, ◌<◌, Some, None, IfOk, IfErr};
 ghost use Rattle.host_commands.specs.Checks.{AreFound, checked, build_checks, order_checks, realm_checks, journal_checks, room_checks, vmid_checks, state_checks, checks_of, first_that_holds};
 
@@ -91,9 +91,9 @@ fn check_state<D: BuildsView>(view: &D, build: BuildId, needs: &Needs) -> Result
     check_vmid(view, needs.vmid)
 }
 
-/// Checks a command's requirements on its build. Returns the granule of each page that the command names. An error is
-/// the refusal with the lowest number of those that hold. Refusals 11 and 13, of the store and of the RMM, are not
-/// checked here.
+/// Checks that a build meets the requirements of its command. Returns the granule of each page that the command names.
+/// An error is the refusal with the lowest number of those that hold. Refusals 11 and 13, of the store and of the RMM,
+/// are not checked here.
 pub fn check_needs<D: BuildsView>(
     view: &D,
     build: BuildId,

@@ -1,10 +1,10 @@
-//! Commands and steps of builds.
+//! The commands and other steps of builds, as values.
 ghost use Rattle.std.specs.Prelude.{◌≡◌};
 
 use arrayvec::ArrayVec;
 use granule_addr::{PageOff, RecNo};
 
-/// A command of a build.
+/// A command that a build asks the host to carry out.
 ///
 /// Pages are named by the build's own numbers, from 0 in the order of taking. IPA granules and levels are numbers as
 /// they were written: the RMM refuses one that no realm has.
@@ -24,17 +24,18 @@ pub enum Cmd {
         page: u16,
         offset: PageOff,
     },
-    /// Delegates a page. RMI_GRANULE_DELEGATE
+    /// Changes a page from undelegated to delegated. RMI_GRANULE_DELEGATE
     Delegate {
         page: u16,
     },
-    /// Creates a realm. Its starting tables are the pages from `root` on, as many as the width needs. RMI_REALM_CREATE
+    /// Creates the build's realm, with its starting tables. The tables are the pages from `root` on, as many as the
+    /// width needs. RMI_REALM_CREATE
     Realm {
         rd: u16,
         root: u16,
         width: u8,
     },
-    /// Turns a page into a translation table. RMI_RTT_CREATE
+    /// Turns a page into a translation table of the build's realm. RMI_RTT_CREATE
     Rtt {
         page: u16,
         ipa: u32,
@@ -62,7 +63,7 @@ pub enum Cmd {
         page: u16,
         auxiliaries: ArrayVec<u16, 16>,
     },
-    /// Activates the realm. RMI_REALM_ACTIVATE
+    /// Changes the build's realm from new to active. RMI_REALM_ACTIVATE
     Activate,
     /// Enters a REC, which then runs. RMI_REC_ENTER
     Enter {
@@ -81,7 +82,7 @@ pub enum Cmd {
     },
 }
 
-/// A step of a build. It is a command, an undo, an abort, a mark, or the step `back`.
+/// A step of a build: a command, undo, abort, mark or rollback to a mark.
 #[derive(Drop)]
 pub enum Step {
     Ask(Cmd),
@@ -107,7 +108,7 @@ fn clone_pages(pages: &ArrayVec<u16, 16>) -> ArrayVec<u16, 16>
 }
 
 impl Cmd {
-    /// A copy of the command. No memory is taken.
+    /// Returns a copy of the command without allocating memory.
     pub fn clone(&self) -> Cmd
         ensures { result ≡ self.now }
     {

@@ -1,12 +1,12 @@
-//! The requirements of a command on its build.
+//! The table of the requirements that each command has on its build.
 ghost use Rattle.std.specs.Prelude.{◌≡◌, ◌≤◌};
 ghost use Rattle.host_commands.specs.Needs.{needs_of, needs_but_vmid, tables_named};
 
 use crate::Cmd;
 use granule_addr::IpaWidth;
 
-/// A command's requirement on its build's realm. The command requires that there is one, that there is none, or
-/// nothing.
+/// A command's requirement on whether its build has a realm. The command requires that there is one, that there is
+/// none, or nothing.
 #[derive(Clone, Copy)]
 pub enum RealmRequirement {
     Either,
@@ -14,17 +14,18 @@ pub enum RealmRequirement {
     NoRealm,
 }
 
-/// The requirements of a command on its build. They are one row of a table of all commands.
+/// The requirements of a command on its build's realm, journal and history, and on VMIDs. They are one row of a table
+/// of all commands.
 #[derive(Clone, Copy)]
 pub struct Needs {
-    /// The requirement on the build's realm.
+    /// The requirement on whether the build has a realm.
     pub realm: RealmRequirement,
-    /// Whether the operation stays open. It then needs an entry in the journal.
+    /// Whether the command's operation has a reverse. The operation then stays open, and needs an entry in the journal.
     pub paired: bool,
     /// The number of history entries that the command takes. They come from the build's room. The event takes one, and
     /// a later reverse or exit another. The command `exit` takes none: `enter` took the entry for the exit.
     pub room: u16,
-    /// Whether the command needs a VMID.
+    /// Whether the command needs a free VMID for a new realm.
     pub vmid: bool,
 }
 
@@ -50,7 +51,7 @@ fn but_vmid(realm: RealmRequirement, paired: bool, room: u16) -> Needs
 }
 
 impl Cmd {
-    /// The requirements of the command on its build.
+    /// Returns the command's requirements, from the table of all commands.
     #[tactic(auto, unfolding(crate::specs::Needs::needs_of))]
     pub fn needs(&self) -> Needs
         ensures { result ≡ needs_of self.now }

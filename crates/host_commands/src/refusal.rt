@@ -1,4 +1,4 @@
-//! The refusals of a host, by number.
+//! The reasons for which a host refuses a command or an undo, by number.
 use granule_addr::Order;
 use realm_model::Rmi;
 use thiserror::Error;

@@ -5,13 +5,13 @@ ghost use Rattle.host_commands.specs.Replies.{reply_of};
 use granule_addr::{RecNo, Vmid};
 use realm_model::{Act, Kind};
 
-/// The reply to an accepted command.
+/// The host's reply to an accepted command of a build.
 #[derive(Clone, Copy, Debug, PartialEq, Eq)]
 pub enum Reply {
     Done,
     /// The first page of the taken block, in the build's own numbering.
     FirstPage(u16),
-    /// The byte that was read.
+    /// The byte that a `peek` command read from a page.
     Byte(u8),
     /// The VMID of the realm that was created.
     Vmid(Vmid),
@@ -19,7 +19,8 @@ pub enum Reply {
     Number(RecNo),
 }
 
-/// Returns the reply to an operation. `page_count` is the number of the build's pages before the operation.
+/// Returns the host's reply to a command, given the operation that the command asks for. `page_count` is the number of
+/// the build's pages before the operation.
 pub fn reply_of(page_count: u16, act: &Act) -> Reply
     ensures { result ≡ reply_of page_count act.now }
 {
@@ -32,8 +33,8 @@ pub fn reply_of(page_count: u16, act: &Act) -> Reply
     }
 }
 
-/// The values that the machine gives for a command's operation. They are a VMID, a REC number and a byte. Each value
-/// may be anything for a command that does not use it.
+/// The VMID, REC number and byte that a command gets from the machine. Each value may be anything for a command that
+/// does not use it.
 #[derive(Clone, Copy)]
 pub struct Allocated {
     /// The lowest free VMID, for a command that creates a realm.
@@ -44,8 +45,8 @@ pub struct Allocated {
     pub byte: u8,
 }
 
-/// The result of an undo. `kind` is that of the reversed operation, and `left` is the number of operations that the
-/// build has open afterwards.
+/// The result of an undo: the reversed operation's kind, and the open operations left. `left` is the number of
+/// operations that the build has open afterwards.
 #[derive(Clone, Copy, Debug, PartialEq, Eq)]
 pub struct Undone {
     pub kind: Kind,

@@ -1,4 +1,4 @@
-//! The record of one build.
+//! The record that a host keeps of one build.
 ghost use Rattle.std.specs.Prelude.{◌≡◌, nat_lt, length, IfOk};
 ghost use Rattle.host_ledger.specs.Kept.{new_build, points_after, build_after, CanFollow};
 
@@ -9,8 +9,9 @@ use granule_addr::Gran;
 use realm_model::Act;
 use std::alloc::{AllocError, Global};
 
-/// The record of a build. It has the build's open operations, the number of its events in the history, its mark, and
-/// whether it is in abort. Of the build's realm it has the RD, the RECs, and how many of them run.
+/// The record that a host keeps of a build. It has the build's open operations, the number of its events in the
+/// history, its mark, and whether it is in abort. Of the build's realm it has the RD, the RECs, and how many of them
+/// run.
 #[derive(Drop)]
 pub(crate) struct Build {
     pub(crate) journal: Journal,

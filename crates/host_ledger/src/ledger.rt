@@ -147,7 +147,7 @@ impl HostLedger {
         self.history.as_slice()
     }
 
-    /// The room of each build in the history, in entries.
+    /// The number of history entries reserved for each build.
     pub fn capacity(&self) -> u16
         ensures value { result ≡ self.now.capacity }
         ensures few { result ≤ 16384 }
@@ -174,8 +174,8 @@ impl HostLedger {
         (build.number() as usize) < self.builds.len()
     }
 
-    /// Returns the used part of a build's room in the history. It is one entry for each of the build's events, one for
-    /// each of its open operations, and one for each of its running RECs.
+    /// Returns how many of its reserved history entries a build uses. It is one entry for each of the build's events,
+    /// one for each of its open operations, and one for each of its running RECs.
     pub fn used(&self, build: BuildId) -> u16
         requires { build < self.now.limits.builds }
         ensures value { result ≡ used self.now build }
@@ -197,7 +197,7 @@ impl HostLedger {
         self.builds[build.number() as usize].journal.len()
     }
 
-    /// The newest open operation of a build.
+    /// Returns the newest open operation of a build, if there is one.
     pub fn newest(&self, build: BuildId) -> Option<&Act>
         requires { build < self.now.limits.builds }
         ensures value { option_map (λ act. act.now) result ≡ last_or None (open_of self.now build) }
@@ -216,7 +216,7 @@ impl HostLedger {
         self.builds[build.number() as usize].journal.above(count)
     }
 
-    /// The mark that is kept for a build.
+    /// Returns the mark to which a build can be rolled back, if it has one.
     pub fn mark(&self, build: BuildId) -> Option<Mark>
         requires { build < self.now.limits.builds }
         ensures value { result ≡ mark_of self.now build }
@@ -225,7 +225,7 @@ impl HostLedger {
         self.builds[build.number() as usize].mark
     }
 
-    /// The RD of a build's realm.
+    /// Returns the RD of a build's realm, if the build has a realm.
     pub fn realm(&self, build: BuildId) -> Option<Gran>
         requires { build < self.now.limits.builds }
         ensures value { result ≡ rd_of build (world_of self.now) }
@@ -234,7 +234,7 @@ impl HostLedger {
         self.builds[build.number() as usize].realm
     }
 
-    /// The granule of REC `number` in a build's realm.
+    /// Returns the granule of REC `number` in a build's realm.
     pub fn rec(&self, build: BuildId, number: RecNo) -> Option<Gran>
         requires { build < self.now.limits.builds }
         ensures { result ≡ rec_granule (realm_of build (world_of self.now)) number }
@@ -243,8 +243,8 @@ impl HostLedger {
         kept.recs.granule(number)
     }
 
-    /// Returns the realm and the REC of an operation. They are the RD of the build's realm, and the granule of the
-    /// existing REC, if any, that the operation names.
+    /// Returns the RD of the build's realm, and the granule of an operation's REC. The REC is the existing one, if any,
+    /// that the operation names.
     pub fn place(&self, build: BuildId, act: &Act) -> RealmAndRec
         requires { build < self.now.limits.builds }
         ensures { IsPlaceOf (world_of self.now) build act.now result }
@@ -262,7 +262,7 @@ impl HostLedger {
         }
     }
 
-    /// The number of running RECs of a build's realm.
+    /// Returns the number of running RECs in a build's realm.
     pub fn running(&self, build: BuildId) -> u16
         requires { build < self.now.limits.builds }
         ensures { result ≡ running_count (realm_of build (world_of self.now)) }
@@ -277,7 +277,7 @@ impl HostLedger {
         self.vmids.lowest_free()
     }
 
-    /// The granule of a build's page.
+    /// Returns the granule that is page number `page` of a build.
     pub fn page(&self, build: BuildId, page: u16) -> Option<Gran>
         requires { build < self.now.limits.builds }
         ensures value { result ≡ granule_of_page self.now build page }
@@ -317,7 +317,7 @@ impl HostLedger {
         self.builds[build.number() as usize].begin_abort();
     }
 
-    /// A mark for a build at the current end of the history.
+    /// Returns a mark to which the build can later be rolled back. The mark is at the current end of the history.
     pub fn mark_now(&self, build: BuildId) -> Mark
         requires { build < self.now.limits.builds }
         ensures { result ≡ mark_now self.now build }
@@ -329,7 +329,8 @@ impl HostLedger {
         }
     }
 
-    /// Sets a build's mark. `mark` is at the current end of the history. Any older mark of the build is dropped.
+    /// Stores the mark to which a build can be rolled back. `mark` is at the current end of the history. Any older mark
+    /// of the build is dropped.
     pub fn keep_mark(&mut self, build: BuildId, mark: &Mark)
         requires there { build < self.old.limits.builds }
         requires now { mark.now ≡ mark_now self.old build }

@@ -35,7 +35,7 @@ impl Recs {
         Ok(Recs { entries })
     }
 
-    /// Adds a REC. Its number is above all others.
+    /// Adds a REC to the end of the list. Its number is above all others.
     pub(crate) fn push(&mut self, number: RecNo, granule: Gran)
         requires few { length self.old < 512 }
         requires above { IsAbove self.old number }
@@ -44,14 +44,14 @@ impl Recs {
         self.entries.push_reserved((number, granule));
     }
 
-    /// Removes the newest REC.
+    /// Removes the newest REC from the list.
     pub(crate) fn pop(&mut self)
         ensures { self.new ≡ take (length self.old - 1) self.old }
     {
         self.entries.pop();
     }
 
-    /// The granule of REC `number`.
+    /// Returns the granule of REC `number`, if the list has that REC.
     pub(crate) fn granule(&self, number: RecNo) -> Option<Gran>
         ensures { result ≡ granule_in self.now number }
     {

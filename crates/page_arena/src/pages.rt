@@ -58,7 +58,7 @@ impl RawPages {
         self.slots.count() as u16
     }
 
-    /// A reference to a page.
+    /// Returns a reference to the bytes of a page.
     pub fn page(&self, index: usize) -> &[u8; 4096]
         requires { index < length self.now }
         ensures { result.now ≡ page_at self.now index }
@@ -66,7 +66,7 @@ impl RawPages {
         self.row.get(self.start, self.slots.slot(index))
     }
 
-    /// A mutable reference to a page.
+    /// Returns a mutable reference to the bytes of a page.
     pub fn page_mut(&mut self, index: usize) -> &mut [u8; 4096]
         requires { index < length self.old }
         ensures* writes_back { sem 𝓛 (lends_page self.entry index result) }
@@ -103,7 +103,8 @@ impl RawPages {
         *written = *read;
     }
 
-    /// Clears the `count` pages from `first` on. Nothing is written to a page that was never written.
+    /// Sets all bytes of the `count` pages from `first` on to zero. Nothing is written to a page that was never
+    /// written.
     pub fn clear(&mut self, first: usize, count: usize)
         requires { first + count ≤ length self.old }
         ensures { self.new ≡ with_run self.old first count zero_page }

@@ -1,4 +1,5 @@
-//! Rows of items, each row in one allocation. All pointers of the crate are in the six functions of this file.
+//! Rows: arrays of values of one type, each in one allocation. All pointers of the crate are in the six functions of
+//! this file.
 ghost use Rattle.std.specs.Prelude.{◌≡◌, ◌≢◌, ◌<◌, ◌≤◌, ℕ, List, [], length, get_or, IfOk, ⊤};
 ghost use Rattle.std.specs.Borrow.{sem};
 ghost use denote.RawPtr.{Ptr};
@@ -8,7 +9,7 @@ use std::alloc::{AllocError, Allocator};
 use std::marker::{Model, PhantomData, Send, Sync};
 use std::mem::{align_of, size_of};
 
-/// A pointer to the first item of a row. It owns nothing.
+/// A pointer to the first value of an array in one allocation. It owns nothing.
 pub(crate) struct Start<T> {
     first: *mut T,
 }
@@ -29,8 +30,8 @@ unsafe impl<T> Send for Start<T> {}
 
 unsafe impl<T> Sync for Start<T> {}
 
-/// The ownership of a row. It covers the row's items, the unused memory after the items, and the right to free the
-/// allocation. A `Row` takes no space.
+/// The ownership of an array of values in one allocation. It covers the array's values, the unused memory after the
+/// values, and the right to free the allocation. A `Row` takes no space.
 pub(crate) struct Row<T, A: Allocator> {
     mark: PhantomData<*const (T, A)>,
     ghost at: { Ptr },
@@ -47,7 +48,7 @@ impl<T, A: Allocator> Model for Row<T, A> {
 
 unsafe impl<T: Send, A: Allocator + Send> Send for Row<T, A> {}
 
-/// Allocates an empty row with capacity for `room` items.
+/// Allocates an empty array with capacity for `room` values.
 pub(crate) fn allocate<T, A: Allocator>(
     alloc: &A,
     room: usize,
@@ -66,7 +67,7 @@ pub(crate) fn allocate<T, A: Allocator>(
     }
 }
 
-/// Gives back the allocation of a row.
+/// Frees the memory of the array that a `Row` owns.
 pub(crate) fn release<T, A: Allocator>(alloc: &A, start: Start<T>, room: usize, row: Row<T, A>)
     requires { (row.at ≡ start.first) × (row.room ≡ room) × (length row.items ≤ room) × (row.alloc ≡ alloc.now) × Reaches T.row room }
 {
@@ -83,7 +84,7 @@ pub(crate) fn release<T, A: Allocator>(alloc: &A, start: Start<T>, room: usize, 
 impl<T, A: Allocator> Row<T, A> {
     ghost use Rattle.page_arena.specs.Lends.{HasItem, lends_item};
 
-    /// A reference to an item.
+    /// Returns a reference to value `index` of the array.
     pub(crate) fn get(&self, start: Start<T>, index: usize) -> &T
         requires { HasItem T.row start self.now index }
         ensures { result.now ≡ get_or self.now.items index result.now }
@@ -91,7 +92,7 @@ impl<T, A: Allocator> Row<T, A> {
         unsafe { &*start.first.add(index) }
     }
 
-    /// A mutable reference to an item.
+    /// Returns a mutable reference to value `index` of the array.
     pub(crate) fn get_mut(&mut self, start: Start<T>, index: usize) -> &mut T
         requires { HasItem T.row start self.old index }
         ensures* writes_back { sem 𝓛 (lends_item T.row A.row A.Allocator self.entry index result) }
@@ -100,7 +101,7 @@ impl<T, A: Allocator> Row<T, A> {
         unsafe { &mut *start.first.add(index) }
     }
 
-    /// A reference to an item, and a mutable reference to another.
+    /// Returns references to two values of the array, the second one mutable.
     pub(crate) fn two(&mut self, start: Start<T>, read: usize, write: usize) -> (&T, &mut T)
         requires { HasItem T.row start self.old read × HasItem T.row start self.old write × (read ≢ write) }
         ensures* writes_back { sem 𝓛 (lends_item T.row A.row A.Allocator self.entry write result.1) }
@@ -109,8 +110,8 @@ impl<T, A: Allocator> Row<T, A> {
         unsafe { (&*start.first.add(read), &mut *start.first.add(write)) }
     }
 
-    /// Writes `item` at `index`. It replaces the item there, or comes after the last item if `index` is the number of
-    /// items.
+    /// Writes `item` at `index` of the array. It replaces the value there, or comes after the last value if `index` is
+    /// the number of values.
     pub(crate) fn put(&mut self, start: Start<T>, index: usize, item: T)
         requires { (start.first ≡ self.old.at) × (index ≤ length self.old.items) × (index < self.old.room) × Reaches T.row self.old.room }
         ensures { (self.new.at ≡ self.old.at) × (self.new.room ≡ self.old.room) × (self.new.alloc ≡ self.old.alloc) × (self.new.items ≡ put_at self.old.items index item) }

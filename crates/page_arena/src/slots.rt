@@ -1,4 +1,4 @@
-//! The slots that hold the bytes of pages.
+//! Slots: the places in memory that hold the bytes of pages.
 ghost use Rattle.std.specs.Prelude.{◌≡◌, ◌+◌, ◌<◌, ◌≤◌, length, replicate, get_or, set, IfOk};
 ghost use Rattle.page_arena.specs.Slots.{IsSlots};
 
@@ -14,7 +14,7 @@ pub(crate) struct Slots {
 }
 
 impl Slots {
-    /// Creates the slots of `pages` pages. No page was ever written.
+    /// Creates the table of slots for `pages` pages that were never written.
     pub(crate) fn build(alloc: Global, pages: usize) -> Result<Slots, AllocError>
         ensures { IfOk result (λ slots. (slots.of.items ≡ replicate pages 0) × (slots.used ≡ 1)) }
     {
@@ -24,14 +24,14 @@ impl Slots {
         })
     }
 
-    /// The number of pages.
+    /// Returns the number of pages in the table of slots.
     pub(crate) fn count(&self) -> usize
         ensures { result ≡ length self.now.of.items }
     {
         self.of.len()
     }
 
-    /// The slot of a page.
+    /// Returns the slot that holds the bytes of a page.
     pub(crate) fn slot(&self, page: usize) -> usize
         requires { page < length self.now.of.items }
         ensures { result ≡ get_or self.now.of.items page 0 }

@@ -14,20 +14,20 @@ use thiserror::Error;
 ///
 /// A block of order k is 2^k pages from a multiple of 2^k on. No call takes memory, and none fails.
 pub trait PageStore {
-    /// The bytes of each page.
+    /// The model of the store's contents: the bytes of each page.
     ghost page_bytes: { Self → List (List ℕ) };
 
-    /// Whether each page is free.
+    /// One flag for each page, which is `true` if the page is free.
     ghost free_flags: { Self → List Bool };
 
     /// The free block that the store takes next, for each order. It is `None` if there is no free block of the order.
     ghost choice: { Self → ℕ → Option ℕ };
 
-    /// The number of pages.
+    /// Returns the number of pages of the store.
     fn pages(&self) -> u16
         ensures { result ≡ length (page_bytes self.now) };
 
-    /// The number of free pages.
+    /// Returns the number of free pages of the store.
     fn free_count(&self) -> u16
         ensures { result ≡ length (filter (λ flag. flag) (free_flags self.now)) };
 
@@ -52,14 +52,14 @@ pub trait PageStore {
         ensures unchanged { OnFalse result (free_flags self.new ≡ free_flags self.old) }
         ensures bytes { page_bytes self.new ≡ page_bytes self.old };
 
-    /// Gives a block back. Its pages are zero and free from now on.
+    /// Gives a block of pages back to the store. Its pages are zero and free from now on.
     fn give(&mut self, first: Gran, order: Order)
         requires { IsTakenBlock (free_flags self.old) order first }
         ensures given { free_flags self.new ≡ with_given (free_flags self.old) order first }
         ensures cleared { page_bytes self.new
             ≡ with_run (page_bytes self.old) first (2 ^ order) zero_page };
 
-    /// The 4,096 bytes of a page.
+    /// Returns the 4,096 bytes of a page.
     fn bytes(&self, granule: Gran) -> &[u8]
         requires { granule < length (page_bytes self.now) }
         ensures value { result.now ≡ page_at (page_bytes self.now) granule }
@@ -90,7 +90,7 @@ pub trait PageStore {
             ≡ slice_set (page_bytes self.old) target (page_at (page_bytes self.old) source) }
         ensures flags { free_flags self.new ≡ free_flags self.old };
 
-    /// Word `index` of a page's 512 words, little-endian.
+    /// Returns the 64-bit word at `index` in a page, little-endian.
     fn word(&self, granule: Gran, index: u16) -> u64
         requires inside { granule < length (page_bytes self.now) }
         requires index { index < 512 }
@@ -113,7 +113,9 @@ pub trait PageStore {
             ≡ slice_set (page_bytes self.old) granule (with_bytes (page_at (page_bytes self.old) granule) offset bytes.now) }
         ensures flags { free_flags self.new ≡ free_flags self.old };
 
-    /// Fills a page with 512 words. Word k, counted from 0, is `kind + (first + k * step) % 2^48`.
+    /// Fills a page with 512 words that rise by `step` modulo 2^48.
+    ///
+    /// Word k, counted from 0, is `kind + (first + k * step) % 2^48`.
     fn write_rising(&mut self, granule: Gran, kind: u64, first: u64, step: u64)
         requires inside { granule < length (page_bytes self.old) }
         requires taken { is_free (free_flags self.old) granule ≡ false }
@@ -124,11 +126,11 @@ pub trait PageStore {
             ≡ slice_set (page_bytes self.old) granule (bytes_of_words 512 (rising_word kind first step)) }
         ensures flags { free_flags self.new ≡ free_flags self.old };
 
-    /// A store has 1 to 4,096 pages. Each page has 4,096 bytes and a flag.
+    /// The fact that a store has 1 to 4,096 pages. Each page has 4,096 bytes and a flag.
     ghost sized: { (store : Self) → IsSized (page_bytes store) (free_flags store) };
 }
 
-/// The reason why a store is not built. It is a size other than 1 to 4,096 pages, or a failed allocation.
+/// The reason why a page store cannot be created. It is a size other than 1 to 4,096 pages, or a failed allocation.
 #[derive(Clone, Copy, Debug, Error)]
 pub enum BuildError {
     #[error("a machine has 1 to 4096 pages")]

@@ -1,8 +1,8 @@
-//! Words in the bytes of a page.
+//! Access to 64-bit words in the bytes of a page.
 ghost use Rattle.std.specs.Prelude.{◌≡◌, ◌+◌, ◌^◌, ◌<◌, ◌≤◌, length};
 ghost use Rattle.page_arena.specs.Word.{with_bytes, word_of_page, page_with_word, bytes_of_words, rising_word};
 
-/// Word `index` of a page, little-endian.
+/// Returns the 64-bit word at `index` in a page, little-endian.
 #[tactic(auto, unfolding(crate::specs::Word::word_of_page))]
 pub fn word_in(page: &[u8], index: usize) -> u64
     requires page { length page.now ≡ 4096 }
@@ -34,7 +34,9 @@ pub fn write_in(page: &mut [u8], offset: usize, bytes: &[u8])
     page[offset..offset + bytes.len()].copy_from_slice(bytes);
 }
 
-/// Fills a page with 512 words. Word k, counted from 0, is `kind + (first + k * step) % 2^48`.
+/// Fills a page with 512 words that rise by `step` modulo 2^48.
+///
+/// Word k, counted from 0, is `kind + (first + k * step) % 2^48`.
 pub fn write_rising_in(page: &mut [u8; 4096], kind: u64, first: u64, step: u64)
     requires kind { kind ≤ 2 ^ 60 }
     requires first { first < 2 ^ 48 }

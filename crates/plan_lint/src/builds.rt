@@ -1,6 +1,6 @@
-//! Mistakes in the builds of a plan.
+//! The search for mistakes in the builds of a plan.
 use crate::finding::{Findings, Severity};
-use crate::keys::{Meant, means_steps, of_kind};
+use crate::keys::{MeantKeys, means_steps, report_wrong_kind};
 use crate::message_text::Piece::{Count, Quoted, Words};
 use crate::outline::{Build, Content, Outline, Value};
 use crate::step_text::{InvalidStep, of_step};
@@ -16,11 +16,11 @@ pub(crate) fn count_of_builds(outline: &Outline) -> Option<usize> {
 }
 
 /// Finds the mistakes in the builds of a plan.
-pub(crate) fn builds(text: &str, outline: &Outline, meant: Meant, found: &mut Findings) {
+pub(crate) fn builds(text: &str, outline: &Outline, meant: MeantKeys, found: &mut Findings) {
     let has_builds = !outline.builds.is_empty();
     match outline.value("build") {
         Some(value) if !value.is_array() => return no_builds(text, value, found),
-        Some(value) if !has_builds => return no_build(outline, value, found),
+        Some(value) if !has_builds => return report_empty_build_array(outline, value, found),
         None if !has_builds && meant.build => return,
         None if !has_builds => {
             found.error(PlanFault::Key, outline.start(), "missing key `build`", &[]);
@@ -46,13 +46,13 @@ fn no_builds(text: &str, value: &Value, found: &mut Findings) {
             let words = "expected `[[build]]`, found {}";
             found.error(PlanFault::Key, span, words, &[Quoted(header)]);
         }
-        _ => of_kind(value, "an array of tables", found),
+        _ => report_wrong_kind(value, "an array of tables", found),
     }
     found.help("each build begins with a line `[[build]]`", &[]);
 }
 
 // Reports an empty array of builds. Each turn names no build then.
-fn no_build(outline: &Outline, value: &Value, found: &mut Findings) {
+fn report_empty_build_array(outline: &Outline, value: &Value, found: &mut Findings) {
     let also = if outline.turns.is_empty() {
         None
     } else {
@@ -70,7 +70,7 @@ fn no_build(outline: &Outline, value: &Value, found: &mut Findings) {
 // Finds the mistakes in a build, which should be a table with `steps` as its only key.
 fn of_build(text: &str, number: usize, build: &Build, found: &mut Findings) {
     if !matches!(build.value.content, Content::Table | Content::Tables) {
-        return of_kind(&build.value, "a table", found);
+        return report_wrong_kind(&build.value, "a table", found);
     }
     match build.steps_value() {
         Some(value) if value.is_array() => steps(text, number, build, found),
@@ -86,7 +86,7 @@ fn of_build(text: &str, number: usize, build: &Build, found: &mut Findings) {
 
 // Reports a value of `steps` that is not an array.
 fn no_steps(value: &Value, found: &mut Findings) {
-    of_kind(value, "an array", found);
+    report_wrong_kind(value, "an array", found);
     if let Some(step) = value.as_text() {
         if step_from_text(step).is_some() {
             found.help("write `[\"{}\"]`", &[Words(step)]);
@@ -112,7 +112,7 @@ fn steps(text: &str, number: usize, build: &Build, found: &mut Findings) {
 
 fn one_step(text: &str, value: &Value, fault: PlanFault, found: &mut Findings) {
     let Some(written) = value.as_text() else {
-        return of_kind(value, "a string", found);
+        return report_wrong_kind(value, "a string", found);
     };
     if step_from_text(written).is_none() {
         // (unless a string has an escape, its text follows the opening quote unchanged)

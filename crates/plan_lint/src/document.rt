@@ -1,4 +1,4 @@
-//! The search for mistakes in bytes that are not a plan.
+//! The search for the mistakes in a document that is no valid plan.
 use crate::builds::{builds, count_of_builds};
 use crate::finding::{Finding, Findings, Span};
 use crate::keys::{numbers, unknown_keys};

@@ -1,12 +1,11 @@
 //! Positions in a text, and excerpts of a text. An excerpt is a line with carets under a part of the line.
 use std::alloc::{AllocError, Global};
 
-/// The longest side of an excerpt, in bytes. One side ends before the first caret, and the other begins above the
-/// caret.
+/// The maximum number of bytes that an excerpt shows on each side of its first caret. The first side ends before the
+/// caret, and the second begins above it.
 const MOST: usize = 80;
 
-/// The length to which a longer side is cut, in bytes. A side longer than `MOST` is cut, and two dots replace the other
-/// bytes.
+/// The length to which an excerpt's side is cut if it exceeds `MOST` bytes. Two dots replace the other bytes.
 const LESS: usize = 78;
 
 /// A position in a text. The line and the column are counted from 1.
@@ -15,7 +14,7 @@ pub struct Cursor {
     pub at: usize,
     pub line: usize,
     pub column: usize,
-    /// The offset of the first byte of the line.
+    /// The offset of the first byte of the cursor's line.
     pub start: usize,
 }
 
@@ -107,8 +106,8 @@ fn push_carets(text: &mut String, before: usize, count: usize) -> Result<(), All
     text.push('\n')
 }
 
-/// Appends an excerpt of a line. The line is `front` followed by `back`, and the carets are under the first `len` bytes
-/// of `back`.
+/// Appends an excerpt of a line, with carets under a part of it. The line is `front` followed by `back`, and the carets
+/// are under the first `len` bytes of `back`.
 pub(crate) fn push_excerpt(
     alloc: Global,
     text: &mut String,

@@ -1,10 +1,10 @@
 //! Findings on a plan, and their spans in its text.
-use crate::message_text::{Piece, filled};
+use crate::message_text::{Piece, filled_message};
 use crate::nearest::nearest;
 use realm_plan::PlanFault;
 use std::alloc::{AllocError, Global};
 
-/// A stretch of a text. Its start and its end are byte offsets.
+/// A contiguous part of a text, given by two byte offsets.
 #[derive(Clone, Copy)]
 pub struct Span {
     pub start: usize,
@@ -19,27 +19,28 @@ impl Span {
     }
 }
 
-/// The severity of a finding.
+/// The severity of a finding on a document: error or warning.
 #[derive(Clone, Copy, PartialEq, Eq)]
 pub enum Severity {
-    /// A mistake in bytes that are not a plan. The values are the fault of the mistake, and a second fault if the
-    /// mistake causes two.
+    /// A mistake that keeps a document from being a valid plan. The values are the fault of the mistake, and a second
+    /// fault if the mistake causes two.
     Error(PlanFault, Option<PlanFault>),
     /// A likely slip in a plan.
     Warning,
 }
 
-/// A finding on a stretch of the text.
+/// A mistake or a likely slip in a document, with its span in the text.
 #[derive(Drop)]
 pub struct Finding {
     pub severity: Severity,
     pub span: Span,
     pub words: String,
-    /// The lines below the excerpt in a report, such as a line of help.
+    /// The lines printed below the finding's excerpt in a report, such as a line of help.
     pub notes: Vec<String>,
 }
 
-/// The findings so far, and whether an allocation failed. Code that adds a finding need not ask.
+/// A growing list of findings, with a flag that records a failed allocation. Code that adds a finding need not check
+/// for one.
 #[derive(Drop)]
 pub struct Findings {
     pub alloc: Global,
@@ -65,7 +66,8 @@ impl Findings {
         }
     }
 
-    /// Adds a finding. The words have a gap `{}` for each piece.
+    /// Adds a finding whose message is a template with its gaps filled. The template `words` has a gap `{}` for each
+    /// piece.
     pub(crate) fn add(
         &mut self,
         severity: Severity,
@@ -73,7 +75,7 @@ impl Findings {
         words: &str,
         pieces: &[Piece<'_>],
     ) {
-        let Ok(words) = filled(self.alloc, "", words, pieces) else {
+        let Ok(words) = filled_message(self.alloc, "", words, pieces) else {
             self.has_failed = true;
             return;
         };
@@ -86,7 +88,7 @@ impl Findings {
         self.has_failed |= added.is_err();
     }
 
-    /// Adds an error with one fault.
+    /// Adds a finding that is an error with one fault.
     pub(crate) fn error(
         &mut self,
         fault: PlanFault,
@@ -108,7 +110,7 @@ impl Findings {
 
     /// Adds a line to the notes of the last finding. The line starts with `beginning`.
     pub(crate) fn note(&mut self, beginning: &str, words: &str, pieces: &[Piece<'_>]) {
-        let Ok(line) = filled(self.alloc, beginning, words, pieces) else {
+        let Ok(line) = filled_message(self.alloc, beginning, words, pieces) else {
             self.has_failed = true;
             return;
         };

@@ -1,4 +1,4 @@
-//! The forms of steps, for findings on invalid steps.
+//! The words and arguments of a plan's steps, for messages about invalid steps.
 
 /// The kind of a numeric operand of a step.
 #[derive(Clone, Copy)]
@@ -15,7 +15,7 @@ pub enum OperandKind {
 }
 
 impl OperandKind {
-    /// The operand's name in messages, and its greatest value.
+    /// Returns an operand kind's name in messages, and its greatest value.
     pub(crate) fn limits(self) -> (&'static str, u64) {
         match self {
             OperandKind::Order => ("the order of a block", 255),
@@ -31,27 +31,27 @@ impl OperandKind {
     }
 }
 
-/// The form of a step: its word, its arguments, and its other names.
+/// The syntax of a kind of step: its word, its arguments, and its other names.
 #[derive(Clone, Copy)]
 pub struct Form {
     pub word: &'static str,
-    /// The arguments in words, for a message: their number and their names.
+    /// The number and the names of the step's arguments, in words for a message.
     pub takes: &'static str,
-    /// The kinds of the arguments. Further ones, if there may be any, are pages.
+    /// The kinds of the step's arguments. Further ones, if there may be any, are pages.
     pub kinds: &'static [OperandKind],
-    /// The greatest number of arguments.
+    /// The greatest number of arguments that the step can have.
     pub most: usize,
     /// Other names of the step, separated by spaces. They are its names in the RMI, in traces and in histories.
     other_names: &'static str,
 }
 
-/// The first word of each kind of step.
+/// The first word of each kind of step in a plan.
 pub const WORDS: [&str; 18] = [
     "take", "fill", "peek", "delegate", "realm", "activate", "rtt", "ripas", "data", "unknown",
     "rec", "enter", "exit", "poke", "undo", "abort", "mark", "back",
 ];
 
-/// The words of all steps, as a line of help.
+/// The help text that lists the words of all steps.
 pub const ALL_STEPS: &str =
     "the steps are `take`, `fill`, `peek`, `delegate`, `realm`, `activate`, \
     `rtt`, `ripas`, `data`, `unknown`, `rec`, `enter`, `exit`, `poke`, `undo`, `abort`, `mark` and `back`";
@@ -90,7 +90,7 @@ const FORMS: [Form; 18] = [
     form!("back", "no argument", [], 0; ""),
 ];
 
-/// Finds the form of a step by its first word. The result is `None` if no step has that word.
+/// Finds the syntax of a step by the step's first word. The result is `None` if no step has that word.
 pub(crate) fn form_of(word: &str) -> Option<Form> {
     for form in &FORMS {
         if form.word == word {
@@ -100,7 +100,8 @@ pub(crate) fn form_of(word: &str) -> Option<Form> {
     None
 }
 
-/// Finds the word of a step by the name of its command. The name is that in the RMI, in a trace or in a history.
+/// Finds a step's first word by the name of the step's command. The name is that in the RMI, in a trace or in a
+/// history.
 pub(crate) fn step_of_command(name: &str) -> Option<&'static str> {
     for form in &FORMS {
         for other in form.other_names.split_whitespace() {

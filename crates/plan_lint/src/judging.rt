@@ -1,4 +1,4 @@
-//! The findings on a document. They are its errors if it is not a plan, or else its likely slips.
+//! The judgment of a document: its errors, or its likely slips if it is a plan.
 ghost use Rattle.std.specs.Prelude.{◌≡◌, ◌≤◌, ℕ, true, map, sum_by, All, Any, IfOk, length, vec_len};
 ghost use Rattle.std.specs.List.Sorted.{IsPermutation, IsNonDecreasingBy};
 ghost use Rattle.realm_plan.specs.PlanView.{plan_view};
@@ -18,10 +18,10 @@ pub struct Size {
     pub turns: usize,
 }
 
-/// The result of `judge`. It has the findings on a document and, if the document is a plan, the size of the plan.
+/// The findings on a document, and its size if it is a plan. It is the result of `judge`.
 #[derive(Drop)]
 pub struct Judged {
-    /// The findings, sorted by where their spans begin.
+    /// The findings, sorted by the start offsets of their spans.
     pub findings: Vec<Finding>,
     /// The size of the plan, or `None` if the bytes are no plan.
     pub size: Option<Size>,
@@ -187,8 +187,8 @@ fn in_order(mut found: Vec<Finding>) -> Result<Vec<Finding>, AllocError>
     Ok(found)
 }
 
-/// Finds the errors or the likely slips in a document. If the document is a plan, the result also has the size of the
-/// plan. The one error is that allocation failed.
+/// Returns the errors in a document, or the likely slips if it is a plan. If the document is a plan, the result also
+/// has the size of the plan. The one error is that allocation failed.
 pub fn judge(alloc: Global, bytes: &[u8]) -> Result<Judged, AllocError>
     ensures { IfOk result (IsJudged bytes.now) }
 {

@@ -1,27 +1,27 @@
-//! Mistakes in the keys and in the numbers of a plan.
+//! The search for mistakes in the keys and the numeric values of a plan.
 use crate::finding::Findings;
 use crate::message_text::Piece::{Quoted, Whole, Words};
 use crate::outline::{Build, KeyValue, Outline, PLAN_KEYS, Value, is_among};
 use realm_plan::PlanFault;
 
-/// The missing keys that were probably meant by unknown or misplaced keys. Only `pages` and `build` are noted.
+/// The missing keys of a plan that were probably misspelled or misplaced. Only `pages` and `build` are noted.
 #[derive(Clone, Copy)]
-pub struct Meant {
+pub struct MeantKeys {
     pub pages: bool,
     pub build: bool,
 }
 
-impl Meant {
+impl MeantKeys {
     fn note(&mut self, key: Option<&str>) {
         self.pages |= key == Some("pages");
         self.build |= key == Some("build");
     }
 }
 
-/// Reports unknown and misplaced keys. Returns which missing keys were probably meant. A key that is there several
-/// times in a row, as in `[machine.cpu]` below `[machine]`, is reported once.
-pub(crate) fn unknown_keys(outline: &Outline, found: &mut Findings) -> Meant {
-    let mut meant = Meant {
+/// Reports the unknown and misplaced keys of a plan. Returns which missing keys were probably meant. A key that is
+/// there several times in a row, as in `[machine.cpu]` below `[machine]`, is reported once.
+pub(crate) fn unknown_keys(outline: &Outline, found: &mut Findings) -> MeantKeys {
+    let mut meant = MeantKeys {
         pages: outline.has_deeper_pages,
         build: false,
     };
@@ -39,7 +39,7 @@ pub(crate) fn unknown_keys(outline: &Outline, found: &mut Findings) -> Meant {
     meant
 }
 
-fn unknown_keys_of(outline: &Outline, build: &Build, meant: &mut Meant, found: &mut Findings) {
+fn unknown_keys_of(outline: &Outline, build: &Build, meant: &mut MeantKeys, found: &mut Findings) {
     let mut before = None;
     for key in &build.keys {
         let name = key.name.as_str();
@@ -95,7 +95,7 @@ fn is_near_steps(key: &KeyValue, found: &mut Findings) -> bool {
     found.nearest(&["steps"], key.name.as_str()).is_some()
 }
 
-/// Whether one of a build's keys was probably meant as `steps`. The build lacks `steps`.
+/// Returns whether a key of a build was probably meant as `steps`. The build lacks `steps`.
 pub(crate) fn means_steps(build: &Build, found: &mut Findings) -> bool {
     for key in &build.keys {
         if is_near_steps(key, found) {
@@ -125,8 +125,8 @@ const NUMBERS: [(&str, i64, i64); 4] = [
     ("history", 16, 16384),
 ];
 
-/// Finds the mistakes in the numbers of a plan.
-pub(crate) fn numbers(outline: &Outline, meant: Meant, found: &mut Findings) {
+/// Finds the mistakes in the values of a plan's numeric keys.
+pub(crate) fn numbers(outline: &Outline, meant: MeantKeys, found: &mut Findings) {
     for (name, low, high) in &NUMBERS {
         if let Some(value) = outline.value(name) {
             number(name, *low, *high, value, found);
@@ -151,9 +151,9 @@ fn number(name: &str, low: i64, high: i64, value: &Value, found: &mut Findings) 
     }
 }
 
-/// Reports a value of another kind in place of an integer.
+/// Reports a value that should be an integer but is of another kind.
 pub(crate) fn no_integer(value: &Value, found: &mut Findings) {
-    of_kind(value, "an integer", found);
+    report_wrong_kind(value, "an integer", found);
     if let Some(text) = value.as_text() {
         if text.parse::<i64>().is_ok() {
             found.help("remove the quotes", &[]);
@@ -162,7 +162,7 @@ pub(crate) fn no_integer(value: &Value, found: &mut Findings) {
 }
 
 /// Reports a value whose kind is not the expected one.
-pub(crate) fn of_kind(value: &Value, expected: &str, found: &mut Findings) {
+pub(crate) fn report_wrong_kind(value: &Value, expected: &str, found: &mut Findings) {
     let pieces = [Words(expected), Words(value.content.kind())];
     let words = "expected {}, found {}";
     found.error(PlanFault::Key, value.span, words, &pieces);

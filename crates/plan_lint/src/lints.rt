@@ -1,4 +1,4 @@
-//! Likely slips in a plan.
+//! The search for likely slips in a valid plan.
 use crate::finding::{Finding, Findings, Span};
 use crate::message_text::Piece::{self, Count, Plural, Quoted, Words};
 use crate::needs::{KnownState, MOST_ORDER, block_len};
@@ -37,7 +37,7 @@ pub(crate) fn slips_in(
     found.finish()
 }
 
-/// A build of a plan. The outline has the spans of the build's steps in the text.
+/// A build of a plan, with its steps and their spans in the text.
 #[derive(Clone, Copy)]
 struct PlannedBuild<'a> {
     plan: &'a Plan,
@@ -100,7 +100,7 @@ impl PlannedBuild<'_> {
     // Reports too few turns for the steps, or too many.
     fn turns(&self, found: &mut Findings) -> Result<(), AllocError> {
         let (turns, further) = self.own_turns(most_turns(self.steps));
-        if self.is_short(turns, found)? {
+        if self.report_first_short_step(turns, found)? {
             return Ok(());
         }
         if let Some(place) = further {
@@ -139,7 +139,11 @@ impl PlannedBuild<'_> {
 
     // Reports the first step that no turn reaches, or that lacks turns to finish, and returns whether there is such a
     // step.
-    fn is_short(&self, turns: usize, found: &mut Findings) -> Result<bool, AllocError> {
+    fn report_first_short_step(
+        &self,
+        turns: usize,
+        found: &mut Findings,
+    ) -> Result<bool, AllocError> {
         let mut known = KnownState::new(found.alloc, self.plan, self.steps);
         let mut left = turns;
         for (place, step) in self.steps.iter().enumerate() {
@@ -147,7 +151,7 @@ impl PlannedBuild<'_> {
                 self.unreached(place, turns, found);
                 return Ok(true);
             }
-            let least = known.turns_of(step.asked())?;
+            let least = known.record_step(step.asked())?;
             if left < least {
                 self.cut_off(place, step, least, left, found);
                 return Ok(true);

@@ -1,7 +1,7 @@
 //! Message templates with gaps for names and numbers.
 use std::alloc::{AllocError, Global};
 
-/// The longest quotation in a message, in characters.
+/// The maximum length of a quotation in a message, in characters.
 const LONGEST: usize = 40;
 
 /// The content of a gap in a message template.
@@ -17,7 +17,8 @@ pub enum Piece<'a> {
     Plural(usize),
 }
 
-/// Appends the words, with each `{}` replaced by the next piece.
+/// Appends a message template with its gaps filled. Each `{}` of `words` is a gap, and the pieces fill the gaps in
+/// order.
 pub(crate) fn push_filled(
     text: &mut String,
     words: &str,
@@ -33,8 +34,9 @@ pub(crate) fn push_filled(
     text.push_str(rest)
 }
 
-/// Returns `beginning`, followed by the filled words. The next piece replaces each `{}` of the words.
-pub(crate) fn filled(
+/// Returns a message made of `beginning` and the template `words`. The pieces replace the gaps `{}` of the template, in
+/// sequence.
+pub(crate) fn filled_message(
     alloc: Global,
     beginning: &str,
     words: &str,

@@ -2,11 +2,11 @@
 use std::alloc::{AllocError, Global};
 use strsim::osa_distance;
 
-/// The longest word that is looked up, in bytes.
+/// The maximum length of a word for which a name is searched, in bytes.
 const LONGEST: usize = 32;
 
-/// The name nearest to a word, if any name is near. A near name is the same but for capital letters, or differs in up
-/// to a third of the longer of the two. Of several, the first.
+/// Returns the name that is nearest to a word, if one is near enough. A near name is the same but for capital letters,
+/// or differs in up to a third of the longer of the two. Of several, the first.
 pub(crate) fn nearest(
     alloc: Global,
     names: &[&'static str],

@@ -1,4 +1,4 @@
-//! A lower bound on the turns that steps need. It holds whatever other builds do.
+//! A lower bound on the number of turns that a build's steps take. It holds whatever other builds do.
 //!
 //! A `take` is surely accepted if all takes of the plan together ask for no more than the machine has. A `delegate` of
 //! a page of such a take is, and so is a `realm` in two such pages. No more is known without a run.
@@ -18,24 +18,25 @@ pub(crate) fn block_len(order: u8) -> usize {
     1 << order.min(12)
 }
 
-/// The certain part of a build's state after the steps so far.
+/// The certain part of a build's state after the steps recorded so far.
 #[derive(Drop)]
 pub struct KnownState {
     /// The number of operations that are surely open. `since_mark` is the number of those opened since the mark.
     open: usize,
     since_mark: usize,
     has_mark: bool,
-    /// The number of pages that the build surely has. `delegated` has the pages that are surely delegated.
+    /// A lower bound on the number of the build's pages. `delegated` has the pages that are surely delegated.
     pages: usize,
     delegated: Vec<u16>,
     /// Whether a `realm` step surely succeeds once its pages are delegated.
     can_have_realm: bool,
-    /// Whether each `take` is surely served. It is `false` once something was reversed, or a REC was entered.
+    /// Whether the next `take` of the build surely succeeds. It is `false` once something was reversed, or a REC was
+    /// entered.
     is_plain: bool,
 }
 
 impl KnownState {
-    /// The known state of a build before its first step.
+    /// Creates the known state of a build before its first step.
     pub(crate) fn new(alloc: Global, plan: &Plan, steps: &[PlanStep]) -> KnownState {
         let (mut pages, mut realms) = (0usize, 0usize);
         for steps in &plan.builds {
@@ -63,8 +64,9 @@ impl KnownState {
         }
     }
 
-    /// Records the next step. Returns a lower bound on the turns that the step takes.
-    pub(crate) fn turns_of(&mut self, step: Step) -> Result<usize, AllocError> {
+    /// Records the effect of a build's next step on the known state. Returns a lower bound on the turns that the step
+    /// takes.
+    pub(crate) fn record_step(&mut self, step: Step) -> Result<usize, AllocError> {
         let reversed = match step {
             Step::Ask(cmd) => {
                 self.ask(cmd)?;

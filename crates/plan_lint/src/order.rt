@@ -1,13 +1,13 @@
-//! Mistakes in the turns of a plan.
+//! The search for mistakes in the turns of a plan.
 use crate::finding::Findings;
-use crate::keys::{no_integer, of_kind};
+use crate::keys::{no_integer, report_wrong_kind};
 use crate::message_text::Piece::{Count, Plural, Whole, Words};
 use crate::outline::{Outline, Value};
 use realm_plan::{MOST_TURNS, PlanFault};
 use std::alloc::AllocError;
 use std::collections::BTreeMap;
 
-/// The turns that name one missing build. `count` is the number of these turns.
+/// The turns of a plan that name the same missing build. `count` is the number of these turns.
 #[derive(Clone, Copy)]
 struct Stray {
     /// The index of the first turn that names the build.
@@ -24,7 +24,7 @@ pub(crate) fn order(
     match outline.value("order") {
         Some(value) if value.is_array() => of_turns(outline, builds, found),
         Some(value) => {
-            of_kind(value, "an array", found);
+            report_wrong_kind(value, "an array", found);
             if let Some(whole) = value.as_whole() {
                 found.help("write `[{}]`", &[Whole(whole)]);
             }

@@ -5,7 +5,7 @@ use toml_parser::Scalar;
 /// All keys that a plan can have.
 pub const PLAN_KEYS: [&str; 6] = ["pages", "vmids", "aux", "history", "order", "build"];
 
-/// The kind of a value. A string or a scalar has its content too.
+/// The kind of a TOML value, with its content if it is a string or scalar.
 #[derive(Drop)]
 pub enum Content {
     Text(String),
@@ -20,7 +20,7 @@ pub enum Content {
 }
 
 impl Content {
-    /// The kind in words.
+    /// Returns the kind's name for messages, with an article.
     pub(crate) fn kind(&self) -> &'static str {
         match self {
             Content::Text(_) => "a string",
@@ -35,7 +35,7 @@ impl Content {
     }
 }
 
-/// A value and its span in the text.
+/// A TOML value and its span in the text of a plan.
 #[derive(Drop)]
 pub struct Value {
     pub span: Span,
@@ -62,7 +62,7 @@ impl Value {
     }
 }
 
-/// A key and its value.
+/// A TOML key with its span and its value.
 #[derive(Drop)]
 pub struct KeyValue {
     /// The name of the key. Of a dotted key it is only the first part.
@@ -74,45 +74,45 @@ pub struct KeyValue {
 /// A build in the text of a plan: its value, its keys, and its steps.
 #[derive(Drop)]
 pub struct Build {
-    /// The build's header `[[build]]`, or the build's item in the array `build`.
+    /// The build's header `[[build]]`, or the build's element of the array `build`.
     pub value: Value,
     pub keys: Vec<KeyValue>,
-    /// The items of the build's key `steps`.
+    /// The elements of the build's array `steps`.
     pub steps: Vec<Value>,
 }
 
 impl Build {
-    /// The value of the build's key `steps`.
+    /// Returns the value of the build's key `steps`, if the build has it.
     pub(crate) fn steps_value(&self) -> Option<&Value> {
         value_of(&self.keys, "steps")
     }
 }
 
-/// The parts of a plan's text, as far as they were found.
+/// The parts that were found in the text of a plan.
 #[derive(Drop)]
 pub struct Outline {
     pub keys: Vec<KeyValue>,
     pub builds: Vec<Build>,
-    /// The items of the key `order`.
+    /// The elements of the plan's array `order`.
     pub turns: Vec<Value>,
     /// The keys of a plan that the text lacks.
     pub missing: Vec<&'static str>,
-    /// Whether the key `pages` is in a table that no plan has.
+    /// Whether a key `pages` is in a table that plans do not have.
     pub has_deeper_pages: bool,
 }
 
 impl Outline {
-    /// The value of a key of the plan.
+    /// Returns the value of a plan's key, if the plan has it.
     pub(crate) fn value(&self, name: &str) -> Option<&Value> {
         value_of(&self.keys, name)
     }
 
-    /// Whether the plan lacks a key.
+    /// Returns whether a plan lacks a key.
     pub(crate) fn lacks(&self, name: &str) -> bool {
         is_among(&self.missing, name)
     }
 
-    /// The empty span before the first key or header in the text.
+    /// Returns the empty span before the first key or header in a plan's text.
     pub(crate) fn start(&self) -> Span {
         let start = match (self.keys.first(), self.builds.first()) {
             (Some(key), Some(build)) => key.key.start.min(build.value.span.start),
@@ -131,7 +131,7 @@ impl Outline {
         }
     }
 
-    /// Returns the span of a turn. It is `order_span` if there is no such turn.
+    /// Returns the span of a turn in a plan's text. It is `order_span` if there is no such turn.
     pub(crate) fn turn_span(&self, place: usize) -> Span {
         match self.turns.get(place) {
             Some(turn) => turn.span,
@@ -139,8 +139,8 @@ impl Outline {
         }
     }
 
-    /// Returns the span of a step. If there is no such step, it is the span of the build. If there is no such build, it
-    /// is the beginning of the text.
+    /// Returns the span of a build's step in a plan's text. If there is no such step, it is the span of the build. If
+    /// there is no such build, it is the beginning of the text.
     pub(crate) fn step_span(&self, build: usize, step: usize) -> Span {
         match self.builds.get(build) {
             Some(build) => build.steps.get(step).unwrap_or(&build.value).span,

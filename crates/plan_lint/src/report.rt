@@ -1,5 +1,5 @@
-//! The report on a document. It has the findings with excerpts of their lines and, for a plan, the size of the plan.
-//! Tests compare reports with stored texts.
+//! The report on the findings in a document, with excerpts of their lines. For a plan, the report also has the size of
+//! the plan. Tests compare reports with stored texts.
 ghost use Rattle.std.specs.Prelude.{IfOk};
 
 use crate::excerpt::{Cursor, FIRST, first_of, place_at, plain_text, push_excerpt};
@@ -12,11 +12,11 @@ use std::alloc::{AllocError, Global};
 /// The number of bytes that are searched for a line feed. The search begins at the position of a finding.
 const AHEAD: usize = 81;
 
-/// The text of a report, and whether the document is a plan.
+/// A report on a document: its text, and whether the document is a plan.
 #[derive(Drop)]
 pub struct LintReport {
     pub text: String,
-    /// Whether the bytes are a plan.
+    /// Whether the document is a valid plan.
     pub is_plan: bool,
 }
 

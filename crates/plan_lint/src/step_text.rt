@@ -1,4 +1,4 @@
-//! Mistakes in a string that is not a valid step.
+//! The search for the first mistake in a string that is not a valid step.
 use crate::finding::{Findings, Span};
 use crate::forms::{ALL_STEPS, Form, OperandKind, WORDS, form_of, step_of_command};
 use crate::message_text::Piece::{self, Count, Number, Quoted, Words};
@@ -8,7 +8,7 @@ use realm_plan::PlanFault;
 /// The number of bytes of a page.
 const PAGE: u64 = 4096;
 
-/// The longest number without backquotes in a message, in bytes.
+/// The greatest length of a number that is printed without backquotes, in bytes.
 const LONGEST: usize = 20;
 
 /// A string in a plan that is not a valid step. The fault and the position of the string are given too.
@@ -18,7 +18,7 @@ pub struct InvalidStep<'a> {
     pub fault: PlanFault,
     /// The span of the string with its quotes.
     pub whole: Span,
-    /// Whether `written` follows the string's opening quote in the document, byte for byte.
+    /// Whether the document has the step's text unescaped, right after the opening quote.
     pub inside: bool,
 }
 

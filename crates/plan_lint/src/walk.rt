@@ -12,13 +12,13 @@ use toml_parser::{ErrorKind, Key, ParseError, dotted_key, quoted, starts_string,
 #[derive(Clone, Copy)]
 enum Part {
     Plan,
-    /// The items of `order`.
+    /// The elements of the array `order`.
     Turns,
-    /// The items of `build`.
+    /// The elements of the array `build`.
     Builds,
-    /// The keys of the last build.
+    /// The keys of the latest build so far in the text.
     Build,
-    /// The items of `steps` in the last build.
+    /// The elements of the array `steps` in the latest build so far.
     Steps,
     /// A table or an array that no plan has.
     Other,
@@ -37,7 +37,7 @@ impl Part {
     }
 }
 
-/// An array or an inline table that is still open.
+/// An array or inline table whose closing bracket is not yet read.
 #[derive(Clone, Copy)]
 struct Open {
     /// The part to which the array or table belongs. `part` is the part to which its own keys or items belong.
@@ -46,7 +46,7 @@ struct Open {
     is_table: bool,
 }
 
-/// The state of the walk at a position in the text.
+/// The state of the walk through a plan's text at a position.
 #[derive(Drop)]
 struct Walk<'a> {
     alloc: Global,
@@ -59,7 +59,7 @@ struct Walk<'a> {
     outline: Outline,
 }
 
-/// Finds the parts of a plan's text, as far as the walk gets.
+/// Finds the parts of a plan in its text, up to the first unreadable part.
 pub(crate) fn outline_of(alloc: Global, text: &str) -> Result<Outline, AllocError> {
     let mut walk = Walk {
         alloc,

@@ -27,7 +27,7 @@ use Rattle.realm_plan.specs.Plan.{Plan}
 use Rattle.plan_replay.specs.Aborts.{HasLeftNothing, ReportsOfAbort}
 use Rattle.plan_replay.specs.Place.{first_place, is_refusal, moved_on, number_after}
 use Rattle.plan_replay.specs.Run.{Position, Turn, start, place_of, step_after, IsTurnOf, IsTurn, AreTurns}
-use Rattle.plan_replay.specs.Turn.{to_go_back, answer_of_one, left_after, IsOneOfMany, IsTurnOfMany, IsAbortTurn, IsStepTurn}
+use Rattle.plan_replay.specs.Turn.{undos_to_go, answer_of_one, left_after, IsOneOfMany, IsTurnOfMany, IsAbortTurn, IsStepTurn}
 use Rattle.plan_replay.specs.declared.answer.TurnAnswer.{TurnAnswer}
 use Rattle.plan_replay.specs.declared.answer.TurnAnswer.TheVariants as tells
 use Rattle.plan_replay.specs.declared.place.PlanCursor.{PlanCursor}
@@ -76,7 +76,7 @@ turn_calls host build place (Ask cmd) answer new after is = by_one host build (C
 turn_calls host build place Undo answer new after is = by_one host build (Calls call.Undo (undone is.0.result)) new is.0.is_answer
 turn_calls host build place Abort answer new after is = abort_calls host build place answer new after is
 turn_calls host build place KeepMark answer new after is = by_one host build (Marks is.result) new is.is_marked
-turn_calls host build place Back answer new after is = many (to_go_back host build place) host build place answer new after is
+turn_calls host build place Back answer new after is = many (undos_to_go host build place) host build place answer new after is
 
 -- ---- half way
 

@@ -20,7 +20,7 @@ use Rattle.realm_plan.specs.Asked.{asked}
 use Rattle.realm_plan.specs.declared.step.PlanStep.{PlanStep}
 use Rattle.realm_plan.specs.Plan.{Plan}
 use Rattle.plan_replay.specs.Run.{Position, Turn, start, place_of, step_after, IsTurnOf, AreTurns, IsReportedRun}
-use Rattle.plan_replay.specs.Turn.{to_go_back, IsOneOfMany, IsTurnOfMany, IsToAbort, IsStepTurn}
+use Rattle.plan_replay.specs.Turn.{undos_to_go, IsOneOfMany, IsTurnOfMany, IsToAbort, IsStepTurn}
 use Rattle.plan_replay.specs.declared.answer.TurnAnswer.{TurnAnswer}
 use Rattle.plan_replay.specs.declared.answer.TurnAnswer.TheVariants.{Nothing}
 use Rattle.plan_replay.specs.declared.place.PlanCursor.{PlanCursor}
@@ -79,7 +79,7 @@ step_same host build place Undo answer new after is = undo_same host build is.0.
 step_same host build place Abort answer new after is =
     same_then host is.begun new (to_abort_same host build place is.count is.begun is.to_undo) (many_same is.count is.begun build place answer new after is.is_turn)
 step_same host build place KeepMark answer new after is = mark_same host build is.result new is.is_marked
-step_same host build place Back answer new after is = many_same (to_go_back host build place) host build place answer new after is
+step_same host build place Back answer new after is = many_same (undos_to_go host build place) host build place answer new after is
 
 turn_same : (gives_up : Bool) (step : Option PlanStep) (from : Position) (turn : Turn) (to : Position) → IsTurnOf gives_up step from turn to → SameSettings from.host to.host
 turn_same gives_up None from turn to is = (ap (λ (p : Position). p.host.limits) is.1, ap (λ (p : Position). p.host.capacity) is.1)

@@ -8,7 +8,7 @@ use Rattle.host_commands.specs.declared.cmd.Step.TheVariants.{Ask, Undo, Abort, 
 use Rattle.host_commands.specs.declared.refusal.Refusal.{Refusal}
 use Rattle.plan_replay.specs.Place.{first_place}
 use Rattle.plan_replay.specs.Run.{place_of}
-use Rattle.plan_replay.specs.Turn.{to_go_back, IsOneOfMany, IsTurnOfMany, IsStepTurn}
+use Rattle.plan_replay.specs.Turn.{undos_to_go, IsOneOfMany, IsTurnOfMany, IsStepTurn}
 use Rattle.plan_replay.specs.declared.answer.TurnAnswer.{TurnAnswer}
 use Rattle.plan_replay.specs.declared.answer.TurnAnswer.TheVariants.{Nothing}
 use Rattle.plan_replay.specs.declared.place.PlanCursor.{PlanCursor}
@@ -32,7 +32,7 @@ same_done host build place (Ask cmd) answer new after is = ap (λ (p : PlanCurso
 same_done host build place Undo answer new after is = ap (λ (p : PlanCursor). p.done) is.1
 same_done host build place Abort answer new after is = many_same_done is.count is.begun build place answer new after is.is_turn
 same_done host build place Mark answer new after is = ap (λ (p : PlanCursor). p.done) is.place_is
-same_done host build place Back answer new after is = many_same_done (to_go_back host build place) host build place answer new after is
+same_done host build place Back answer new after is = many_same_done (undos_to_go host build place) host build place answer new after is
 
 -- the place that is read is that of the build
 pub place_is-place_of : (places : List PlanCursor) (build : ℕ) {n : ℕ} (read : PlanCursor) → build < n → n ≤ 8 → length places ≡ 8 → slice_index_or places build read ≡ place_of places build

@@ -106,8 +106,8 @@ above_mark host build (Some mark) = way_back host build mark
 above_mark host build None = Err NothingToUndo
 
 -- The number of operations that a way back has to undo. Its first turn asks for those above the build's last mark.
-abbrev pub to_go_back : HostView → ℕ → PlanCursor → Result ℕ Refusal
-to_go_back host build place = if place.left == 0 then above_mark host build place.mark else Ok place.left
+abbrev pub undos_to_go : HostView → ℕ → PlanCursor → Result ℕ Refusal
+undos_to_go host build place = if place.left == 0 then above_mark host build place.mark else Ok place.left
 
 -- ---- a step's turn
 
@@ -117,4 +117,4 @@ IsStepTurn host build place (Ask cmd) answer new after = IsCommandTurn host buil
 IsStepTurn host build place Undo answer new after = IsUndoTurn host build answer new × (after ≡ place)
 IsStepTurn host build place Abort answer new after = IsAbortTurn host build place answer new after
 IsStepTurn host build place KeepMark answer new after = IsMarkTurn host build place answer new after
-IsStepTurn host build place Back answer new after = IsTurnOfMany (to_go_back host build place) host build place answer new after
+IsStepTurn host build place Back answer new after = IsTurnOfMany (undos_to_go host build place) host build place answer new after

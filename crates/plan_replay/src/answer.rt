@@ -1,4 +1,4 @@
-//! The answer to a build's step in a turn, and the answer's text.
+//! Answers to builds' steps in the turns of a plan's run, and their texts.
 ghost use Rattle.std.specs.Prelude.{◌≡◌, ◌++◌, OnOk, string_bytes, [], IfOk};
 ghost use Rattle.plan_replay.specs.Text.{turn_line};
 
@@ -9,18 +9,19 @@ use realm_plan::{KindWord, Plan, PlanStep, RefusalText, ReplyText, StepText};
 use std::alloc::{AllocError, Global};
 use std::fmt;
 
-/// The answer to a build's step in a turn.
+/// The answer that a build's step gets in one turn of a plan's run.
 #[derive(Clone, Copy)]
 pub enum TurnAnswer {
     /// The reply to an accepted command.
     Replied(Reply),
-    /// A mark that was set. The number is that of the operations open at the mark.
+    /// The setting of a mark to which the build can be rolled back. The number is that of the operations open at the
+    /// mark.
     Marked(u16),
-    /// The kind of an operation that was undone. In an abort or a `back`, more are left to undo.
+    /// An operation that was undone, given by its kind. In an abort or a `back`, more are left to undo.
     Undone(Kind),
-    /// The end of an abort or a `back`. The kind is that of the last operation undone.
+    /// The last undo of an abort or of a step `back`. The kind is that of the operation undone.
     Ended(Kind),
-    /// An abort or a `back` with nothing to undo.
+    /// An abort or a step `back` that has nothing to undo.
     Nothing,
     Refused(Refusal),
 }
@@ -54,8 +55,8 @@ impl fmt::Display for TurnAnswer {
     }
 }
 
-/// Appends the line of a turn. The line has the build, the plan's step, and the answer. At an `Err` the text may have a
-/// part of it.
+/// Appends the output line of one turn of a plan's run. The line has the build, the plan's step, and the answer. At an
+/// `Err` the text may have a part of it.
 pub fn push_turn(
     text: &mut String,
     build: BuildId,
@@ -70,9 +71,9 @@ pub fn push_turn(
 /// The number of bytes to reserve for a line of output. Most lines have fewer.
 const BYTES_A_LINE: usize = 24;
 
-/// Creates an empty string for a run's output. Its capacity is estimated from the plan. A text that grows is copied,
-/// and takes the memory of both meanwhile. The one error is that allocation failed.
-pub fn text_for(alloc: Global, plan: &Plan) -> Result<String, AllocError>
+/// Creates an empty string for the output of a plan's run. Its capacity is estimated from the plan. A text that grows
+/// is copied, and takes the memory of both meanwhile. The one error is that allocation failed.
+pub fn empty_output_text(alloc: Global, plan: &Plan) -> Result<String, AllocError>
     ensures { IfOk result (λ text. string_bytes text ≡ []) }
 {
     let lines = plan.order.len() + plan.pages as usize;

@@ -10,8 +10,8 @@ ghost use Rattle.plan_replay.specs.Aborts.{ReportsOfAbort};
 ghost use Rattle.plan_replay.specs.Run.{Position, Turn, start, IsTurn, AreTurns, map_text};
 ghost use Rattle.plan_replay.specs.declared.answer.TurnAnswer.{TurnAnswer};
 
-/// A host's map does not reveal the schedule of its builds. If each build did the same on two hosts with the same
-/// limits, the hosts have the same map, whatever their schedules were.
+/// The printed map of a host does not reveal the schedule of its builds. If each build did the same on two hosts with
+/// the same limits, the hosts have the same map, whatever their schedules were.
 pub fn no_map_reveals_the_schedule()
     ensures { (host twin : HostView) → DidTheSame host twin → map_text twin ≡ map_text host }
 {}

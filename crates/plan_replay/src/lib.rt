@@ -13,7 +13,7 @@ mod place;
 mod run;
 mod turn;
 
-pub use answer::{TurnAnswer, push_turn, text_for};
+pub use answer::{TurnAnswer, empty_output_text, push_turn};
 pub use map::{map_text, push_map};
 pub use place::{GIVING_UP, PlanCursor, number_after};
 pub use run::{run_turns, step_after, take_turn};

@@ -1,4 +1,4 @@
-//! The map of a host's pages and realms.
+//! The printed map of a host: its pages and realms.
 ghost use Rattle.std.specs.Prelude.{◌≡◌, ◌++◌, OnOk, IfOk, string_bytes};
 ghost use Rattle.plan_replay.specs.Run.{pages_text, build_text, map_text};
 
@@ -40,8 +40,8 @@ fn push_build<S: PageStore>(
     }
 }
 
-/// Appends the map of a host. The map has the pages and the realm of each build, and the number of pages that no build
-/// leases. At an `Err` allocation failed, and the text may have a part of it.
+/// Appends the text of the map of a host's pages and realms. The map has the pages and the realm of each build, and the
+/// number of pages that no build leases. At an `Err` allocation failed, and the text may have a part of it.
 pub fn push_map<S: PageStore>(text: &mut String, host: &Host<S>) -> Result<(), AllocError>
     ensures { OnOk result (string_bytes text.new ≡ string_bytes text.old ++ map_text host.now) }
 {
@@ -51,8 +51,8 @@ pub fn push_map<S: PageStore>(text: &mut String, host: &Host<S>) -> Result<(), A
     push_free(text, host.free_count())
 }
 
-/// Returns the map of a host. The map has the pages and the realm of each build, and the number of pages that no build
-/// leases. The one error is that allocation failed.
+/// Returns the text of the map of a host's pages and realms. The map has the pages and the realm of each build, and the
+/// number of pages that no build leases. The one error is that allocation failed.
 pub fn map_text<S: PageStore>(alloc: Global, host: &Host<S>) -> Result<String, AllocError>
     ensures { IfOk result (λ text. string_bytes text ≡ map_text host.now) }
 {

@@ -1,4 +1,4 @@
-//! The cursor of a build in its plan.
+//! The position of a build in its plan.
 ghost use Rattle.std.specs.Prelude.{◌≡◌, ◌≤◌, ◌^◌, ◌<◌};
 ghost use Rattle.plan_replay.specs.Place.{first_place, giving_up, moved_on, number_after};
 
@@ -6,10 +6,10 @@ use crate::answer::TurnAnswer;
 use realm_host::Mark;
 use realm_plan::MOST_STEPS;
 
-/// The step number of a build's abort on giving up. The numbers of a plan's steps are lower.
+/// The step number for the abort with which a build gives up. The numbers of a plan's steps are lower.
 pub const GIVING_UP: usize = MOST_STEPS + 1;
 
-/// Returns the number of the step after step `done`. A refused step of a plan that gives up leads to the abort.
+/// Returns the number of the step that follows step `done`. A refused step of a plan that gives up leads to the abort.
 pub fn number_after(gives_up: bool, is_refused: bool, done: usize) -> usize
     requires { done < 2 ^ 32 }
     ensures { result ≡ number_after gives_up is_refused done }
@@ -43,8 +43,8 @@ impl PlanCursor {
         }
     }
 
-    /// Moves the cursor on after a turn. The cursor goes to the next step, unless the current step has undos left. The
-    /// turn's answer decides which step is next.
+    /// Moves the cursor to the next step, if the current step has no undos left. The turn's answer decides which step
+    /// is next.
     pub fn move_on(&mut self, gives_up: bool, answer: &TurnAnswer)
         requires { self.old.done ≤ giving_up }
         ensures { self.new ≡ moved_on gives_up answer.now self.old }

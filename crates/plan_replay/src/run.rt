@@ -1,4 +1,4 @@
-//! The turns of a plan, and the output line of each turn.
+//! The run of a plan's turns, and the output line of each turn.
 ghost use Rattle.std.specs.Prelude.{◌≡◌, ◌<◌, ◌≤◌, OnOk, IfSome, string_bytes, vec_len, option_map};
 ghost use Rattle.realm_plan.specs.PlanView.{plan_view};
 ghost use Rattle.plan_replay.specs.Place.{giving_up};
@@ -34,8 +34,8 @@ fn step_numbered<'a>(plan: &'a Plan, steps: &'a [PlanStep], number: usize) -> Op
     }
 }
 
-/// Returns the step of a build after `done` steps. Returns `None` if no step is left. After a refusal of a build that
-/// gives up, the step is an abort.
+/// Returns the next step of a build that has done `done` steps. Returns `None` if no step is left. After a refusal of a
+/// build that gives up, the step is an abort.
 pub fn step_after(plan: &Plan, build: usize, done: usize) -> Option<&PlanStep>
     ensures value { option_map (λ step. step.now) result ≡ nth_step (plan_view plan.now) build done }
     ensures few { IfSome result (λ _. done ≤ giving_up) }
@@ -46,7 +46,7 @@ pub fn step_after(plan: &Plan, build: usize, done: usize) -> Option<&PlanStep>
     }
 }
 
-/// Takes one turn of a build. Returns the step with its answer, or `None` if no step was left.
+/// Performs one turn of a build in a plan's run. Returns the step with its answer, or `None` if no step was left.
 pub fn take_turn<'a, S: PageStore>(
     host: &mut Host<S>,
     plan: &'a Plan,
@@ -83,7 +83,7 @@ fn turn<S: PageStore>(
     }
 }
 
-/// Performs the turns of a plan, and appends their lines. At an `Err` allocation failed.
+/// Performs all turns of a plan, and appends an output line for each. At an `Err` allocation failed.
 pub fn run_turns<S: PageStore>(
     host: &mut Host<S>,
     plan: &Plan,

@@ -1,7 +1,7 @@
 //! Functions that take a build's turn, one for each kind of step.
 ghost use Rattle.std.specs.Prelude.{◌≡◌, ◌<◌};
 ghost use Rattle.realm_plan.specs.Asked.{asked};
-ghost use Rattle.plan_replay.specs.Turn.{to_go_back, IsCommandTurn, IsUndoTurn, IsMarkTurn, IsOneOfMany, IsTurnOfMany, IsToAbort, IsAbortTurn, IsStepTurn};
+ghost use Rattle.plan_replay.specs.Turn.{undos_to_go, IsCommandTurn, IsUndoTurn, IsMarkTurn, IsOneOfMany, IsTurnOfMany, IsToAbort, IsAbortTurn, IsStepTurn};
 
 use crate::answer::TurnAnswer;
 use crate::place::PlanCursor;
@@ -83,7 +83,7 @@ fn turn_of_many<S: PageStore>(
 }
 
 // Begins an abort at its first turn, and returns the number of operations that are left to undo.
-fn to_abort<S: PageStore>(
+fn begin_or_continue_abort<S: PageStore>(
     host: &mut Host<S>,
     build: BuildId,
     place: &PlanCursor,
@@ -104,18 +104,18 @@ fn abort_turn<S: PageStore>(
 ) -> TurnAnswer
     ensures { IsAbortTurn host.old build place.old result host.new place.new }
 {
-    let count = to_abort(host, build, place);
+    let count = begin_or_continue_abort(host, build, place);
     turn_of_many(host, build, place, count)
 }
 
 // The number of operations that a `back` has left to undo. At its first turn, these are the operations above the
 // build's last mark.
-fn to_go_back<S: PageStore>(
+fn undos_to_go<S: PageStore>(
     host: &Host<S>,
     build: BuildId,
     place: &PlanCursor,
 ) -> Result<u16, Refusal>
-    ensures { result ≡ to_go_back host.now build place.now }
+    ensures { result ≡ undos_to_go host.now build place.now }
 {
     if place.left > 0 {
         return Ok(place.left);
@@ -127,9 +127,9 @@ fn to_go_back<S: PageStore>(
 }
 
 fn back_turn<S: PageStore>(host: &mut Host<S>, build: BuildId, place: &mut PlanCursor) -> TurnAnswer
-    ensures { IsTurnOfMany (to_go_back host.old build place.old) host.old build place.old result host.new place.new }
+    ensures { IsTurnOfMany (undos_to_go host.old build place.old) host.old build place.old result host.new place.new }
 {
-    let count = to_go_back(host, build, place);
+    let count = undos_to_go(host, build, place);
     turn_of_many(host, build, place, count)
 }
 
@@ -151,8 +151,8 @@ fn step_turn<S: PageStore>(
     }
 }
 
-/// Takes a turn of a build's step, and returns the answer. The cursor says afterwards how many undos of the step are
-/// left.
+/// Performs one turn of a build's step, and returns the answer. The cursor says afterwards how many undos of the step
+/// are left.
 pub fn plan_turn<S: PageStore>(
     host: &mut Host<S>,
     build: BuildId,
@@ -167,7 +167,7 @@ pub fn plan_turn<S: PageStore>(
     }
 }
 
-/// Returns the build at an index of a plan.
+/// Returns the identifier of the build with a given index in a plan.
 pub(crate) fn id_of(place: usize) -> BuildId
     requires { place < 8 }
     ensures { result ≡ place }

@@ -7,10 +7,10 @@ use Rattle.host_commands.specs.declared.refusal.Refusal.{Refusal}
 use Rattle.host_ledger.specs.View.{HostView, pages_of_build}
 use Rattle.realm_plan.specs.Plan.{Plan}
 use Rattle.plan_replay.specs.Run.{Position}
-use Rattle.plan_states.specs.Questions.{pages_of_builds, has_other_at_rest, is_answer, is_at_rest, is_of_shared, is_other_with, waits}
+use Rattle.plan_states.specs.Questions.{pages_of_builds, has_other_without_pages, is_answer, is_other_without_pages, is_of_shared, is_other_with, waits}
 use Rattle.plan_states.specs.Reached.{IsReached}
 use Rattle.plan_states.specs.Shortest.{EndsWithAnswer, IsRefusal, IsWait, Shows}
-use Rattle.plan_states.specs.Signs.{refuses_step}
+use Rattle.plan_states.specs.LabelProperties.{refuses_step}
 use Rattle.plan_states.specs.Turned.{end_taken}
 use Rattle.plan_states.specs.TurnTaken.{IsTurnTaken}
 use Rattle.plan_states.specs.declared.question.TurnQuestion.{TurnQuestion}
@@ -100,10 +100,10 @@ empty [] is = refl
 empty (x ∷ xs) is = absurd (omega arith)
 
 is_wait : (plan : Plan) (build : ℕ) (end : Option EndOfStep) (host : HostView)
-    → waits build end ≡ true → has_other_at_rest (length plan.builds) build (pages_of_builds host) ≡ true → IsWait plan build end host
+    → waits build end ≡ true → has_other_without_pages (length plan.builds) build (pages_of_builds host) ≡ true → IsWait plan build end host
 is_wait plan build end host waiting rests =
     let short = is_short build end waiting in
-    let other = passed (is_at_rest build (pages_of_builds host)) 0 (length plan.builds) rests in
+    let other = passed (is_other_without_pages build (pages_of_builds host)) 0 (length plan.builds) rests in
     let rest : ((not (other.one == build)) && (length (pages_of_build host other.one) == 0)) ≡ true =
     found (is_other_with build other.one) (λ b. length (pages_of_build host b)) refl 0 8 other.one other.one (sym (zero-add other.one)) other.passes in
     let parts = both (not (other.one == build)) (length (pages_of_build host other.one) == 0) rest in record {
@@ -122,7 +122,7 @@ shows_by : (plan : Plan) (question : TurnQuestion) (end : Option EndOfStep) (hos
     → is_answer (length plan.builds) question end (pages_of_builds host) ≡ true → Shows plan question end host
 shows_by plan (Refused build step) end host is = is_refusal build step end is
 shows_by plan (Waiting build) end host is =
-    let parts = both (waits build end) (has_other_at_rest (length plan.builds) build (pages_of_builds host)) is in is_wait plan build end host parts.0 parts.1
+    let parts = both (waits build end) (has_other_without_pages (length plan.builds) build (pages_of_builds host)) is in is_wait plan build end host parts.0 parts.1
 shows_by plan (Leased granules) end host is = leb-true granules (sum (pages_of_builds host)) is
 
 -- a schedule whose last turn answers the question

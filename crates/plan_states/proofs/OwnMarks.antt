@@ -15,7 +15,7 @@ use Rattle.realm_plan.specs.declared.step.PlanStep.{PlanStep}
 use Rattle.realm_program.specs.Replay.{opening_host}
 use Rattle.plan_replay.specs.Place.{first_place, moved_on}
 use Rattle.plan_replay.specs.Run.{Position, Turn, start, place_of, step_after, IsTurnOf, AreTurns}
-use Rattle.plan_replay.specs.Turn.{last_mark, to_go_back, IsOneOfMany, IsTurnOfMany, IsStepTurn}
+use Rattle.plan_replay.specs.Turn.{last_mark, undos_to_go, IsOneOfMany, IsTurnOfMany, IsStepTurn}
 use Rattle.plan_replay.specs.declared.answer.TurnAnswer.{TurnAnswer}
 use Rattle.plan_replay.specs.declared.answer.TurnAnswer.TheVariants.{Nothing}
 use Rattle.plan_replay.specs.declared.place.PlanCursor.{PlanCursor}
@@ -55,7 +55,7 @@ step_own host build place Abort answer new after is own =
 step_own host build place KeepMark answer new after is own =
     subst (λ (p : PlanCursor). IsOwn build p.mark) (sym is.place_is) (marked_own host build place.mark is.result new is.is_marked own)
 step_own host build place Back answer new after is own =
-    subst (IsOwn build) (sym (many_own (to_go_back host build place) host build place answer new after is)) own
+    subst (IsOwn build) (sym (many_own (undos_to_go host build place) host build place answer new after is)) own
 
 -- ---- turns
 

@@ -13,11 +13,11 @@ use Rattle.plan_states.specs.declared.edges.Label.{Label}
 
 -- ---- the tally of the paths like that
 
-module _ {K : Type 0} (like : Path Label → Bool) (thing : K) (ps : List (Path Label)) where
+module _ {K : Type 0} (like : Path Label → Bool) (outcome : K) (ps : List (Path Label)) where
   abbrev counted_as : ℕ → List ℕ → PathCount K
-  counted_as count first = record { thing = thing; count = count; first = first }
+  counted_as count first = record { outcome = outcome; count = count; first = first }
 
-  pub tally_of-none : first_like like ps ≡ None → None ≡ tally_of like thing ps
+  pub tally_of-none : first_like like ps ≡ None → None ≡ tally_of like outcome ps
   tally_of-none none = at (find like ps) none
     where
       at : (o : Option (Path Label)) → option_map (λ path. map (λ edge. edge.label) path) o ≡ None → None ≡ option_map (λ path. counted_as (length (filter like ps)) (builds_of_path path)) o
@@ -26,7 +26,7 @@ module _ {K : Type 0} (like : Path Label → Bool) (thing : K) (ps : List (Path 
 
   pub tally_of-some : (labels : List Label) (count : ℕ) (first : List ℕ)
       → first_like like ps ≡ Some labels → count ≡ length (filter like ps) → first ≡ map (λ label. label.build) labels
-      → Some (counted_as count first) ≡ tally_of like thing ps
+      → Some (counted_as count first) ≡ tally_of like outcome ps
   tally_of-some labels count first some number schedule = at (find like ps) some
     where
       at : (o : Option (Path Label)) → option_map (λ path. map (λ edge. edge.label) path) o ≡ Some labels → Some (counted_as count first) ≡ option_map (λ path. counted_as (length (filter like ps)) (builds_of_path path)) o
@@ -37,12 +37,12 @@ module _ {K : Type 0} (like : Path Label → Bool) (thing : K) (ps : List (Path 
           (λ i. Some (counted_as (number i) (are i)))
 
 -- the same by the numbers of the paths from each state
-pub tally-first : {K : Type 0} (like : Path Label → Bool) (thing : K) (layers : List (Layer Label)) (numbers : List (List ℕ)) (labels : List Label) (count : ℕ) (first : List ℕ)
+pub tally-first : {K : Type 0} (like : Path Label → Bool) (outcome : K) (layers : List (Layer Label)) (numbers : List (List ℕ)) (labels : List Label) (count : ℕ) (first : List ℕ)
     → ArePathNumbers like layers numbers → first_like like (paths layers 0) ≡ Some labels
     → count ≡ count_at (slice_index_or numbers 0 []) 0 → first ≡ map (λ label. label.build) labels
-    → Some (record { thing = thing; count = count; first = first }) ≡ tally_of like thing (paths layers 0)
-tally-first like thing layers numbers labels count first are some number schedule =
-    tally_of-some like thing (paths layers 0) labels count first some (number ∙ are 0 0) schedule
+    → Some (record { outcome = outcome; count = count; first = first }) ≡ tally_of like outcome (paths layers 0)
+tally-first like outcome layers numbers labels count first are some number schedule =
+    tally_of-some like outcome (paths layers 0) labels count first some (number ∙ are 0 0) schedule
 
 -- ---- the order of schedules
 

@@ -5,7 +5,7 @@ pub mod Whole
 pub mod Distinct
 pub mod TurnTaken
 pub mod Exploration
-pub mod Signs
+pub mod LabelProperties
 pub mod OrderText
 pub mod Lines
 pub mod Tallies

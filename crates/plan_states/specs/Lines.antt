@@ -26,11 +26,11 @@ words_of_end (Some refusal) = codes "no " ++ refusal_text refusal
 
 -- the number of schedules
 abbrev pub orders_line : ℕ → List ℕ
-orders_line orders = codes "orders " ++ (numeral orders ++ 10 ∷ [])
+orders_line schedule_count = codes "orders " ++ (numeral schedule_count ++ 10 ∷ [])
 
--- the number of schedules with an outcome, and the first of them, if not all `orders` have it
+-- the number of schedules with an outcome, and the first of them, if not all `schedule_count` have it
 abbrev pub share_text : ℕ → ℕ → List ℕ → List ℕ
-share_text orders count first = if count == orders then codes " in all\n" else codes " in " ++ (numeral count ++ (codes ", " ++ (schedule_text first ++ 10 ∷ [])))
+share_text schedule_count count first = if count == schedule_count then codes " in all\n" else codes " in " ++ (numeral count ++ (codes ", " ++ (schedule_text first ++ 10 ∷ [])))
 
 -- the words on whole schedules, by whether any step was refused
 abbrev pub refusal_words : Bool → List ℕ
@@ -38,43 +38,43 @@ refusal_words true = codes "some step refused"
 refusal_words false = codes "no step refused"
 
 abbrev pub refusals_line : ℕ → PathTally Bool → List ℕ
-refusals_line orders tally = refusal_words tally.thing ++ share_text orders tally.count tally.first.items
+refusals_line schedule_count tally = refusal_words tally.outcome ++ share_text schedule_count tally.count tally.first.items
 
 -- the build, the index of the step in it, the step as it is in the plan, and its end
 abbrev pub end_shown : ℕ → PlanStep → PathTally EndOfStep → List ℕ
-end_shown orders step tally =
+end_shown schedule_count step tally =
     codes "step "
-    ++ (decimal tally.thing.build
-    ++ (32 ∷ decimal tally.thing.step
-    ++ (32 ∷ spelling step ++ (codes " = " ++ (words_of_end tally.thing.refusal ++ share_text orders tally.count tally.first.items)))))
+    ++ (decimal tally.outcome.build
+    ++ (32 ∷ decimal tally.outcome.step
+    ++ (32 ∷ spelling step ++ (codes " = " ++ (words_of_end tally.outcome.refusal ++ share_text schedule_count tally.count tally.first.items)))))
 
 -- the build that gave up, and the end of its abort
 abbrev pub give_up_shown : ℕ → PathTally EndOfStep → List ℕ
-give_up_shown orders tally =
+give_up_shown schedule_count tally =
     codes "give up "
-    ++ (decimal tally.thing.build ++ (codes " = " ++ (words_of_end tally.thing.refusal ++ share_text orders tally.count tally.first.items)))
+    ++ (decimal tally.outcome.build ++ (codes " = " ++ (words_of_end tally.outcome.refusal ++ share_text schedule_count tally.count tally.first.items)))
 
 -- the number of schedules in which a build was never refused
 abbrev pub never_refused_line : ℕ → PathTally ℕ → List ℕ
-never_refused_line orders tally = codes "never refused " ++ (decimal tally.thing ++ share_text orders tally.count tally.first.items)
+never_refused_line schedule_count tally = codes "never refused " ++ (decimal tally.outcome ++ share_text schedule_count tally.count tally.first.items)
 
 -- the lines of a map in the end, by its number
 abbrev pub map_shown : ℕ → List ℕ → List ℕ → ℕ → List ℕ
-map_shown orders map first count = codes "map" ++ (share_text orders count first ++ map)
+map_shown schedule_count map first count = codes "map" ++ (share_text schedule_count count first ++ map)
 
 abbrev pub map_shown_by : ℕ → List (String Global) → PathTally ℕ → List ℕ
-map_shown_by orders maps tally =
-    elim (slice_get maps tally.thing) [ Some map ↦ map_shown orders (string_bytes map) tally.first.items tally.count | None ↦ [] ]
+map_shown_by schedule_count maps tally =
+    elim (slice_get maps tally.outcome) [ Some map ↦ map_shown schedule_count (string_bytes map) tally.first.items tally.count | None ↦ [] ]
 
 -- ---- the whole
 
 abbrev pub is_of_step : ℕ → ℕ → PathTally EndOfStep → Bool
-is_of_step build place tally = tally.thing.build == build && tally.thing.step == place
+is_of_step build place tally = tally.outcome.build == build && tally.outcome.step == place
 
 -- the ends of the step, if the plan has it
 abbrev pub step_ends : StepOutcomes → ℕ → ℕ → Option PlanStep → List ℕ
 step_ends outcomes build place None = []
-step_ends outcomes build place (Some step) = flat_map (end_shown outcomes.orders step) (filter (is_of_step build place) outcomes.ends.items)
+step_ends outcomes build place (Some step) = flat_map (end_shown outcomes.schedule_count step) (filter (is_of_step build place) outcomes.ends.items)
 
 abbrev pub step_number : Plan → ℕ → ℕ
 step_number plan build = unwrap_or (option_map length (slice_get plan.builds build)) 0
@@ -85,7 +85,7 @@ ends_of_step plan outcomes build place = step_ends outcomes build place (step_af
 -- the ends of the aborts with which a build gave up, if the plan gives up
 abbrev pub ends_of_giving_up : Plan → StepOutcomes → ℕ → List ℕ
 ends_of_giving_up plan outcomes build =
-    if plan.gives_up then flat_map (give_up_shown outcomes.orders) (filter (is_of_step build giving_up) outcomes.ends.items) else []
+    if plan.gives_up then flat_map (give_up_shown outcomes.schedule_count) (filter (is_of_step build giving_up) outcomes.ends.items) else []
 
 -- the ends of a build's steps, and of its giving up
 abbrev pub ends_of_build : Plan → StepOutcomes → ℕ → List ℕ
@@ -94,19 +94,19 @@ ends_of_build plan outcomes build =
 
 -- the number of schedules in which the build was never refused, even if 0
 abbrev pub never_refused_lines : ℕ → List (PathTally ℕ) → ℕ → List ℕ
-never_refused_lines orders [] build = codes "never refused " ++ (decimal build ++ codes " in 0\n")
-never_refused_lines orders (tally ∷ smooth) build = if tally.thing == build then never_refused_line orders tally else never_refused_lines orders smooth build
+never_refused_lines schedule_count [] build = codes "never refused " ++ (decimal build ++ codes " in 0\n")
+never_refused_lines schedule_count (tally ∷ never_refused) build = if tally.outcome == build then never_refused_line schedule_count tally else never_refused_lines schedule_count never_refused build
 
 -- The number of schedules in which nothing was refused. The number of those in which each step of each build ended in
 -- each way, and in which each build was never refused.
 abbrev pub step_outcomes_text : Plan → StepOutcomes → List ℕ
 step_outcomes_text plan outcomes =
-    flat_map (refusals_line outcomes.orders) outcomes.wholes.items
+    flat_map (refusals_line outcomes.schedule_count) outcomes.by_refusal.items
     ++ (flat_map (ends_of_build plan outcomes) (range_with_len 0 (length plan.builds))
-    ++ flat_map (never_refused_lines outcomes.orders outcomes.smooth.items) (range_with_len 0 (length plan.builds)))
+    ++ flat_map (never_refused_lines outcomes.schedule_count outcomes.never_refused.items) (range_with_len 0 (length plan.builds)))
 
 -- the outcomes of all schedules
 abbrev pub outcomes_text : Plan → List (String Global) → Outcomes → List ℕ
 outcomes_text plan maps outcomes =
-    orders_line outcomes.steps.orders
-    ++ (step_outcomes_text plan outcomes.steps ++ flat_map (map_shown_by outcomes.steps.orders maps) outcomes.maps.items)
+    orders_line outcomes.steps.schedule_count
+    ++ (step_outcomes_text plan outcomes.steps ++ flat_map (map_shown_by outcomes.steps.schedule_count maps) outcomes.maps.items)

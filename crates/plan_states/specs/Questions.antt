@@ -4,7 +4,7 @@ use Rattle.std.specs.List.{list_any, range_with_len}
 use Rattle.host_commands.specs.declared.refusal.Refusal.{Refusal}
 use Rattle.host_commands.specs.declared.refusal.Refusal.TheVariants.{NoBlock, NoVmid}
 use Rattle.host_ledger.specs.View.{HostView, pages_of_build}
-use Rattle.plan_states.specs.Signs.{refuses_step}
+use Rattle.plan_states.specs.LabelProperties.{refuses_step}
 use Rattle.plan_states.specs.declared.edges.Label.{Label}
 use Rattle.plan_states.specs.declared.question.TurnQuestion.{TurnQuestion}
 use Rattle.plan_states.specs.declared.question.TurnQuestion.TheVariants.{Refused, Waiting, Leased}
@@ -32,16 +32,16 @@ is_other_with build other None = false
 is_other_with build other (Some pages) = not (other == build) && pages == 0
 
 -- the build is another one, and holds nothing
-abbrev pub is_at_rest : ℕ → List ℕ → ℕ → Bool
-is_at_rest build held other = is_other_with build other (slice_get held other)
+abbrev pub is_other_without_pages : ℕ → List ℕ → ℕ → Bool
+is_other_without_pages build held other = is_other_with build other (slice_get held other)
 
-abbrev pub has_other_at_rest : ℕ → ℕ → List ℕ → Bool
-has_other_at_rest builds build held = list_any (is_at_rest build held) (range_with_len 0 builds)
+abbrev pub has_other_without_pages : ℕ → ℕ → List ℕ → Bool
+has_other_without_pages builds build held = list_any (is_other_without_pages build held) (range_with_len 0 builds)
 
 -- the turn answers the question, on a machine of so many builds
 abbrev pub is_answer : ℕ → TurnQuestion → Option EndOfStep → List ℕ → Bool
 is_answer builds (Refused build step) end held = refuses_step build step end
-is_answer builds (Waiting build) end held = waits build end && has_other_at_rest builds build held
+is_answer builds (Waiting build) end held = waits build end && has_other_without_pages builds build held
 is_answer builds (Leased granules) end held = nat_le granules (sum held)
 
 -- ---- by a label

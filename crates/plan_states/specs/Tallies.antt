@@ -3,16 +3,16 @@ use Rattle.std.specs.Prelude.{◌≡◌, ℕ, zero, suc, nat_lt, ◌==◌, if◌
 use Rattle.std.specs.List.{find, insert}
 use Rattle.schedule_graph.specs.First.{layers_in, shows_none}
 use Rattle.schedule_graph.specs.Paths.{Layer, Path, paths, shows}
-use Rattle.plan_states.specs.Signs.{has_number, is_refusal_of}
+use Rattle.plan_states.specs.LabelProperties.{has_number, is_refusal_of}
 use Rattle.plan_states.specs.declared.edges.Label.{Label}
 use Rattle.plan_states.specs.declared.graph.Graph.{Graph}
 use Rattle.plan_states.specs.declared.step_end.EndOfStep.{EndOfStep}
 use Rattle.plan_states.specs.declared.tally.Outcomes.{Outcomes}
 use Rattle.plan_states.specs.declared.tally.PathTally.{PathTally}
 
--- The number of paths that show a thing, and the schedule of the first of them.
+-- The number of paths that show an outcome, and the schedule of the first of them.
 pub record PathCount (K : Type 0) : Type 0 where
-  pub thing : K
+  pub outcome : K
   pub count : ℕ
   pub first : List ℕ
 
@@ -24,12 +24,12 @@ abbrev pub builds_of_path : Path Label → List ℕ
 builds_of_path path = map (λ edge. edge.label.build) path
 
 abbrev pub count_of_tally : {K : Type 0} → PathTally K → PathCount K
-count_of_tally tally = record { thing = tally.thing; count = tally.count; first = tally.first.items }
+count_of_tally tally = record { outcome = tally.outcome; count = tally.count; first = tally.first.items }
 
 -- the number of the paths like that, and the schedule of the first of them, if there is one
 abbrev pub tally_of : {K : Type 0} → (Path Label → Bool) → K → List (Path Label) → Option (PathCount K)
-tally_of like thing ps =
-    option_map (λ path. record { thing = thing; count = length (filter like ps); first = builds_of_path path }) (find like ps)
+tally_of like outcome ps =
+    option_map (λ path. record { outcome = outcome; count = length (filter like ps); first = builds_of_path path }) (find like ps)
 
 -- ---- the order of tallies
 
@@ -74,8 +74,8 @@ abbrev pub end_tally : Graph → ℕ → Option (PathCount EndOfStep)
 end_tally graph number = tally_of_end graph number (slice_get graph.ends.items number)
 
 -- the builds that were never refused
-abbrev pub smooth_tally : Graph → ℕ → Option (PathCount ℕ)
-smooth_tally graph build = tally_of (shows_none (is_refusal_of graph.ends.items (Some build))) build (paths_of graph)
+abbrev pub never_refused_tally : Graph → ℕ → Option (PathCount ℕ)
+never_refused_tally graph build = tally_of (shows_none (is_refusal_of graph.ends.items (Some build))) build (paths_of graph)
 
 abbrev pub map_tally : Graph → ℕ → Option (PathCount ℕ)
 map_tally graph map = tally_of (shows (λ label. has_number map label.map)) map (paths_of graph)
@@ -84,13 +84,13 @@ map_tally graph map = tally_of (shows (λ label. has_number map label.map)) map 
 abbrev pub map_tallies : Graph → List (PathCount ℕ)
 map_tallies graph =
     if length graph.layers.items == 1
-    then record { thing = 0; count = 1; first = [] } ∷ []
+    then record { outcome = 0; count = 1; first = [] } ∷ []
     else all_added (map_tally graph) (length graph.maps.items)
 
 -- The outcomes are those of the graph's paths.
 pub record AreOutcomes (builds : ℕ) (graph : Graph) (outcomes : Outcomes) : Type 0 where
-  pub orders : outcomes.steps.orders ≡ length (paths_of graph)
-  pub wholes : map count_of_tally outcomes.steps.wholes.items ≡ whole_tallies graph
+  pub schedule_count : outcomes.steps.schedule_count ≡ length (paths_of graph)
+  pub by_refusal : map count_of_tally outcomes.steps.by_refusal.items ≡ whole_tallies graph
   pub ends : map count_of_tally outcomes.steps.ends.items ≡ all_added (end_tally graph) (length graph.ends.items)
-  pub smooth : map count_of_tally outcomes.steps.smooth.items ≡ all_added (smooth_tally graph) builds
+  pub never_refused : map count_of_tally outcomes.steps.never_refused.items ≡ all_added (never_refused_tally graph) builds
   pub maps : map count_of_tally outcomes.maps.items ≡ map_tallies graph

@@ -1,4 +1,4 @@
-//! The check for duplicates in a graph. No outcome of a step is listed twice, and no final map.
+//! The check that a state graph lists no step outcome or page map twice.
 ghost use Rattle.std.specs.Prelude.{◌≢◌, ◌<◌, length};
 ghost use Rattle.std.specs.Bool.{OnTrue, OnFalse};
 ghost use Rattle.plan_states.specs.Distinct.{AreEndsDistinct, AreMapsDistinct, IsGraphDistinct, IsNewEnd, IsNewMap};
@@ -70,7 +70,7 @@ fn are_maps_distinct(maps: &[String]) -> bool
     true
 }
 
-/// Whether a graph has no duplicates. Then each step outcome is listed only once, and so is each map.
+/// Whether a state graph lists each step outcome and each page map only once.
 pub(crate) fn is_distinct(graph: &Graph) -> bool
     ensures { OnTrue result (IsGraphDistinct graph.now) }
 {

@@ -14,7 +14,7 @@ use crate::running::{Running, has_more, run_to};
 use crate::runs::are_paths_runs;
 use crate::state::State;
 use crate::step_end::EndOfStep;
-use crate::turns::{After, Before, Turns, before_turn};
+use crate::turns::{TurnInputs, TurnOutcome, Turns, before_turn};
 use crate::whole::{StepsDone, is_whole};
 use plan_replay::map_text;
 use realm_plan::Plan;
@@ -23,21 +23,22 @@ use schedule_graph::Edge;
 use std::alloc::{AllocError, Global};
 use std::collections::HashMap;
 
-/// A layer of a graph: the edges that lead from each state. The states of a layer are those after the same number of
-/// turns.
+/// The edges that lead from each state of one layer of a state graph. The states of a layer are those after the same
+/// number of turns.
 pub type Layer = Vec<Vec<Edge<Label>>>;
 
-/// The graph of all schedules of a plan, layer by layer. Its first layer has one state.
+/// The state graph of a plan, whose paths are the plan's schedules. It is a list of layers, and its first layer has one
+/// state.
 #[derive(Drop)]
 pub struct Graph {
     pub layers: Vec<Layer>,
-    /// The progress of the builds in each state of each layer. It is the number of steps that each build has done.
+    /// The number of steps that each build has done, by layer and state.
     pub progress: Vec<Vec<StepsDone>>,
     /// The outcomes of steps, indexed by `Label::end`.
     pub ends: Vec<EndOfStep>,
     /// The builds' page counts after turns, indexed by `Label::held`.
     pub held: Vec<PagesHeld>,
-    /// The final maps, indexed by `Label::map`.
+    /// The maps of pages at the ends of runs, indexed by `Label::map`.
     pub maps: Vec<String>,
 }
 
@@ -45,13 +46,13 @@ pub struct Graph {
 #[derive(Drop)]
 pub enum Exploration {
     All(Graph),
-    /// More states than were allowed.
+    /// The case that the state graph has more states than the caller allowed.
     TooMany,
 }
 
 // The turn by which a state was first reached: the previous state's index in its layer, and the turn's build.
 #[derive(Clone, Copy)]
-struct Came {
+struct FirstArrival {
     from: usize,
     build: usize,
 }
@@ -69,7 +70,7 @@ struct Target {
 #[derive(Drop)]
 struct Front {
     states: Vec<State>,
-    came: Vec<Came>,
+    came: Vec<FirstArrival>,
     targets: HashMap<State, Target>,
 }
 
@@ -78,7 +79,7 @@ struct Front {
 #[derive(Drop)]
 struct Explorer {
     turns: Turns,
-    came: Vec<Vec<Came>>,
+    came: Vec<Vec<FirstArrival>>,
     held: Holdings,
     maps: Vec<String>,
 }
@@ -106,7 +107,7 @@ impl Front {
     fn add(
         &mut self,
         state: State,
-        came: Came,
+        came: FirstArrival,
         held: usize,
         map: Option<usize>,
     ) -> Result<Target, AllocError>
@@ -127,7 +128,7 @@ fn progress_of(alloc: Global, states: &[State]) -> Result<Vec<StepsDone>, AllocE
 }
 
 // The first schedule that leads to a state of the last layer. `Mismatch`: there is no such state.
-fn order_to(alloc: Global, came: &[Vec<Came>], place: usize) -> Result<Vec<usize>, Fault>
+fn order_to(alloc: Global, came: &[Vec<FirstArrival>], place: usize) -> Result<Vec<usize>, Fault>
     ensures { IfErr result HasNoGraph }
 {
     let mut order = Vec::new(alloc);
@@ -194,8 +195,8 @@ impl Explorer {
         plan: &Plan,
         place: usize,
         build: usize,
-        before: Before,
-    ) -> Result<After, Fault>
+        before: TurnInputs,
+    ) -> Result<TurnOutcome, Fault>
         requires { AreOfRuns (plan_view plan.now) self.old.turns.ends.items self.old.maps.items }
         ensures ok { OnOk result (AreOfRuns (plan_view plan.now) self.new.turns.ends.items self.new.maps.items) }
         ensures err { IfErr result HasNoGraph }
@@ -214,7 +215,7 @@ impl Explorer {
         plan: &Plan,
         next: &mut Front,
         state: State,
-        came: Came,
+        came: FirstArrival,
     ) -> Result<Target, Fault>
         requires { AreOfRuns (plan_view plan.now) self.old.turns.ends.items self.old.maps.items }
         ensures ok { OnOk result (AreOfRuns (plan_view plan.now) self.new.turns.ends.items self.new.maps.items) }
@@ -253,7 +254,7 @@ impl Explorer {
             };
             let after = self.turn(alloc, plan, place, build, before)?;
             let then = self.turns.state_after(state, build, after)?;
-            let came = Came { from: place, build };
+            let came = FirstArrival { from: place, build };
             let Target { to, held, map } = self.target(alloc, plan, next, then, came)?;
             let label = Label {
                 build,
@@ -310,7 +311,7 @@ fn search(alloc: Global, plan: &Plan, most: usize) -> Result<Option<Graph>, Faul
     }
     let held = it.held.number_of(first.held())?;
     let mut front = Front::new(alloc);
-    front.add(first, Came { from: 0, build: 0 }, held, None)?;
+    front.add(first, FirstArrival { from: 0, build: 0 }, held, None)?;
     let mut layers = Vec::new(alloc);
     let mut progress = Vec::new(alloc);
     let mut room = most;
@@ -349,8 +350,8 @@ fn search(alloc: Global, plan: &Plan, most: usize) -> Result<Option<Graph>, Faul
     }))
 }
 
-/// Explores all schedules of a plan. Returns the whole graph, or `TooMany` if it has more than `most` states. Each path
-/// of the graph is a run of the plan.
+/// Creates and checks the state graph of a plan's schedules. Returns the whole graph, or `TooMany` if it has more than
+/// `most` states. Each path of the graph is a run of the plan.
 ///
 /// Errors. `Memory`: allocation failed. `Mismatch`: a run does not go on as another run said, a turn is missing in the
 /// graph, or an end or a map is there twice. None happens on a host that gives the same answers to the same calls.

@@ -1,4 +1,4 @@
-//! The table of builds' page counts.
+//! A table of the builds' page counts after turns, by index.
 ghost use Rattle.std.specs.Prelude.{◌≡◌, IfOk, IfSome, OnOk, Some, slice_get};
 ghost use Rattle.plan_states.specs.Turned.{AreWith};
 
@@ -6,7 +6,8 @@ use crate::question::PagesHeld;
 use std::alloc::{AllocError, Global};
 use std::collections::HashMap;
 
-/// A table of builds' page counts after turns. Each entry has an index.
+/// An indexed table of the numbers of pages that builds hold after turns. Each entry has the page counts of all builds
+/// after a turn.
 #[derive(Drop)]
 pub(crate) struct Holdings {
     numbers: HashMap<PagesHeld, usize>,
@@ -14,7 +15,7 @@ pub(crate) struct Holdings {
 }
 
 impl Holdings {
-    /// Creates an empty table.
+    /// Creates an empty table of page counts.
     pub(crate) fn new(alloc: Global) -> Holdings {
         Holdings {
             numbers: HashMap::new(alloc),

@@ -1,5 +1,5 @@
-//! Theorems on the schedules of plans. In a whole graph, each build with a step left in a state has exactly one edge
-//! from that state (`whole.rt`).
+//! Theorems on plans' schedules and the paths of their state graphs. In a whole graph, each build with a step left in a
+//! state has exactly one edge from that state (`whole.rt`).
 ghost use Rattle.std.specs.Prelude.{◌≡◌, ◌+◌, ◌<◌, ◌≤◌, ℕ, Bool, true, false, List, [], All, AllPairs, Contains, length, map};
 ghost use Rattle.std.specs.List.{range_with_len};
 ghost use Rattle.realm_plan.specs.Plan.{Plan};
@@ -12,9 +12,8 @@ ghost use Rattle.plan_states.specs.Whole.{IsWholeGraph};
 ghost use Rattle.plan_states.specs.declared.edges.Label.{Label};
 ghost use Rattle.plan_states.specs.declared.graph.Graph.{Graph};
 
-/// The paths of a whole graph have exactly a rule's schedules. This holds if the rule agrees with the paths. A rule
-/// says which of eight builds have a step left after which turns. Each schedule of the rule is the schedule of a path,
-/// and each path has a schedule of the rule.
+/// The schedules that a scheduling rule allows are exactly those of a state graph's paths. This holds if the graph is
+/// whole and the rule agrees with its paths. A rule says which of eight builds have a step left after which turns.
 pub fn every_schedule_is_a_path()
     ensures found { (plan : Plan) (graph : Graph) (left : List ℕ → ℕ → Bool) → IsWholeGraph plan graph → IsRuleOf plan graph left
         → (order : List ℕ) → IsSchedule left [] order → Contains (map builds_of_path (paths_of graph)) order }
@@ -22,65 +21,67 @@ pub fn every_schedule_is_a_path()
         → All (IsSchedule left []) (map builds_of_path (paths_of graph)) }
 {}
 
-/// The list of a rule's schedules equals that of the paths' schedules. This holds if the rule agrees with the paths of
-/// a whole graph. The rule's list may have schedules of more turns than the graph has layers, but there are none. So a
-/// sum over the paths is the sum over all schedules.
+/// A scheduling rule lists the same schedules as the paths of a state graph. This holds if the graph is whole and the
+/// rule agrees with its paths. The rule's list may have schedules of more turns than the graph has layers, but there
+/// are none. So a sum over the paths is the sum over all schedules.
 pub fn paths_are_all_schedules()
     ensures { (plan : Plan) (graph : Graph) (left : List ℕ → ℕ → Bool) → IsWholeGraph plan graph → IsRuleOf plan graph left
         → (most : ℕ) → length graph.layers.items ≤ most + 1 → map builds_of_path (paths_of graph) ≡ schedules_after left most [] }
 {}
 
-/// The paths of a whole graph are sorted by schedule. Their schedules are in strictly ascending lexicographic order. Of
-/// two paths the earlier has the lower build at the first turn at which they differ. So no two paths have the same
-/// schedule, and a count of paths is one of schedules.
+/// The paths of a state graph are in ascending order of their schedules. This holds for a whole graph. The order is
+/// lexicographic and strict: of two paths the earlier has the lower build at the first turn at which they differ. So no
+/// two paths have the same schedule, and a count of paths is one of schedules.
 pub fn path_schedules_rise()
     ensures rise { (plan : Plan) (graph : Graph) → IsWholeGraph plan graph
         → AllPairs (λ (one other : List ℕ). is_before one other ≡ true) (map builds_of_path (paths_of graph)) }
     ensures never_twice { (order : List ℕ) → is_before order order ≡ false }
 {}
 
-/// Each whole graph has a rule that agrees with its paths. After given turns, a build has a step left by the number
-/// that these turns lead to in the graph. So of any plan the paths are all schedules by this rule.
+/// Each whole state graph yields a scheduling rule that agrees with the graph's paths. After given turns, a build has a
+/// step left by the number that these turns lead to in the graph. So of any plan the paths are all schedules by this
+/// rule.
 pub fn a_whole_graph_has_a_rule()
     ensures { (plan : Plan) (graph : Graph) → IsWholeGraph plan graph → IsRuleOf plan graph (own_rule plan graph) }
 {}
 
-/// A build's progress along a path is a number of turns. It counts the turns that use up a step of the build, unless
-/// the plan's builds give up.
+/// On a graph's path, a build has done as many steps as its turns ended. This holds unless the plan's builds give up.
 pub fn steps_are_counted()
     ensures { (plan : Plan) (graph : Graph) (path : Path Label) (build : ℕ) → plan.gives_up ≡ false → done_by plan graph path build ≡ used_by path build }
 {}
 
-/// The rule of a plan with single turns needs no graph. Each step takes one turn if the plan has no step `abort` or
-/// `back`, and its builds do not give up. Then a build has a step left if it had fewer turns than steps. So the paths
-/// of a whole graph are all interleavings of the builds' steps.
+/// If each step takes one turn, counting each build's turns gives a scheduling rule. Each step takes one turn if the
+/// plan has no step `abort` or `back`, and its builds do not give up. Then a build has a step left if it had fewer
+/// turns than steps. So the paths of a whole graph are all interleavings of the builds' steps.
 pub fn single_turns_make_a_rule()
     ensures { (plan : Plan) (graph : Graph) → IsWholeGraph plan graph → HasSingleTurns plan → IsRuleOf plan graph (by_turns plan) }
 {}
 
-/// Each build finishes each of its steps once, in the plan's sequence. This holds along each path of a whole graph,
-/// unless builds give up.
+/// On each path of a state graph, each build finishes every step once, in sequence. The sequence is that of the plan.
+/// This holds for a whole graph, unless builds give up.
 pub fn paths_end_each_step()
     ensures { (plan : Plan) (graph : Graph) → IsWholeGraph plan graph → plan.gives_up ≡ false
         → All (λ (path : Path Label). (build : ℕ) → build < 8 → steps_ended graph.ends.items build path ≡ range_with_len 0 (step_number plan build))
         (paths_of graph) }
 {}
 
-/// Each build finishes its steps in sequence until none is left. This holds along each path of a whole graph, even if
-/// builds give up. If they do, a refused step is followed by the build's abort, and nothing comes after the abort.
+/// On each path of a state graph, a build's finished steps follow the plan's sequence. They do so until no step is
+/// left. This holds for a whole graph, even if builds give up. If they do, a refused step is followed by the build's
+/// abort, and nothing comes after the abort.
 pub fn paths_end_steps_in_sequence()
     ensures { (plan : Plan) (graph : Graph) → IsWholeGraph plan graph
         → All (λ (path : Path Label). (build : ℕ) → build < 8 → AreInSequence plan build 0 (ends_of graph.ends.items build path)) (paths_of graph) }
 {}
 
-/// Each schedule of a rule is run along a path. This holds if the rule agrees with the paths of a whole graph, and the
-/// paths are runs from boot. Each turn ends its step as the path says, and the final map is the path's own.
+/// Each schedule allowed by a scheduling rule has a graph path that describes its run. This holds if the rule agrees
+/// with the paths of a whole graph, and the paths are runs from boot. Each turn ends its step as the path says, and the
+/// final map is the path's own.
 pub fn every_schedule_is_run()
     ensures { (plan : Plan) (graph : Graph) (left : List ℕ → ℕ → Bool) → IsWholeGraph plan graph → ArePathsRuns plan graph → IsRuleOf plan graph left
         → (order : List ℕ) → IsSchedule left [] order → IsRunOnPath plan graph order }
 {}
 
-/// A run along a path is also a run in the path's schedule. Both are runs of a plan from boot. If the path's last turn
+/// A run along a graph path is a plan's run with the path's schedule. Both are runs from boot. If the path's last turn
 /// names a map, no build has a step left after that turn, and the map is the final map.
 pub fn runs_on_paths_are_runs()
     ensures { (plan : Plan) (graph : Graph) (path : Path Label) → IsRunFromBoot plan graph path → IsRunOf plan graph path }

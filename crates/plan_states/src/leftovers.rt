@@ -1,4 +1,4 @@
-//! The check that each build with no open operations leaves nothing behind. A theorem says that the check always
+//! The check that builds with no open operations have no effect on the page map. A theorem says that the check always
 //! succeeds.
 ghost use Rattle.std.specs.Prelude.{◌≡◌, true, [], IfOk, string_bytes};
 ghost use Rattle.host_ledger.specs.View.{open_of};
@@ -30,8 +30,9 @@ fn is_unseen(
     Ok(without.as_str() == map)
 }
 
-/// Whether builds with no open operations leave nothing behind. The host's map has to stay the same if any one of them
-/// is left out of the history. A theorem says that it always does. The one error is that allocation failed.
+/// Whether builds with no open operations have no effect on the host's page map. The map has to stay the same if any
+/// one of these builds is left out of the history. A theorem says that it always does. The one error is that allocation
+/// failed.
 pub fn leave_nothing(
     alloc: Global,
     plan: &Plan,
@@ -44,8 +45,8 @@ pub fn leave_nothing(
 {
     for place in 0..plan.builds.len() {
         let build = BuildId::new(place as u8).unwrap();
-        let is_at_rest = ledger.open_above(build, 0).is_empty();
-        if is_at_rest && !is_unseen(alloc, plan, ledger, build, map)? {
+        let is_other_without_pages = ledger.open_above(build, 0).is_empty();
+        if is_other_without_pages && !is_unseen(alloc, plan, ledger, build, map)? {
             return Ok(false);
         }
     }

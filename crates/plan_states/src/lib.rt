@@ -2,16 +2,17 @@
 //!
 //! Schedules that have led to the same state are one from there on. A state is what each build did, and which blocks
 //! were leased and given back (`state.rt`). The states after as many turns are a layer (`graph.rt`). A turn of a build
-//! is run once for all states in which it depends on the same things (`turns.rt`). That no turn is missing is checked in
-//! the end (`whole.rt`), and that each path is a run with its ends and its map (`runs.rt`). So the paths are all
-//! schedules, each once (`law.rt`). Outcomes are counted as paths (`outcomes.rt`), and the first schedule of each is its
-//! first path.
+//! is run once for all states in which it depends on the same things (`turns.rt`). That no turn is missing is checked
+//! in the end (`whole.rt`), and that each path is a run with its ends and its map (`runs.rt`). So the paths are all
+//! schedules, each once (`law.rt`). Outcomes are counted as paths (`outcomes.rt`), and the first schedule of each is
+//! its first path.
 #![tactic(auto)]
 
 mod distinct;
 mod edges;
 mod graph;
 mod holdings;
+mod label_properties;
 pub mod law;
 mod leftovers;
 mod lines;
@@ -22,7 +23,6 @@ mod running;
 mod runs;
 mod schedule_text;
 mod shortest;
-mod signs;
 mod snapshot;
 mod state;
 mod step_end;

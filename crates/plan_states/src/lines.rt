@@ -1,4 +1,4 @@
-//! The lines that print the outcomes of schedules.
+//! The lines of text for the outcomes of schedules.
 ghost use Rattle.std.specs.Prelude.{◌≡◌, ◌++◌, OnOk, string_bytes};
 ghost use Rattle.std.specs.List.{flat_map};
 ghost use Rattle.realm_plan.specs.PlanView.{plan_view};
@@ -33,24 +33,24 @@ impl fmt::Display for EndWords {
 }
 
 /// Appends the line with the number of schedules.
-pub(crate) fn push_count(text: &mut String, orders: &Count) -> Result<(), AllocError>
-    ensures { OnOk result (string_bytes text.new ≡ string_bytes text.old ++ orders_line orders.now) }
+pub(crate) fn push_count(text: &mut String, schedule_count: &Count) -> Result<(), AllocError>
+    ensures { OnOk result (string_bytes text.new ≡ string_bytes text.old ++ orders_line schedule_count.now) }
 {
     text.push_str("orders ")?;
-    orders.push_to(text)?;
+    schedule_count.push_to(text)?;
     text.push_str("\n")
 }
 
 // Appends the number of schedules with an outcome and the first such schedule, or `in all` if every schedule has it.
 fn push_shown(
     text: &mut String,
-    orders: &Count,
+    schedule_count: &Count,
     count: &Count,
     first: &[usize],
 ) -> Result<(), AllocError>
-    ensures { OnOk result (string_bytes text.new ≡ string_bytes text.old ++ share_text orders.now count.now first.now) }
+    ensures { OnOk result (string_bytes text.new ≡ string_bytes text.old ++ share_text schedule_count.now count.now first.now) }
 {
-    if count.is_same(orders) {
+    if count.is_same(schedule_count) {
         return text.push_str(" in all\n");
     }
     text.push_str(" in ")?;
@@ -70,16 +70,16 @@ fn refusal_words(is_refused: bool) -> &'static str
 }
 
 /// Appends the counts of schedules with and without a refused step. Each count is a line.
-pub(crate) fn push_wholes(
+pub(crate) fn push_by_refusal(
     text: &mut String,
-    orders: &Count,
-    wholes: &[PathTally<bool>],
+    schedule_count: &Count,
+    by_refusal: &[PathTally<bool>],
 ) -> Result<(), AllocError>
-    ensures { OnOk result (string_bytes text.new ≡ string_bytes text.old ++ flat_map (refusals_line orders.now) wholes.now) }
+    ensures { OnOk result (string_bytes text.new ≡ string_bytes text.old ++ flat_map (refusals_line schedule_count.now) by_refusal.now) }
 {
-    for tally in wholes {
-        text.push_str(refusal_words(tally.thing))?;
-        push_shown(text, orders, &tally.count, &tally.first)?;
+    for tally in by_refusal {
+        text.push_str(refusal_words(tally.outcome))?;
+        push_shown(text, schedule_count, &tally.count, &tally.first)?;
     }
     Ok(())
 }
@@ -87,13 +87,13 @@ pub(crate) fn push_wholes(
 // Appends the line for one outcome of a build's step.
 fn push_end(
     text: &mut String,
-    orders: &Count,
+    schedule_count: &Count,
     step: &PlanStep,
     tally: &PathTally<EndOfStep>,
 ) -> Result<(), AllocError>
-    ensures { OnOk result (string_bytes text.new ≡ string_bytes text.old ++ end_shown orders.now step.now tally.now) }
+    ensures { OnOk result (string_bytes text.new ≡ string_bytes text.old ++ end_shown schedule_count.now step.now tally.now) }
 {
-    let end = tally.thing;
+    let end = tally.outcome;
     let words = EndWords(end.refusal);
     write!(
         text,
@@ -102,7 +102,7 @@ fn push_end(
         end.step,
         StepText(step)
     )?;
-    push_shown(text, orders, &tally.count, &tally.first)
+    push_shown(text, schedule_count, &tally.count, &tally.first)
 }
 
 /// Appends the lines for the outcomes of a build's step. Appends nothing if the plan has no such step.
@@ -119,8 +119,8 @@ pub(crate) fn push_step(
         return Ok(());
     };
     for tally in &outcomes.ends {
-        if tally.thing.build == build && tally.thing.step == place {
-            push_end(text, &outcomes.orders, step, tally)?;
+        if tally.outcome.build == build && tally.outcome.step == place {
+            push_end(text, &outcomes.schedule_count, step, tally)?;
         }
     }
     Ok(())
@@ -129,18 +129,18 @@ pub(crate) fn push_step(
 // Appends the line for one outcome of the abort of a build that gives up.
 fn push_give_up(
     text: &mut String,
-    orders: &Count,
+    schedule_count: &Count,
     tally: &PathTally<EndOfStep>,
 ) -> Result<(), AllocError>
-    ensures { OnOk result (string_bytes text.new ≡ string_bytes text.old ++ give_up_shown orders.now tally.now) }
+    ensures { OnOk result (string_bytes text.new ≡ string_bytes text.old ++ give_up_shown schedule_count.now tally.now) }
 {
-    let words = EndWords(tally.thing.refusal);
-    write!(text, "give up {} = {words}", tally.thing.build)?;
-    push_shown(text, orders, &tally.count, &tally.first)
+    let words = EndWords(tally.outcome.refusal);
+    write!(text, "give up {} = {words}", tally.outcome.build)?;
+    push_shown(text, schedule_count, &tally.count, &tally.first)
 }
 
-/// Appends the lines for a build's abort on giving up. There is a line for each outcome, and none if the plan's builds
-/// do not give up.
+/// Appends the lines for the abort of a build that gives up. There is a line for each outcome, and none if the plan's
+/// builds do not give up.
 pub(crate) fn push_give_ups(
     text: &mut String,
     plan: &Plan,
@@ -153,8 +153,8 @@ pub(crate) fn push_give_ups(
         return Ok(());
     }
     for tally in &outcomes.ends {
-        if tally.thing.build == build && tally.thing.step == GIVING_UP {
-            push_give_up(text, &outcomes.orders, tally)?;
+        if tally.outcome.build == build && tally.outcome.step == GIVING_UP {
+            push_give_up(text, &outcomes.schedule_count, tally)?;
         }
     }
     Ok(())
@@ -163,45 +163,46 @@ pub(crate) fn push_give_ups(
 // Appends the line of a tally that counts the schedules in which a build was never refused.
 fn push_never_refused(
     text: &mut String,
-    orders: &Count,
+    schedule_count: &Count,
     tally: &PathTally<usize>,
 ) -> Result<(), AllocError>
-    ensures { OnOk result (string_bytes text.new ≡ string_bytes text.old ++ never_refused_line orders.now tally.now) }
+    ensures { OnOk result (string_bytes text.new ≡ string_bytes text.old ++ never_refused_line schedule_count.now tally.now) }
 {
-    write!(text, "never refused {}", tally.thing)?;
-    push_shown(text, orders, &tally.count, &tally.first)?;
+    write!(text, "never refused {}", tally.outcome)?;
+    push_shown(text, schedule_count, &tally.count, &tally.first)?;
     Ok(())
 }
 
-/// Appends the line `never refused` of a build. It counts the schedules in which the build was never refused. The count
-/// may be 0.
-pub(crate) fn push_smooth(
+/// Appends the line that counts the schedules in which a build was never refused. The line begins with `never refused`.
+/// The count may be 0.
+pub(crate) fn push_never_refused_tallies(
     text: &mut String,
-    orders: &Count,
-    smooth: &[PathTally<usize>],
+    schedule_count: &Count,
+    never_refused: &[PathTally<usize>],
     build: usize,
 ) -> Result<(), AllocError>
-    ensures { OnOk result (string_bytes text.new ≡ string_bytes text.old ++ never_refused_lines orders.now smooth.now build) }
+    ensures { OnOk result (string_bytes text.new ≡ string_bytes text.old ++ never_refused_lines schedule_count.now never_refused.now build) }
 {
-    for tally in smooth {
-        if tally.thing == build {
-            return push_never_refused(text, orders, tally);
+    for tally in never_refused {
+        if tally.outcome == build {
+            return push_never_refused(text, schedule_count, tally);
         }
     }
     writeln!(text, "never refused {build} in 0")?;
     Ok(())
 }
 
-/// Appends a final map. The line before the map has the number of schedules that end with it.
+/// Appends the page map that a host has after some schedules. The line before the map has the number of these
+/// schedules.
 pub fn push_map<K>(
     text: &mut String,
-    orders: &Count,
+    schedule_count: &Count,
     map: &str,
     tally: &PathTally<K>,
 ) -> Result<(), AllocError>
-    ensures { OnOk result (string_bytes text.new ≡ string_bytes text.old ++ map_shown orders.now map.now tally.now.first.items tally.now.count) }
+    ensures { OnOk result (string_bytes text.new ≡ string_bytes text.old ++ map_shown schedule_count.now map.now tally.now.first.items tally.now.count) }
 {
     text.push_str("map")?;
-    push_shown(text, orders, &tally.count, &tally.first)?;
+    push_shown(text, schedule_count, &tally.count, &tally.first)?;
     text.push_str(map)
 }

@@ -1,16 +1,16 @@
-//! The number of schedules with each outcome. Schedules are counted as paths of the graph.
+//! The counting of a plan's schedules by their outcomes. Schedules are counted as paths of the graph.
 ghost use Rattle.std.specs.Prelude.{◌≡◌, ◌≤◌, Bool, List, [], length, map, option_map, slice_index_or, OnOk, IfOk};
 ghost use Rattle.schedule_graph.specs.First.{any_path, layers_in, path_numbers_in, shows_none, ArePathNumbers};
 ghost use Rattle.schedule_graph.specs.Paths.{paths, shows, count_at};
-ghost use Rattle.plan_states.specs.Tallies.{with_tally, all_added, count_of_tally, end_tally, is_before, layers_of, map_tallies, map_tally, place_for, smooth_tally, tally_of, whole_tallies, AreOutcomes};
+ghost use Rattle.plan_states.specs.Tallies.{with_tally, all_added, count_of_tally, end_tally, is_before, layers_of, map_tallies, map_tally, place_for, never_refused_tally, tally_of, whole_tallies, AreOutcomes};
 
 use crate::edges::Label;
 use crate::graph::{Graph, Layer};
-use crate::signs::{EndSign, MapSign, RefusalSign};
+use crate::label_properties::{HasEnd, HasMap, HasRefusal};
 use crate::step_end::EndOfStep;
 use crate::tally::{Outcomes, PathTally, StepOutcomes};
 use schedule_graph::{
-    Count, PathNumber, Sign, count_all, count_all_with, count_all_without, first_with,
+    Count, LabelProperty, PathNumber, count_all, count_all_with, count_all_without, first_with,
     first_without,
 };
 use std::alloc::{AllocError, Global};
@@ -42,47 +42,47 @@ fn builds_of_path(alloc: Global, path: &[Label]) -> Result<Vec<usize>, AllocErro
     path.iter().map(|label| label.build).collect(alloc)
 }
 
-// The tally of the paths that show the property `sign`, if there are any.
-pub(crate) fn tally_with<K: Drop, S: Sign<Label>>(
+// The tally of the paths that show the property `property`, if there are any.
+pub(crate) fn tally_with<K: Drop, S: LabelProperty<Label>>(
     alloc: Global,
     layers: &[Layer],
     all: &[Vec<PathNumber>],
-    sign: &S,
-    thing: K,
+    property: &S,
+    outcome: K,
 ) -> Result<Option<PathTally<K>>, AllocError>
     ensures { IfOk result (λ tally. ArePathNumbers any_path (layers_in layers.now) (path_numbers_in all.now)
-        → option_map count_of_tally tally ≡ tally_of (shows (S.is_on sign.now)) thing (paths (layers_in layers.now) 0)) }
+        → option_map count_of_tally tally ≡ tally_of (shows (S.holds_for property.now)) outcome (paths (layers_in layers.now) 0)) }
 {
-    let with = count_all_with(alloc, layers, sign, all)?;
-    let Some(path) = first_with(alloc, layers, sign, all, &with)? else {
+    let with = count_all_with(alloc, layers, property, all)?;
+    let Some(path) = first_with(alloc, layers, property, all, &with)? else {
         return Ok(None);
     };
     let count = root_of(alloc, &with)?;
     let first = builds_of_path(alloc, &path)?;
     Ok(Some(PathTally {
-        thing,
+        outcome,
         count,
         first,
     }))
 }
 
-// The tally of the paths that do not show the property `sign`, if there are any.
-fn tally_without<K: Drop, S: Sign<Label>>(
+// The tally of the paths that do not show the property `property`, if there are any.
+fn tally_without<K: Drop, S: LabelProperty<Label>>(
     alloc: Global,
     layers: &[Layer],
-    sign: &S,
-    thing: K,
+    property: &S,
+    outcome: K,
 ) -> Result<Option<PathTally<K>>, AllocError>
-    ensures { IfOk result (λ tally. option_map count_of_tally tally ≡ tally_of (shows_none (S.is_on sign.now)) thing (paths (layers_in layers.now) 0)) }
+    ensures { IfOk result (λ tally. option_map count_of_tally tally ≡ tally_of (shows_none (S.holds_for property.now)) outcome (paths (layers_in layers.now) 0)) }
 {
-    let without = count_all_without(alloc, layers, sign)?;
-    let Some(path) = first_without(alloc, layers, sign, &without)? else {
+    let without = count_all_without(alloc, layers, property)?;
+    let Some(path) = first_without(alloc, layers, property, &without)? else {
         return Ok(None);
     };
     let count = root_of(alloc, &without)?;
     let first = builds_of_path(alloc, &path)?;
     Ok(Some(PathTally {
-        thing,
+        outcome,
         count,
         first,
     }))
@@ -128,24 +128,24 @@ fn add<K: Drop>(
 }
 
 // The tallies of the schedules with a refused step, and of the schedules without one.
-fn wholes_of(
+fn tallies_by_refusal(
     alloc: Global,
     graph: &Graph,
     all: &[Vec<PathNumber>],
 ) -> Result<Vec<PathTally<bool>>, AllocError>
-    ensures { IfOk result (λ wholes. ArePathNumbers any_path (layers_of graph.now) (path_numbers_in all.now)
-        → map count_of_tally wholes.items ≡ whole_tallies graph.now) }
+    ensures { IfOk result (λ by_refusal. ArePathNumbers any_path (layers_of graph.now) (path_numbers_in all.now)
+        → map count_of_tally by_refusal.items ≡ whole_tallies graph.now) }
 {
-    let sign = RefusalSign {
+    let property = HasRefusal {
         ends: &graph.ends,
         build: None,
     };
-    let mut wholes = Vec::new(alloc);
-    let smooth = tally_without(alloc, &graph.layers, &sign, false)?;
-    add(&mut wholes, smooth)?;
-    let refused = tally_with(alloc, &graph.layers, all, &sign, true)?;
-    add(&mut wholes, refused)?;
-    Ok(wholes)
+    let mut by_refusal = Vec::new(alloc);
+    let never_refused = tally_without(alloc, &graph.layers, &property, false)?;
+    add(&mut by_refusal, never_refused)?;
+    let refused = tally_with(alloc, &graph.layers, all, &property, true)?;
+    add(&mut by_refusal, refused)?;
+    Ok(by_refusal)
 }
 
 // The tally of the schedules that have the step outcome at index `number`, if there are any.
@@ -159,7 +159,7 @@ fn end_tally(
         → option_map count_of_tally tally ≡ end_tally graph.now number) }
 {
     match graph.ends.get(number) {
-        Some(end) => tally_with(alloc, &graph.layers, all, &EndSign(number), *end),
+        Some(end) => tally_with(alloc, &graph.layers, all, &HasEnd(number), *end),
         None => Ok(None),
     }
 }
@@ -182,34 +182,34 @@ fn step_ends(
 }
 
 // The tally of the schedules in which a build is never refused.
-fn smooth_tally(
+fn never_refused_tally(
     alloc: Global,
     graph: &Graph,
     build: usize,
 ) -> Result<Option<PathTally<usize>>, AllocError>
-    ensures { IfOk result (λ tally. option_map count_of_tally tally ≡ smooth_tally graph.now build) }
+    ensures { IfOk result (λ tally. option_map count_of_tally tally ≡ never_refused_tally graph.now build) }
 {
-    let sign = RefusalSign {
+    let property = HasRefusal {
         ends: &graph.ends,
         build: Some(build),
     };
-    tally_without(alloc, &graph.layers, &sign, build)
+    tally_without(alloc, &graph.layers, &property, build)
 }
 
 // For each build, the tally of the schedules in which the build is never refused, if there are any.
-fn smooth_of(
+fn never_refused_of(
     alloc: Global,
     graph: &Graph,
     builds: usize,
 ) -> Result<Vec<PathTally<usize>>, AllocError>
-    ensures { IfOk result (λ smooth. map count_of_tally smooth.items ≡ all_added (smooth_tally graph.now) builds) }
+    ensures { IfOk result (λ never_refused. map count_of_tally never_refused.items ≡ all_added (never_refused_tally graph.now) builds) }
 {
-    let mut smooth = Vec::new(alloc);
+    let mut never_refused = Vec::new(alloc);
     for build in 0..builds {
-        let tally = smooth_tally(alloc, graph, build)?;
-        add(&mut smooth, tally)?;
+        let tally = never_refused_tally(alloc, graph, build)?;
+        add(&mut never_refused, tally)?;
     }
-    Ok(smooth)
+    Ok(never_refused)
 }
 
 // The tally of the schedules that end with the map at index `map`, if there are any.
@@ -222,15 +222,15 @@ fn map_tally(
     ensures { IfOk result (λ tally. ArePathNumbers any_path (layers_of graph.now) (path_numbers_in all.now)
         → option_map count_of_tally tally ≡ map_tally graph.now map) }
 {
-    tally_with(alloc, &graph.layers, all, &MapSign(map), map)
+    tally_with(alloc, &graph.layers, all, &HasMap(map), map)
 }
 
 // The tally of the only map of a plan without steps: one schedule, which has no turn.
 fn only_map(alloc: Global) -> Result<PathTally<usize>, AllocError>
-    ensures { IfOk result (λ tally. count_of_tally tally ≡ record { thing = 0; count = 1; first = [] }) }
+    ensures { IfOk result (λ tally. count_of_tally tally ≡ record { outcome = 0; count = 1; first = [] }) }
 {
     Ok(PathTally {
-        thing: 0,
+        outcome: 0,
         count: Count::one(alloc)?,
         first: Vec::new(alloc),
     })
@@ -258,22 +258,22 @@ fn maps_of(
     Ok(maps)
 }
 
-/// Counts the outcomes of the paths of a graph. The graph is that of a plan with `builds` builds. The one error is that
-/// allocation failed.
+/// Counts the paths of a state graph by their outcomes. The graph is that of a plan with `builds` builds. The one error
+/// is that allocation failed.
 pub fn outcomes_of(alloc: Global, builds: usize, graph: &Graph) -> Result<Outcomes, AllocError>
     ensures { IfOk result (AreOutcomes builds graph.now) }
 {
     let all = count_all(alloc, &graph.layers)?;
-    let wholes = wholes_of(alloc, graph, &all)?;
+    let by_refusal = tallies_by_refusal(alloc, graph, &all)?;
     let ends = step_ends(alloc, graph, &all)?;
-    let smooth = smooth_of(alloc, graph, builds)?;
+    let never_refused = never_refused_of(alloc, graph, builds)?;
     let maps = maps_of(alloc, graph, &all)?;
-    let orders = root_of(alloc, &all)?;
+    let schedule_count = root_of(alloc, &all)?;
     let steps = StepOutcomes {
-        orders,
-        wholes,
+        schedule_count,
+        by_refusal,
         ends,
-        smooth,
+        never_refused,
     };
     Ok(Outcomes { steps, maps })
 }

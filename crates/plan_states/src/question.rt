@@ -1,7 +1,7 @@
 //! Questions about schedules, and the turns that answer them.
 ghost use Rattle.std.specs.Prelude.{◌≡◌, sum};
-ghost use Rattle.plan_states.specs.Questions.{is_answer, is_at_rest, is_of_shared, has_other_at_rest, pages_of_builds, waits, end_numbered};
-ghost use Rattle.plan_states.specs.Signs.{refuses_step};
+ghost use Rattle.plan_states.specs.Questions.{is_answer, is_other_without_pages, is_of_shared, has_other_without_pages, pages_of_builds, waits, end_numbered};
+ghost use Rattle.plan_states.specs.LabelProperties.{refuses_step};
 
 use crate::edges::Label;
 use crate::running::pages_of;
@@ -9,7 +9,7 @@ use crate::step_end::EndOfStep;
 use host_commands::Refusal;
 use page_arena::PageStore;
 use realm_host::Host;
-use schedule_graph::Sign;
+use schedule_graph::LabelProperty;
 
 /// The number of pages that each build holds.
 pub type PagesHeld = [u16; 8];
@@ -17,11 +17,12 @@ pub type PagesHeld = [u16; 8];
 /// A question about the last turn of a schedule. It asks whether the turn has a given property.
 #[derive(Clone, Copy, Drop)]
 pub enum TurnQuestion {
-    /// A refusal of step `step` of build `build`.
+    /// Asks whether step `step` of build `build` is refused in the last turn.
     Refused { build: usize, step: usize },
-    /// A refusal of build `build` for lack of a block or a VMID. Meanwhile some other build holds no page.
+    /// Asks whether build `build` is refused a block or a VMID in the last turn. Meanwhile some other build holds no
+    /// page.
     Waiting { build: usize },
-    /// A total of at least `granules` leased granules after the turn.
+    /// Asks whether at least `granules` granules are leased after the last turn.
     Leased { granules: usize },
 }
 
@@ -57,8 +58,8 @@ fn waits(end: Option<EndOfStep>, build: usize) -> bool
 }
 
 // Whether `other` is a build other than `build`, and holds no page.
-fn is_at_rest(held: &PagesHeld, build: usize, other: usize) -> bool
-    ensures { result ≡ is_at_rest build held.now other }
+fn is_other_without_pages(held: &PagesHeld, build: usize, other: usize) -> bool
+    ensures { result ≡ is_other_without_pages build held.now other }
 {
     match held.get(other) {
         Some(pages) => other != build && *pages == 0,
@@ -67,10 +68,10 @@ fn is_at_rest(held: &PagesHeld, build: usize, other: usize) -> bool
 }
 
 // Whether some build other than `build`, among the first `builds` builds, holds no page.
-fn has_other_at_rest(held: &PagesHeld, builds: usize, build: usize) -> bool
-    ensures { result ≡ has_other_at_rest builds build held.now }
+fn has_other_without_pages(held: &PagesHeld, builds: usize, build: usize) -> bool
+    ensures { result ≡ has_other_without_pages builds build held.now }
 {
-    (0..builds).any(|other| is_at_rest(held, build, other))
+    (0..builds).any(|other| is_other_without_pages(held, build, other))
 }
 
 // The number of pages that all builds hold together.
@@ -85,15 +86,16 @@ fn all_held(held: &PagesHeld) -> usize
 }
 
 impl TurnQuestion {
-    /// Whether a turn answers the question. `end` is the outcome of the step that the turn used up, if it used one up.
-    /// `held` gives the pages that builds hold after the turn, and `builds` is the number of the plan's builds.
+    /// Whether a turn has the property that the question asks for. `end` is the outcome of the step that the turn used
+    /// up, if it used one up. `held` gives the pages that builds hold after the turn, and `builds` is the number of the
+    /// plan's builds.
     pub(crate) fn is_answer(&self, builds: usize, end: Option<EndOfStep>, held: &PagesHeld) -> bool
         ensures { result ≡ is_answer builds self.now end held.now }
     {
         match *self {
             TurnQuestion::Refused { build, step } => refuses_step(end, build, step),
             TurnQuestion::Waiting { build } => {
-                waits(end, build) && has_other_at_rest(held, builds, build)
+                waits(end, build) && has_other_without_pages(held, builds, build)
             }
             TurnQuestion::Leased { granules } => granules <= all_held(held),
         }
@@ -107,22 +109,21 @@ fn end_numbered(ends: &[EndOfStep], number: Option<usize>) -> Option<EndOfStep>
     ends.get(number?).copied()
 }
 
-/// A test of edge labels for answers to `question`. A label passes if its turn answers the question. A label has
-/// indices into `ends` and `held`.
+/// The property of edge labels whose turn answers `question`. A label has indices into `ends` and `held`.
 #[derive(Clone, Copy)]
-pub(crate) struct AnswerSign<'a> {
+pub(crate) struct AnswersQuestion<'a> {
     pub(crate) ends: &'a [EndOfStep],
     pub(crate) held: &'a [PagesHeld],
     pub(crate) builds: usize,
     pub(crate) question: TurnQuestion,
 }
 
-impl Sign<Label> for AnswerSign<'_> {
+impl LabelProperty<Label> for AnswersQuestion<'_> {
     ghost use Rattle.plan_states.specs.Questions.{is_answer_at};
 
-    ghost is_on = { λ sign label. is_answer_at sign.ends.now sign.held.now sign.builds sign.question label };
+    ghost holds_for = { λ property label. is_answer_at property.ends.now property.held.now property.builds property.question label };
 
-    fn is_on(&self, label: &Label) -> bool {
+    fn holds_for(&self, label: &Label) -> bool {
         let end = end_numbered(self.ends, label.end);
         match self.held.get(label.held) {
             Some(held) => self.question.is_answer(self.builds, end, held),

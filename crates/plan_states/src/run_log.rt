@@ -1,4 +1,4 @@
-//! The log of the turns that were run along a graph. Each turn is between two snapshots.
+//! The log of the turns that were run along a state graph's paths. Each turn is between two snapshots.
 ghost use Rattle.std.specs.Prelude.{◌≡◌, true, [], ℕ, OnOk, IfOk, IfErr, List, Some, slice_get};
 ghost use Rattle.std.specs.Bool.{OnTrue};
 ghost use Rattle.std.specs.declared.alloc.Global.{Global};
@@ -22,7 +22,8 @@ use realm_plan::Plan;
 use realm_program::Fault;
 use std::alloc::{AllocError, Global};
 
-/// A turn that was run. It has a label, and the indices of the snapshots before and after the turn.
+/// A turn that was run, with its edge label and its snapshots' indices. The snapshots are those before and after the
+/// turn.
 #[derive(Clone, Copy)]
 pub(crate) struct LoggedTurn {
     pub(crate) label: Label,
@@ -30,8 +31,8 @@ pub(crate) struct LoggedTurn {
     pub(crate) to: usize,
 }
 
-/// The log of the turns that were run along a graph. It also has the snapshots before and after the turns. The first
-/// snapshot is that at boot.
+/// The log of the turns that were run to check a state graph's paths. It also has the snapshots before and after the
+/// turns. The first snapshot is that at boot.
 #[derive(Drop)]
 pub(crate) struct RunLog {
     pub(crate) snapshots: Vec<Snapshot>,
@@ -130,7 +131,7 @@ fn take_labelled(
 }
 
 impl RunLog {
-    /// Creates a log without turns. It has the snapshot at boot.
+    /// Creates a log that has the snapshot at boot and no turns.
     pub(crate) fn boot(alloc: Global, plan: &Plan) -> Result<RunLog, Fault>
         ensures ok { IfOk result (λ log. (ends : List EndOfStep) (held : List (List ℕ)) (maps : List (String Global)) → IsLog (plan_view plan.now) ends held maps log) }
         ensures err { IfErr result HasNoGraph }
@@ -174,7 +175,7 @@ impl RunLog {
         Ok(number)
     }
 
-    /// Runs a plan in a schedule. Checks that the run leads to the snapshot at index `at`.
+    /// Runs a schedule of a plan, and checks that it leads to snapshot `at`.
     ///
     /// Errors. `Memory`: allocation failed. `Mismatch`: the run leads to another snapshot, or some turn is of a build
     /// that has no step left then.
@@ -196,8 +197,8 @@ impl RunLog {
         Ok(running)
     }
 
-    /// Takes and logs the turn of a label. Returns the index of the snapshot after the turn. `from` is the index of the
-    /// snapshot before the turn.
+    /// Runs the turn that an edge's label describes, and logs the turn. Returns the index of the snapshot after the
+    /// turn. `from` is the index of the snapshot before the turn.
     ///
     /// Errors. `Memory`: allocation failed. `Mismatch`: the turn is not as the label says, or leads to another snapshot
     /// than the known one.

@@ -20,16 +20,16 @@ use realm_plan::Plan;
 use realm_program::{Fault, boot};
 use std::alloc::Global;
 
-/// A run of a plan: a host, and the cursors of the builds.
+/// A run of a plan: a host, and each build's position in the plan.
 #[derive(Drop)]
 pub(crate) struct Running {
     pub(crate) host: Host<BuddyArena>,
     pub(crate) places: [PlanCursor; 8],
 }
 
-/// The result of a turn. It has the build's progress, the refusal, the block leased or given back, and the VMID and
-/// pages after the turn. `before` and `after` are the numbers of steps done before and after the turn. The VMID is that
-/// of the build's realm.
+/// The result of a build's turn: progress, refusal, moved block, VMID and page count. The block is the one leased or
+/// given back. `before` and `after` are the numbers of steps done before and after the turn. The VMID is that of the
+/// build's realm. VMID and page count are those after the turn.
 #[derive(Clone, Copy)]
 pub(crate) struct TurnTaken {
     pub(crate) before: usize,
@@ -118,7 +118,7 @@ pub(crate) fn run_to(alloc: Global, plan: &Plan, order: &[usize]) -> Result<Runn
     Ok(Running { host, places })
 }
 
-/// Whether any build has a step left.
+/// Whether any build of a plan has a step left to run.
 pub(crate) fn has_more(plan: &Plan, places: &[PlanCursor; 8]) -> bool
     ensures { OnFalse result (AreOver (plan_view plan.now) places.now) }
 {
@@ -130,7 +130,8 @@ pub(crate) fn has_more(plan: &Plan, places: &[PlanCursor; 8]) -> bool
     false
 }
 
-/// Takes one more turn of a build. Returns the result, or `None` if the build has no step left.
+/// Runs the next turn of a build, if the build has a step left. Returns the turn's result, or `None` if no step is
+/// left.
 pub(crate) fn take<S: PageStore>(
     host: &mut Host<S>,
     plan: &Plan,

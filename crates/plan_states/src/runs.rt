@@ -1,4 +1,4 @@
-//! The check that a graph's paths are runs of the plan. Each run has the outcomes and the final map that its path
+//! The check that a state graph's paths are runs of its plan. Each run has the outcomes and the final map that its path
 //! names.
 ghost use Rattle.std.specs.Prelude.{◌≡◌, ◌+◌, ◌<◌, ◌^◌, ℕ, [], IfOk, IfErr, OnOk, length, map, slice_index_or, vec_items};
 ghost use Rattle.std.specs.Bool.{OnTrue};
@@ -308,7 +308,7 @@ impl Walk {
     }
 }
 
-/// Whether each path of a graph is a run of the plan.
+/// Whether each path of a state graph is a run of the plan.
 ///
 /// Errors. `Memory`: allocation failed. `Mismatch`: a run along the graph does not go on as the graph says.
 pub(crate) fn are_paths_runs(alloc: Global, plan: &Plan, graph: &Graph) -> Result<bool, Fault>

@@ -1,4 +1,4 @@
-//! The shortest schedules that answer a question.
+//! The search for a shortest schedule whose last turn has a given property.
 ghost use Rattle.std.specs.Prelude.{◌≡◌, ◌<◌, true, [], map, length, option_map, slice_index_or, vec_items, IfOk, IfErr};
 ghost use Rattle.realm_plan.specs.PlanView.{plan_view};
 ghost use Rattle.schedule_graph.specs.First.{layers_in};
@@ -12,65 +12,65 @@ ghost use Rattle.plan_states.specs.Turned.{end_taken};
 use crate::edges::Label;
 use crate::graph::{Exploration, Graph, Layer, explore, push};
 use crate::outcomes::tally_with;
-use crate::question::{AnswerSign, TurnQuestion, pages_of_builds};
+use crate::question::{AnswersQuestion, TurnQuestion, pages_of_builds};
 use crate::running::{TurnTaken, run_to, take};
 use crate::step_end::EndOfStep;
 use crate::tally::PathTally;
 use realm_plan::Plan;
 use realm_program::Fault;
-use schedule_graph::{Edge, Sign, count_all};
+use schedule_graph::{Edge, LabelProperty, count_all};
 use std::alloc::{AllocError, Global};
 
-/// The result of a search for a schedule that answers a question.
+/// The result of a search for a schedule whose last turn answers a question.
 #[derive(Drop)]
 pub enum Witness {
     /// A schedule whose last turn answers the question.
     Found(Vec<usize>),
-    /// A question that no turn of any schedule answers.
+    /// The case that no turn of any schedule answers the question.
     Never,
-    /// More states than were allowed.
+    /// The case that the state graph has more states than the caller allowed.
     TooMany,
 }
 
-// Whether some edge has the property `sign`.
-fn edges_show(edges: &[Edge<Label>], sign: &AnswerSign) -> bool
-    ensures { result ≡ shows (is_answer_at sign.now.ends.now sign.now.held.now sign.now.builds sign.now.question) edges.now }
+// Whether some edge has the property `property`.
+fn edges_show(edges: &[Edge<Label>], property: &AnswersQuestion) -> bool
+    ensures { result ≡ shows (is_answer_at property.now.ends.now property.now.held.now property.now.builds property.now.question) edges.now }
 {
-    edges.iter().any(|edge| sign.is_on(&edge.label))
+    edges.iter().any(|edge| property.holds_for(&edge.label))
 }
 
-// Whether some edge of a layer has the property `sign`.
-fn layer_shows(layer: &[Vec<Edge<Label>>], sign: &AnswerSign) -> bool
-    ensures { result ≡ layer_shows (is_answer_at sign.now.ends.now sign.now.held.now sign.now.builds sign.now.question) layer.now }
+// Whether some edge of a layer has the property `property`.
+fn layer_shows(layer: &[Vec<Edge<Label>>], property: &AnswersQuestion) -> bool
+    ensures { result ≡ layer_shows (is_answer_at property.now.ends.now property.now.held.now property.now.builds property.now.question) layer.now }
 {
-    layer.iter().any(|edges| edges_show(edges, sign))
+    layer.iter().any(|edges| edges_show(edges, property))
 }
 
-// The index of the first layer that has an edge with the property `sign`.
-fn first_layer(layers: &[Layer], sign: &AnswerSign) -> Option<usize>
-    ensures { result ≡ first_layer (is_answer_at sign.now.ends.now sign.now.held.now sign.now.builds sign.now.question) layers.now }
+// The index of the first layer that has an edge with the property `property`.
+fn first_layer(layers: &[Layer], property: &AnswersQuestion) -> Option<usize>
+    ensures { result ≡ first_layer (is_answer_at property.now.ends.now property.now.held.now property.now.builds property.now.question) layers.now }
 {
-    layers.iter().position(|layer| layer_shows(layer, sign))
+    layers.iter().position(|layer| layer_shows(layer, property))
 }
 
-// Whether some layer has an edge with the property `sign`.
-fn any_layer_shows(layers: &[Layer], sign: &AnswerSign) -> bool
-    ensures { result ≡ any_layer_shows (is_answer_at sign.now.ends.now sign.now.held.now sign.now.builds sign.now.question) layers.now }
+// Whether some layer has an edge with the property `property`.
+fn any_layer_shows(layers: &[Layer], property: &AnswersQuestion) -> bool
+    ensures { result ≡ any_layer_shows (is_answer_at property.now.ends.now property.now.held.now property.now.builds property.now.question) layers.now }
 {
-    layers.iter().any(|layer| layer_shows(layer, sign))
+    layers.iter().any(|layer| layer_shows(layer, property))
 }
 
 // Whether some turn in the graph of a plan with `builds` builds answers a question.
 fn is_answered(graph: &Graph, builds: usize, question: TurnQuestion) -> bool
     ensures { result ≡ is_answered graph.now builds question }
 {
-    let sign = AnswerSign {
+    let property = AnswersQuestion {
         ends: &graph.ends,
         held: &graph.held,
         builds,
         question,
     };
-    any_layer_shows(&graph.layers, &sign)
+    any_layer_shows(&graph.layers, &property)
 }
 
 // The states of a layer; none if there is no such layer.
@@ -123,18 +123,18 @@ fn shortest_tally(
         held,
         maps: _,
     } = graph;
-    let sign = AnswerSign {
+    let property = AnswersQuestion {
         ends: &ends,
         held: &held,
         builds,
         question,
     };
-    let Some(depth) = first_layer(&layers, &sign) else {
+    let Some(depth) = first_layer(&layers, &property) else {
         return Ok(None);
     };
     let layers = cut_after(alloc, layers, depth)?;
     let all = count_all(alloc, &layers)?;
-    tally_with(alloc, &layers, &all, &sign, question)
+    tally_with(alloc, &layers, &all, &property, question)
 }
 
 // The outcome of the step that a turn of `build` used up, if the turn used one up.
@@ -175,8 +175,8 @@ pub fn answers(
     Ok(question.is_answer(plan.builds.len(), end, &held))
 }
 
-/// Finds the shortest schedule that answers a question. It is the first of the shortest schedules whose last turn
-/// answers the question. The result is `TooMany` if the graph has more than `most` states.
+/// Finds the first of the shortest schedules whose last turn answers a question. The result is `TooMany` if the graph
+/// has more than `most` states.
 ///
 /// Errors. `Memory`: allocation failed. `Mismatch`: a run does not go on as another run said, a turn is missing in the
 /// graph, or an end or a map is there twice. None happens on a host that gives the same answers to the same calls.

@@ -1,4 +1,4 @@
-//! Snapshots of runs. A snapshot has what decides all further turns, and nothing of the schedule.
+//! Snapshots of a plan's run, with all that decides further turns. A snapshot has nothing of the schedule.
 ghost use Rattle.std.specs.Prelude.{◌≡◌, ◌<◌, IfOk};
 ghost use Rattle.std.specs.Bool.{OnTrue};
 ghost use Rattle.host_ledger.specs.View.{mark_of, is_aborting};
@@ -14,8 +14,8 @@ use realm_host::{Host, Mark};
 use realm_model::Event;
 use std::alloc::{AllocError, Global};
 
-/// The state of a build without its events. It has the cursor, the marks, and whether the build is aborting. A mark is
-/// the number of operations that were open at it.
+/// A build's progress, marks and abort flag, without its events. The progress is the build's cursor. A mark is the
+/// number of operations that were open at it.
 #[derive(Clone, Copy)]
 pub(crate) struct BuildPoint {
     pub(crate) done: usize,
@@ -26,14 +26,15 @@ pub(crate) struct BuildPoint {
     pub(crate) kept: Option<u16>,
 }
 
-/// The snapshot of a build: its point and its events. The point has the cursor, the marks and the abort flag.
+/// The state of a build in a snapshot: its `BuildPoint` and its events. The point has the cursor, the marks and the
+/// abort flag.
 #[derive(Drop)]
 pub(crate) struct BuildSnapshot {
     pub(crate) point: BuildPoint,
     pub(crate) events: Vec<Event>,
 }
 
-/// A snapshot of a run: the snapshots of the eight builds.
+/// A snapshot of a plan's run: the states and events of the eight builds.
 #[derive(Drop)]
 pub(crate) struct Snapshot {
     pub(crate) builds: Vec<BuildSnapshot>,
@@ -124,7 +125,7 @@ fn events_of(alloc: Global, history: &[Event], build: usize) -> Result<Vec<Event
     Ok(events)
 }
 
-/// Takes the snapshot of a run.
+/// Takes a snapshot of a run, given its host and the builds' cursors.
 pub(crate) fn snapshot_of<S: PageStore>(
     alloc: Global,
     host: &Host<S>,
@@ -190,7 +191,7 @@ fn is_same_build(one: &BuildSnapshot, other: &BuildSnapshot) -> bool
     is_same_point(&one.point, &other.point) && are_same_events(&one.events, &other.events)
 }
 
-/// Whether two snapshots are the same.
+/// Whether two snapshots of runs agree on all eight builds.
 pub(crate) fn is_same(one: &Snapshot, other: &Snapshot) -> bool
     ensures { OnTrue result (AreSameBuilds 8 one.now.builds.items other.now.builds.items) }
 {

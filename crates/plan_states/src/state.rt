@@ -1,4 +1,4 @@
-//! The states of runs.
+//! The states of a plan's runs, which are the nodes of the state graph.
 ghost use Rattle.std.specs.Prelude.{◌≡◌, ◌<◌, slice_set};
 ghost use Rattle.std.specs.Bool.{OnFalse};
 ghost use Rattle.realm_plan.specs.PlanView.{plan_view};
@@ -9,8 +9,8 @@ use crate::whole::StepsDone;
 use plan_replay::step_after;
 use realm_plan::Plan;
 
-/// The state of a build in a run. It has the index of the build's past turns in `Turns`, the number of steps done, the
-/// realm's VMID, and the number of pages.
+/// A build's part of a run's state: past turns, progress, VMID and page count. The past turns are given by their index
+/// in `Turns`, and the VMID is that of the realm.
 #[derive(Clone, Copy, PartialEq, Eq, Hash)]
 pub(crate) struct BuildState {
     pub(crate) did: usize,
@@ -19,7 +19,8 @@ pub(crate) struct BuildState {
     pub(crate) pages: u16,
 }
 
-/// The state of a run. It has the state of each build, and the index of the sequence of blocks leased and given back.
+/// The state of a run: each build's state, and the blocks leased and given back. The sequence of the blocks is given by
+/// its index.
 #[derive(Clone, Copy, PartialEq, Eq, Hash)]
 pub(crate) struct State {
     pub(crate) builds: [BuildState; 8],
@@ -41,7 +42,7 @@ impl BuildState {
 }
 
 impl State {
-    /// Creates the state before the first turn. No build has done anything, and no block has been leased.
+    /// Creates the state of a run before the first turn. No build has done anything, and no block has been leased.
     pub(crate) fn first() -> State
         ensures { result ≡ first_state }
     {
@@ -58,7 +59,7 @@ impl State {
         State { builds, blocks: 0 }
     }
 
-    /// Returns the state after a turn of a build.
+    /// Returns the run's state after a turn of a build.
     pub(crate) fn with(self, build: usize, after: BuildState, blocks: usize) -> State
         requires { build < 8 }
         ensures { result ≡ record { builds = slice_set self.builds build after; blocks = blocks } }
@@ -104,7 +105,7 @@ impl State {
         ]
     }
 
-    /// Whether any build has a step left.
+    /// Whether any build of a plan has a step left to run.
     pub(crate) fn has_more(&self, plan: &Plan) -> bool
         ensures { OnFalse result (AreAllDone (plan_view plan.now) self.now) }
     {

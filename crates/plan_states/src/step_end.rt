@@ -1,7 +1,7 @@
-//! The outcome of a step.
+//! The outcome of a finished step of a build: accepted, or refused.
 use host_commands::Refusal;
 
-/// The outcome of a finished step of a build. The step was accepted, or refused with a reason.
+/// The outcome of a finished step of a build: accepted, or refused with a reason.
 #[derive(Clone, Copy, PartialEq, Eq)]
 pub struct EndOfStep {
     pub build: usize,

@@ -2,31 +2,32 @@
 use crate::step_end::EndOfStep;
 use schedule_graph::Count;
 
-/// The tally of an outcome. It has the outcome, the number of schedules that have it, and the first of these schedules.
+/// An outcome, and the number of schedules that have it. The tally also has the first of these schedules.
 #[derive(Drop)]
 pub struct PathTally<K> {
-    pub thing: K,
+    pub outcome: K,
     pub count: Count,
     pub first: Vec<usize>,
 }
 
-/// The outcomes of steps, counted over all schedules.
+/// The outcomes of steps, counted over all schedules of a plan.
 #[derive(Drop)]
 pub struct StepOutcomes {
-    /// The number of schedules.
-    pub orders: Count,
-    /// The tallies of schedules with and without a refused step.
-    pub wholes: Vec<PathTally<bool>>,
-    /// The tallies of the outcomes of steps.
+    /// The number of all schedules of the plan.
+    pub schedule_count: Count,
+    /// The numbers of schedules with and without a refused step.
+    pub by_refusal: Vec<PathTally<bool>>,
+    /// The number of schedules with each outcome of a step.
     pub ends: Vec<PathTally<EndOfStep>>,
-    /// The tallies of schedules in which a build was never refused. Each build has one, if there are such schedules.
-    pub smooth: Vec<PathTally<usize>>,
+    /// The number of schedules in which each build was never refused. A build has no tally if there are no such
+    /// schedules.
+    pub never_refused: Vec<PathTally<usize>>,
 }
 
 /// The outcomes of all schedules of a plan.
 #[derive(Drop)]
 pub struct Outcomes {
     pub steps: StepOutcomes,
-    /// The tallies of the final maps. Each map is given by its index.
+    /// The number of schedules that end with each page map. Each map is given by its index.
     pub maps: Vec<PathTally<usize>>,
 }

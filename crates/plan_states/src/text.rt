@@ -7,7 +7,9 @@ ghost use Rattle.plan_states.specs.StatesText.{too_many_line, IsGraphText, IsSta
 ghost use Rattle.plan_states.specs.Lines.{step_number, ends_of_build, never_refused_lines, map_shown_by, step_outcomes_text, outcomes_text};
 
 use crate::graph::{Exploration, Graph, explore};
-use crate::lines::{push_count, push_give_ups, push_map, push_smooth, push_step, push_wholes};
+use crate::lines::{
+    push_by_refusal, push_count, push_give_ups, push_map, push_never_refused_tallies, push_step,
+};
 use crate::outcomes::outcomes_of;
 use crate::tally::{Outcomes, PathTally, StepOutcomes};
 use realm_plan::Plan;
@@ -56,16 +58,16 @@ fn push_builds(
 }
 
 // Appends a line for each of the first `builds` builds, with the number of schedules in which it was never refused.
-fn push_smooths(
+fn push_all_never_refused(
     text: &mut String,
-    orders: &Count,
-    smooth: &[PathTally<usize>],
+    schedule_count: &Count,
+    never_refused: &[PathTally<usize>],
     builds: usize,
 ) -> Result<(), AllocError>
-    ensures { OnOk result (string_bytes text.new ≡ string_bytes text.old ++ flat_map (never_refused_lines orders.now smooth.now) (range_with_len 0 builds)) }
+    ensures { OnOk result (string_bytes text.new ≡ string_bytes text.old ++ flat_map (never_refused_lines schedule_count.now never_refused.now) (range_with_len 0 builds)) }
 {
     for build in 0..builds {
-        push_smooth(text, orders, smooth, build)?;
+        push_never_refused_tallies(text, schedule_count, never_refused, build)?;
     }
     Ok(())
 }
@@ -73,14 +75,14 @@ fn push_smooths(
 // Appends the final map of a tally, and the number of schedules with it, if `maps` has the map.
 fn push_map_of(
     text: &mut String,
-    orders: &Count,
+    schedule_count: &Count,
     maps: &[String],
     tally: &PathTally<usize>,
 ) -> Result<(), AllocError>
-    ensures { OnOk result (string_bytes text.new ≡ string_bytes text.old ++ map_shown_by orders.now maps.now tally.now) }
+    ensures { OnOk result (string_bytes text.new ≡ string_bytes text.old ++ map_shown_by schedule_count.now maps.now tally.now) }
 {
-    match maps.get(tally.thing) {
-        Some(map) => push_map(text, orders, map, tally),
+    match maps.get(tally.outcome) {
+        Some(map) => push_map(text, schedule_count, map, tally),
         None => Ok(()),
     }
 }
@@ -88,14 +90,14 @@ fn push_map_of(
 // Appends the final maps, each with the number of schedules that end with it.
 fn push_maps(
     text: &mut String,
-    orders: &Count,
+    schedule_count: &Count,
     maps: &[String],
     tallies: &[PathTally<usize>],
 ) -> Result<(), AllocError>
-    ensures { OnOk result (string_bytes text.new ≡ string_bytes text.old ++ flat_map (map_shown_by orders.now maps.now) tallies.now) }
+    ensures { OnOk result (string_bytes text.new ≡ string_bytes text.old ++ flat_map (map_shown_by schedule_count.now maps.now) tallies.now) }
 {
     for map in tallies {
-        push_map_of(text, orders, maps, map)?;
+        push_map_of(text, schedule_count, maps, map)?;
     }
     Ok(())
 }
@@ -112,10 +114,10 @@ pub fn push_step_outcomes(
     ensures { OnOk result (string_bytes text.new ≡ string_bytes text.old ++ step_outcomes_text (plan_view plan.now) outcomes.now) }
 {
     let builds = plan.builds.len();
-    let orders = &outcomes.orders;
-    push_wholes(text, orders, &outcomes.wholes)?;
+    let schedule_count = &outcomes.schedule_count;
+    push_by_refusal(text, schedule_count, &outcomes.by_refusal)?;
     push_builds(text, plan, outcomes, builds)?;
-    push_smooths(text, orders, &outcomes.smooth, builds)?;
+    push_all_never_refused(text, schedule_count, &outcomes.never_refused, builds)?;
     Ok(())
 }
 
@@ -129,10 +131,10 @@ pub fn push_outcomes(
 ) -> Result<(), AllocError>
     ensures { OnOk result (string_bytes text.new ≡ string_bytes text.old ++ outcomes_text (plan_view plan.now) maps.now outcomes.now) }
 {
-    let orders = &outcomes.steps.orders;
-    push_count(text, orders)?;
+    let schedule_count = &outcomes.steps.schedule_count;
+    push_count(text, schedule_count)?;
     push_step_outcomes(text, plan, &outcomes.steps)?;
-    push_maps(text, orders, maps, &outcomes.maps)?;
+    push_maps(text, schedule_count, maps, &outcomes.maps)?;
     Ok(())
 }
 
@@ -146,7 +148,7 @@ fn graph_text(alloc: Global, plan: &Plan, graph: &Graph) -> Result<String, Alloc
     Ok(text)
 }
 
-/// Returns the line for more than `most` states. The one error is that allocation failed.
+/// Returns the line that reports more than `most` states. The one error is that allocation failed.
 pub fn too_many_text(alloc: Global, most: usize) -> Result<String, AllocError>
     ensures { IfOk result (λ text. string_bytes text ≡ too_many_line most) }
 {

@@ -1,4 +1,4 @@
-//! A cache of turns' outcomes. Turns with the same inputs are run only once.
+//! A cache of the outcomes of turns in a plan's runs. Turns with the same inputs are run only once.
 ghost use Rattle.std.specs.Prelude.{◌≡◌, ◌++◌, ◌<◌, [], All, OnOk, IfErr, Some};
 ghost use Rattle.realm_plan.specs.PlanView.{plan_view};
 ghost use Rattle.plan_states.specs.Exploration.{HasNoGraph};
@@ -31,17 +31,17 @@ enum Shared {
     Vmids,
 }
 
-/// The turns of a build so far. They are given by the index of all turns but the last, and the last turn's outcome,
-/// block and VMID. All else follows from these.
+/// A key for the turns that a build has taken so far. The key is the index of all turns but the last, and the last
+/// turn's outcome, block and VMID. All else follows from these.
 #[derive(Clone, Copy, PartialEq, Eq, Hash)]
-struct Did {
+struct PastTurns {
     before: usize,
     end: Option<usize>,
     first: Option<u16>,
     vmid: Option<u8>,
 }
 
-/// A sequence of blocks that were leased or given back. It is given by the index of the sequence without the last
+/// A key for a sequence of blocks that were leased or given back. The key is the index of the sequence without the last
 /// block, and that block.
 #[derive(Clone, Copy, PartialEq, Eq, Hash)]
 struct Moves {
@@ -49,29 +49,30 @@ struct Moves {
     moved: Moved,
 }
 
-/// The inputs of a turn. They are the past turns of the build, and the state of the shared resources that the step
-/// needs.
+/// The inputs of a turn: the build's past turns, and the shared resources' state. Only the resources that the step
+/// needs count.
 #[derive(Clone, Copy, PartialEq, Eq, Hash)]
-pub(crate) struct Before {
+pub(crate) struct TurnInputs {
     build: usize,
     shared: usize,
 }
 
-/// The outcome of a turn. It has the build's new state, the block leased or given back, and the outcome of the step.
+/// The outcome of a turn: the build's new state, moved block and step outcome. The block is the one leased or given
+/// back, if any.
 #[derive(Clone, Copy)]
-pub(crate) struct After {
+pub(crate) struct TurnOutcome {
     build: BuildState,
     moved: Option<Moved>,
     pub(crate) end: Option<usize>,
 }
 
-/// The cache of turns. It has tables of builds' past turns, of sequences of blocks, and of the outcomes of turns and
-/// steps.
+/// A cache of turns' outcomes, by the turns' inputs. It has tables of builds' past turns, of sequences of blocks, and
+/// of the outcomes of turns and steps.
 #[derive(Drop)]
 pub(crate) struct Turns {
-    builds: HashMap<Did, usize>,
+    builds: HashMap<PastTurns, usize>,
     blocks: HashMap<Moves, usize>,
-    known: HashMap<Before, After>,
+    known: HashMap<TurnInputs, TurnOutcome>,
     pub(crate) ends: Vec<EndOfStep>,
 }
 
@@ -101,7 +102,7 @@ fn lowest_vmid(plan: &Plan, state: &State) -> usize {
 }
 
 /// Returns the inputs of a build's next turn. Returns `None` if the build has no step left.
-pub(crate) fn before_turn(plan: &Plan, state: &State, build: usize) -> Option<Before>
+pub(crate) fn before_turn(plan: &Plan, state: &State, build: usize) -> Option<TurnInputs>
     requires { build < 8 }
 {
     let it = state.builds[build];
@@ -110,7 +111,7 @@ pub(crate) fn before_turn(plan: &Plan, state: &State, build: usize) -> Option<Be
         Shared::Blocks => state.blocks,
         Shared::Vmids => lowest_vmid(plan, state),
     };
-    Some(Before {
+    Some(TurnInputs {
         build: it.did,
         shared,
     })
@@ -142,7 +143,7 @@ fn place_of_end(ends: &mut Vec<EndOfStep>, end: EndOfStep) -> Result<usize, Allo
 }
 
 impl Turns {
-    /// Creates empty tables.
+    /// Creates an empty cache of turns' outcomes.
     pub(crate) fn new(alloc: Global) -> Turns
         ensures { result.ends.items ≡ [] }
     {
@@ -156,7 +157,7 @@ impl Turns {
 
     // Finds or adds the turns of a build, and returns their index. Indices below 8 are those of builds that did
     // nothing.
-    fn number_of(&mut self, did: Did) -> Result<usize, AllocError>
+    fn number_of(&mut self, did: PastTurns) -> Result<usize, AllocError>
         ensures { self.new.ends ≡ self.old.ends }
     {
         if let Some(number) = self.builds.get(&did).copied() {
@@ -168,7 +169,7 @@ impl Turns {
     }
 
     // Finds or adds a sequence of leased and returned blocks, and returns its index. Index 0 is the empty sequence.
-    fn number_of_moves(&mut self, moves: Moves) -> Result<usize, AllocError>
+    fn find_or_add_moves(&mut self, moves: Moves) -> Result<usize, AllocError>
         ensures { self.new.ends ≡ self.old.ends }
     {
         if let Some(number) = self.blocks.get(&moves).copied() {
@@ -180,7 +181,7 @@ impl Turns {
     }
 
     // Notes the outcome of a turn with these inputs.
-    fn note(&mut self, before: Before, after: After) -> Result<(), AllocError>
+    fn note(&mut self, before: TurnInputs, after: TurnOutcome) -> Result<(), AllocError>
         ensures { self.new.ends ≡ self.old.ends }
     {
         self.known.insert(before, after)?;
@@ -202,22 +203,23 @@ impl Turns {
         Ok(Some(place_of_end(&mut self.ends, end)?))
     }
 
-    /// Returns the known outcome of a turn with these inputs, if any.
-    pub(crate) fn known(&self, before: &Before) -> Option<After> {
+    /// Returns the cached outcome of a turn with the given inputs, if there is one.
+    pub(crate) fn known(&self, before: &TurnInputs) -> Option<TurnOutcome> {
         self.known.get(before).copied()
     }
 
-    /// Runs one turn of a build after a schedule. The schedule is run on a fresh host. The turn's outcome is noted.
+    /// Runs a schedule and then one turn of a build, and caches the turn's outcome. The schedule is run on a fresh
+    /// host.
     ///
     /// Errors. `Memory`: allocation failed. `Mismatch`: the build has no step left then.
     pub(crate) fn run(
         &mut self,
         alloc: Global,
         plan: &Plan,
-        before: Before,
+        before: TurnInputs,
         order: &[usize],
         build: usize,
-    ) -> Result<After, Fault>
+    ) -> Result<TurnOutcome, Fault>
         requires { All (IsEndOfRun (plan_view plan.now)) self.old.ends.items }
         ensures ok { OnOk result (All (IsEndOfRun (plan_view plan.now)) self.new.ends.items) }
         ensures err { IfErr result HasNoGraph }
@@ -229,13 +231,13 @@ impl Turns {
         let end = self.place_for(build, &taken)?;
         let first = first_of(taken.moved);
         let vmid = taken.vmid;
-        let did = self.number_of(Did {
+        let did = self.number_of(PastTurns {
             before: before.build,
             end,
             first,
             vmid,
         })?;
-        let after = After {
+        let after = TurnOutcome {
             build: BuildState {
                 did,
                 done: taken.after,
@@ -249,18 +251,19 @@ impl Turns {
         Ok(after)
     }
 
-    /// Returns the state after a turn of a build. Notes the block that the turn leased or gave back, if any.
+    /// Returns the state of a run after a turn with a given outcome. Notes the block that the turn leased or gave back,
+    /// if any.
     pub(crate) fn state_after(
         &mut self,
         state: &State,
         build: usize,
-        after: After,
+        after: TurnOutcome,
     ) -> Result<State, AllocError>
         requires { build < 8 }
         ensures { self.new.ends ≡ self.old.ends }
     {
         let blocks = match after.moved {
-            Some(moved) => self.number_of_moves(Moves {
+            Some(moved) => self.find_or_add_moves(Moves {
                 before: state.blocks,
                 moved,
             })?,
@@ -269,7 +272,7 @@ impl Turns {
         Ok(state.with(build, after.build, blocks))
     }
 
-    /// Returns all outcomes of steps in the tables.
+    /// Consumes the cache, and returns its table of step outcomes.
     pub(crate) fn into_ends(self) -> Vec<EndOfStep>
         ensures { result ≡ self.ends }
     {

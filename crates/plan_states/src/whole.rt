@@ -1,5 +1,5 @@
-//! The check that a graph is whole. In each state, each build that has a step left has exactly one edge. Each edge
-//! leads to a state of the next layer that fits the edge's turn.
+//! The check that a state graph has all turns of its plan. In each state, each build that has a step left has exactly
+//! one edge. Each edge leads to a state of the next layer that fits the edge's turn.
 ghost use Rattle.std.specs.Prelude.{◌≡◌, ◌<◌, ◌^◌, [], map, filter, vec_items, slice_get, slice_index_or};
 ghost use Rattle.std.specs.Bool.{OnTrue};
 ghost use Rattle.std.specs.List.{list_all, range_with_len};
@@ -241,7 +241,7 @@ fn is_state_whole(
     all_lead_on(plan, ends, maps, done, next, edges)
 }
 
-/// Returns the edges of a state. There are none if there is no such state.
+/// Returns the edges that lead from a state of a layer. There are none if there is no such state.
 pub(crate) fn edges_at(layer: &[Vec<Edge<Label>>], state: usize) -> &[Edge<Label>]
     ensures { result.now ≡ slice_index_or (map vec_items layer.now) state [] }
 {
@@ -284,7 +284,7 @@ fn states_at(graph: &Graph, depth: usize) -> &[StepsDone]
     }
 }
 
-/// Returns the layer at index `depth`. It is empty if there is no such layer.
+/// Returns the layer of a state graph at index `depth`. It is empty if there is no such layer.
 pub(crate) fn layer_at(graph: &Graph, depth: usize) -> &[Vec<Edge<Label>>]
     ensures { result.now ≡ layer_at graph.now depth }
 {
@@ -319,7 +319,8 @@ fn is_at_start(states: &[StepsDone]) -> bool
     }
 }
 
-/// Whether a graph is whole. Then the first layer has the start as its only state, and each layer is whole.
+/// Whether a check confirms that a state graph has all turns of a plan. Then the first layer has the start as its only
+/// state.
 pub(crate) fn is_whole(plan: &Plan, graph: &Graph) -> bool
     ensures { OnTrue result (IsWholeGraph (plan_view plan.now) graph.now) }
 {

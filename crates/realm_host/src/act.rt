@@ -1,4 +1,4 @@
-//! Operations of builds, performed and recorded. Take and its reverse are not among them.
+//! Performs operations of builds, and records them. Take and its reverse are not among them.
 ghost use Rattle.realm_host.specs.Acting.{CanAct, IsActed};
 
 use crate::Host;

@@ -1,4 +1,4 @@
-//! Commands of builds, and the answers of hosts to steps.
+//! The commands that a host performs for a build, and its answers to them.
 ghost use Rattle.std.specs.Prelude.{◌≡◌, ◌<◌, None};
 ghost use Rattle.host_commands.specs.declared.cmd.Cmd.TheVariants as cmd;
 ghost use Rattle.realm_host.specs.Call.{Ask};
@@ -24,8 +24,8 @@ impl<S: PageStore> Host<S> {
         self.ask(build, &cmd)
     }
 
-    /// Performs a borrowed command of a build. `ask` does what `command` does, without taking ownership of the command.
-    /// So a plan asks for its commands without a copy.
+    /// Performs a command of a build, without taking ownership of the command. `ask` does what `command` does. So a
+    /// plan asks for its commands without a copy.
     pub fn ask(&mut self, build: BuildId, cmd: &Cmd) -> Result<Reply, Refusal>
         ensures { IsAnswer self.old build (Ask cmd.now) (replied result) self.new }
     {
@@ -63,7 +63,7 @@ impl<S: PageStore> Host<S> {
     }
 }
 
-/// The answer of a host to a step.
+/// The answer of a host to a command or an undo.
 #[derive(Clone, Copy)]
 pub enum HostAnswer {
     Replied(Reply),

@@ -1,4 +1,4 @@
-//! The host of builds, its boot, and reads of its state.
+//! The host of realm builds, with its boot and functions that read its state.
 ghost use Rattle.std.specs.Prelude.{◌≡◌, ◌<◌, ◌≤◌, ℕ, length, replicate, true, IfOk, IfErr, IfSome, option_map, sum};
 ghost use Rattle.granule_addr.specs.Page.{zero_page};
 ghost use Rattle.realm_model.specs.Machine.{cell_at};
@@ -20,7 +20,8 @@ use rmi_monitor::{Monitor, RealmDesc};
 use std::alloc::{AllocError, Global};
 use std::marker::Model;
 
-/// A host of builds. The host keeps all pages in a store of type `S`. All its memory is taken when it is booted.
+/// A host for realm builds, with its RMM and its ledger. The host keeps all pages in a store of type `S`. All its
+/// memory is taken when it is booted.
 #[derive(Drop)]
 pub struct Host<S: PageStore> {
     pub(crate) monitor: Monitor<S>,
@@ -42,8 +43,8 @@ impl<S: PageStore> Model for Host<S> {
 }
 
 impl<S: PageStore> Host<S> {
-    /// Boots a new host on `store`. All pages of the store must be free and zeroed. If there is no memory for the host,
-    /// returns the error and the store.
+    /// Boots a new host that keeps its pages in `store`. All pages of the store must be free and zeroed. If there is no
+    /// memory for the host, returns the error and the store.
     pub fn boot(alloc: Global, settings: Settings, store: S) -> Result<Host<S>, (AllocError, S)>
         requires zero { S.page_bytes store ≡ replicate (length (S.page_bytes store)) zero_page }
         requires free { S.free_flags store ≡ replicate (length (S.page_bytes store)) true }
@@ -86,15 +87,15 @@ impl<S: PageStore> Host<S> {
         self.ledger.history()
     }
 
-    /// Returns the host's ledger. It is all that contracts see of the host. The checks of a command read the ledger.
-    /// The ledger has none of the machine's memory.
+    /// Returns the host's ledger, its record of the history and of the builds. It is all that contracts see of the
+    /// host. The checks of a command read the ledger. The ledger has none of the machine's memory.
     pub fn ledger(&self) -> &HostLedger
         ensures { result.now ≡ self.now }
     {
         &self.ledger
     }
 
-    /// Returns the room that each build has in the history.
+    /// Returns the number of history entries reserved for each build.
     pub fn capacity(&self) -> u16
         ensures { result ≡ self.now.capacity }
     {
@@ -173,9 +174,9 @@ impl<S: PageStore> Host<S> {
         }
     }
 
-    /// Returns the realm of a build. Returns `None` if the build has no realm. The result has the realm's state, its
-    /// VMID, its starting tables with the width of its IPAs, the number of its next REC, and its measurement. A walk of
-    /// its tables begins at level 1.
+    /// Returns the description of a build's realm. Returns `None` if the build has no realm. The result has the realm's
+    /// state, its VMID, its starting tables with the width of its IPAs, the number of its next REC, and its
+    /// measurement. A walk of its tables begins at level 1.
     pub fn realm(&self, build: BuildId) -> Option<&RealmDesc>
         ensures { option_copied result ≡ option_map attributes_of (row_of (world_of self.now) build) }
     {

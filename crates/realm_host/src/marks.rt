@@ -18,9 +18,9 @@ use page_arena::PageStore;
 use realm_model::Act;
 
 impl<S: PageStore> Host<S> {
-    /// Sets and returns the mark of a build. The mark is at the current number of open operations. An older mark of the
-    /// build is replaced. The mark is dropped by the reverse that leaves the build with fewer operations open than it
-    /// has now.
+    /// Sets a mark to which the build can be rolled back. The mark is at the current number of open operations. An
+    /// older mark of the build is replaced. The mark is dropped by the reverse that leaves the build with fewer
+    /// operations open than it has now.
     ///
     /// Refused with NoBuild or with Aborting. This is no event.
     pub fn mark(&mut self, build: BuildId) -> Result<Mark, Refusal>
@@ -50,9 +50,9 @@ impl<S: PageStore> Host<S> {
         Ok(self.ledger.open_count(build) - mark.length())
     }
 
-    /// Rolls a build back to a mark. Undoes the operations that the build opened after the mark, the newest first, and
-    /// returns their number. The world then owns the same as that of the history without what the build did after the
-    /// mark; what is not the build's is exactly the same. The mark stays.
+    /// Undoes the operations that a build opened after a mark, the newest first. Returns their number. The world then
+    /// owns the same as that of the history without what the build did after the mark; what is not the build's is
+    /// exactly the same. The mark stays.
     ///
     /// Refused with NoBuild or Aborting. Refused with NothingToUndo if this is not the mark that is kept for the build,
     /// and with RecRunning if an operation above it created a REC that runs. Then nothing changes.

@@ -15,8 +15,8 @@ use realm_model::{Act, GranuleState};
 use rmi_monitor::Rec;
 use rtt::Entry;
 
-/// The state, the build and the realm of a granule. The build leases the granule. The realm is the one that the granule
-/// belongs to, given by its RD.
+/// The state of a granule, with its build and its realm, if any. The build leases the granule. The realm is the one
+/// that the granule belongs to, given by its RD.
 #[derive(Clone, Copy)]
 pub struct GranuleView {
     pub state: GranuleState,
@@ -24,7 +24,8 @@ pub struct GranuleView {
     pub realm: Option<Gran>,
 }
 
-/// A row of a realm's RTTs. It has the level, the first IPA granule covered, and the RTT entry. RMM 1.0, RTT entry.
+/// An RTT entry of a realm, with its level and its first IPA granule. The first IPA granule is the first one that the
+/// entry covers. RMM 1.0, RTT entry.
 #[derive(Clone, Copy)]
 pub struct RowView {
     pub level: Level,
@@ -33,7 +34,7 @@ pub struct RowView {
 }
 
 impl RowView {
-    /// Returns the number of the first IPA granule after the row.
+    /// Returns the number of the first IPA granule after those that the entry covers.
     pub fn next(&self) -> u32
         ensures { result ≡ self.now.first + covered_count self.now.level }
     {
@@ -76,8 +77,8 @@ impl<S: PageStore> Host<S> {
         self.monitor.pages()
     }
 
-    /// Returns the state, the build and the realm of a granule. The build leases the granule, and the granule belongs
-    /// to the realm. Returns `None` if the machine has no such granule. An RD belongs to its own realm.
+    /// Returns a granule's state, the build that leases it, and its realm. Returns `None` if the machine has no such
+    /// granule. An RD belongs to its own realm.
     pub fn granule_view(&self, granule: Gran) -> Option<GranuleView>
         ensures { result ≡ granule_at (world_of self.now) granule }
     {
@@ -160,15 +161,15 @@ impl<S: PageStore> Host<S> {
         }
     }
 
-    /// Whether a build is aborting.
+    /// Whether an abort of a build has begun and is not finished.
     pub fn is_aborting(&self, build: BuildId) -> bool
         ensures { result ≡ is_aborting self.now build }
     {
         self.ledger.has_build(build) && self.ledger.is_aborting(build)
     }
 
-    /// Returns the mark that is kept for a build, if any. It is valid; `check_back` says whether the build can go back
-    /// to it now.
+    /// Returns a build's last mark, if there is one and it is still valid. `check_back` says whether the build can go
+    /// back to it now.
     pub fn kept_mark(&self, build: BuildId) -> Option<Mark>
         ensures value { result ≡ mark_of self.now build }
         ensures stands { IfSome result (IsMarkOf self.now build) }

@@ -3,7 +3,8 @@ ghost use Rattle.std.specs.Prelude.{◌≡◌, ◌≤◌, ◌↔◌, IsSome, IfS
 
 use realm_model::{LEAST_HISTORY, MOST_HISTORY};
 
-/// The settings of a host. They are the numbers of VMIDs, auxiliary granules per REC, events per build, and builds.
+/// The settings of a host: numbers of VMIDs, auxiliary granules, events and builds. Auxiliary granules are counted per
+/// REC, and events per build.
 #[derive(Clone, Copy)]
 pub struct Settings {
     pub vmids: u8,
@@ -21,8 +22,8 @@ pub struct Settings {
 impl Settings {
     ghost use Rattle.realm_host.specs.Settings.{AreSettings};
 
-    /// Creates the settings with these numbers. Returns `None` if one of the numbers is out of range. The ranges are 1
-    /// to 255 VMIDs, 0 to 16 auxiliaries, 16 to 16,384 events, and 1 to 8 builds.
+    /// Creates the settings of a host, if all numbers are in range. Returns `None` if one of the numbers is out of
+    /// range. The ranges are 1 to 255 VMIDs, 0 to 16 auxiliaries, 16 to 16,384 events, and 1 to 8 builds.
     pub fn new(vmids: u8, aux: u8, history: u16, builds: u8) -> Option<Settings>
         ensures valid { IsSome result ↔ AreSettings vmids aux history builds }
         ensures value { IfSome result (λ s. (s.vmids ≡ vmids) × (s.aux ≡ aux) × (s.history ≡ history) × (s.builds ≡ builds)) }

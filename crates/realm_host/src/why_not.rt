@@ -9,12 +9,12 @@ use thiserror::Error;
 /// The reason why a recorded event cannot be applied.
 #[derive(Clone, Copy, Debug, Error)]
 pub enum WhyNot {
-    /// An event that does not fit. Its build has too little room left in the history, or the event has a reverse and
-    /// the build already has 512 open operations.
+    /// An event for which its build has too little capacity left. The build has too little room left in the history, or
+    /// the event has a reverse and the build already has 512 open operations.
     #[error("its build has not the room that it takes")]
     NoRoom,
-    /// A reverse that is not possible now. Its operation is not the build's newest open operation, or created a REC
-    /// that runs.
+    /// A reverse of an operation that cannot be undone now. The operation is not the build's newest open operation, or
+    /// created a REC that runs.
     #[error("it is not the reverse of the newest act that its build has open")]
     NotNewest,
     /// An event that the model's rules do not allow next.

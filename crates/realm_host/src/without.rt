@@ -1,4 +1,4 @@
-//! The history without a build, applied to a new host.
+//! Applies a history without one build's events to a new host.
 ghost use Rattle.std.specs.Prelude.{◌≡◌};
 ghost use Rattle.realm_host.specs.Recorded.{fresh_like, IsWithout};
 

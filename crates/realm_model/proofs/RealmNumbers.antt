@@ -108,8 +108,8 @@ few_step limits b before w v e at_w few s = ⊎_elim
 few_at_first : (limits : Limits) (b : ℕ) → Few b [] (opening limits)
 few_at_first limits b k d is = absurd (no_descriptor (cell_at (part_of (opening limits) b).machine k) d (none_at_first limits b k) is)
 
-pub numbers_are_few : (limits : Limits) (history : List Event) (w : World) (b : ℕ) → IsLegal limits history → replay limits history ≡ Some w → NumbersAreFew history w b
-numbers_are_few limits history w b legal at_w rd realm at is =
+pub rec_numbers_are_bounded : (limits : Limits) (history : List Event) (w : World) (b : ℕ) → IsLegal limits history → replay limits history ≡ Some w → NumbersAreFew history w b
+rec_numbers_are_bounded limits history w b legal at_w rd realm at is =
     let few = of_legal limits (Few b) (λ before w v e legal at_w few turn s. few_step limits b before w v e at_w few s) (few_at_first limits b) history w legal at_w in
     let place : cell_at (part_of w b).machine rd.number ≡ rd.cell = subst (IsAt (part_of w b).machine) (realm_of-part_of b w ∙ at) (IsAt-realm_of b (part_of w b)) in
     few rd.number realm (ap (λ (c : Cell). c.descriptor) place ∙ is)

@@ -12,12 +12,12 @@ use granule_addr::{BuildId, Gran, IpaGran, Level, Order, PageOff, RecNo, Root, V
 /// of `Unknown`.
 #[derive(PartialEq, Eq, Drop)]
 pub enum Act {
-    /// A block of free pages is leased.
+    /// The lease of a block of free pages to a build.
     Take {
         order: Order,
         first: Gran,
     },
-    /// A block is cleared and given back.
+    /// The clearing and return of a leased block of pages.
     UnTake {
         order: Order,
         first: Gran,
@@ -33,78 +33,78 @@ pub enum Act {
         offset: PageOff,
         byte: u8,
     },
-    /// RMI_GRANULE_DELEGATE
+    /// The command RMI_GRANULE_DELEGATE.
     Delegate {
         granule: Gran,
     },
-    /// RMI_GRANULE_UNDELEGATE
+    /// The command RMI_GRANULE_UNDELEGATE.
     Undelegate {
         granule: Gran,
     },
-    /// RMI_REALM_CREATE
+    /// The command RMI_REALM_CREATE.
     Realm {
         rd: Gran,
         root: Root,
         vmid: Vmid,
     },
-    /// RMI_REALM_DESTROY
+    /// The command RMI_REALM_DESTROY.
     UnRealm {
         rd: Gran,
         root: Root,
         vmid: Vmid,
     },
-    /// RMI_REALM_ACTIVATE
+    /// The command RMI_REALM_ACTIVATE.
     Activate,
-    /// RMI_RTT_CREATE
+    /// The command RMI_RTT_CREATE.
     Rtt {
         granule: Gran,
         ipa: IpaGran,
         level: Level,
     },
-    /// RMI_RTT_DESTROY
+    /// The command RMI_RTT_DESTROY.
     UnRtt {
         granule: Gran,
         ipa: IpaGran,
         level: Level,
     },
-    /// RMI_RTT_INIT_RIPAS, for `count` pages
+    /// The command RMI_RTT_INIT_RIPAS, for a range of `count` pages.
     Ripas {
         ipa: IpaGran,
         count: u16,
     },
-    /// RMI_DATA_CREATE
+    /// The command RMI_DATA_CREATE.
     Data {
         granule: Gran,
         ipa: IpaGran,
         source: Gran,
     },
-    /// RMI_DATA_CREATE_UNKNOWN
+    /// The command RMI_DATA_CREATE_UNKNOWN.
     Unknown {
         granule: Gran,
         ipa: IpaGran,
     },
-    /// RMI_DATA_DESTROY
+    /// The command RMI_DATA_DESTROY.
     UnData {
         granule: Gran,
         ipa: IpaGran,
     },
-    /// RMI_REC_CREATE
+    /// The command RMI_REC_CREATE.
     Rec {
         granule: Gran,
         auxiliaries: ArrayVec<Gran, 16>,
         number: RecNo,
     },
-    /// RMI_REC_DESTROY
+    /// The command RMI_REC_DESTROY.
     UnRec {
         granule: Gran,
         auxiliaries: ArrayVec<Gran, 16>,
         number: RecNo,
     },
-    /// RMI_REC_ENTER, up to the point at which the REC runs
+    /// The command RMI_REC_ENTER, up to the point at which the REC runs.
     Enter {
         number: RecNo,
     },
-    /// The REC stops running.
+    /// A REC stops running.
     Exit {
         number: RecNo,
     },
@@ -282,9 +282,8 @@ impl Act {
     }
 }
 
-/// The granules of a build's realm and of a REC. `realm` is the RD of the realm, and `rec` is the granule of the REC
-/// that an operation names. Each is `None` if there is none. Given both, the RMM searches for neither. The value of
-/// `rec` does not matter to an operation that names no REC.
+/// The RD of a build's realm, and the granule of an operation's REC. Each is `None` if there is none. Given both, the
+/// RMM searches for neither. The value of `rec` does not matter to an operation that names no REC.
 #[derive(Clone, Copy)]
 pub struct RealmAndRec {
     pub realm: Option<Gran>,

@@ -31,8 +31,8 @@ pub fn builds_can_be_taken_alone()
     ensures { (limits : Limits) (history : List Event) (build : ℕ) → IsLegal limits history → IsLegalAlone limits history build }
 {}
 
-/// The world does not depend on the schedule of builds. Two legal histories in which each build has the same sequence
-/// of events lead to the same world of the model.
+/// The model's world does not depend on the schedule of builds. Two legal histories in which each build has the same
+/// sequence of events lead to the same world of the model.
 pub fn schedule_does_not_matter()
     ensures { (limits : Limits) (history other : List Event) → IsLegal limits history → IsLegal limits other → HasSameEvents history other → replay limits history ≡ replay limits other }
 {}
@@ -43,14 +43,14 @@ pub fn events_of_two_builds_commute()
     ensures { (limits : Limits) (history : List Event) (one other : Event) → EventsCommute limits history one other }
 {}
 
-/// `step` and `IsStep` agree. From any world of the model that a history leads to, `step` leads exactly to the worlds
-/// that `IsStep` allows.
+/// The function `step` agrees with the relation `IsStep`. From any world of the model that a history leads to, `step`
+/// leads exactly to the worlds that `IsStep` allows.
 pub fn step_is_exact()
     ensures { (limits : Limits) (history : List Event) (world : World) (event : Event) → replay limits history ≡ Some world → StepIsExact limits world event }
 {}
 
-/// The matching of operations and reverses is a stack. If each operation with a reverse is pushed and each reverse
-/// pops, exactly the operations without a matching reverse remain.
+/// Reverses match operations in stack order, the newest operation first. If each operation with a reverse is pushed and
+/// each reverse pops, exactly the operations without a matching reverse remain.
 pub fn matching_is_a_stack()
     ensures { (acts : List Act) → MatchingIsAStack acts }
 {}
@@ -60,41 +60,41 @@ pub fn pages_are_leased()
     ensures { (limits : Limits) (history : List Event) (world : World) (build : ℕ) → IsLegal limits history → replay limits history ≡ Some world → PagesAreLeased limits history build world }
 {}
 
-/// Every reached world satisfies the invariant `IsReachable`. A reached world is a world of the model that a history
-/// leads to.
+/// Every world of the model that a history leads to satisfies the invariant `IsReachable`.
 pub fn reached_worlds_are_sound()
     ensures { (limits : Limits) (history : List Event) (world : World) → replay limits history ≡ Some world → IsReachable limits world }
 {}
 
 /// A realm's next REC number never exceeds its build's number of events.
-pub fn numbers_are_few()
+pub fn rec_numbers_are_bounded()
     ensures { (limits : Limits) (history : List Event) (world : World) (build : ℕ) → IsLegal limits history → replay limits history ≡ Some world → NumbersAreFew history world build }
 {}
 
-/// A build's count of running RECs is 0 exactly if none runs.
+/// A build's count of running RECs is 0 exactly if no REC of its realm runs.
 pub fn at_rest_is_none_running()
     ensures { (limits : Limits) (history : List Event) (world : World) (build : ℕ) → replay limits history ≡ Some world → RestIsOfAll world build }
 {}
 
-/// An accepted event takes room from its own build alone. It takes the room of its operation.
+/// An accepted event uses history capacity of its own build only. The amount depends on the event's operation alone.
 pub fn room_is_taken()
     ensures { (limits : Limits) (history : List Event) (world : World) (event : Event) (next : World)
         → IsLegal limits history → replay limits history ≡ Some world → RoomIsTaken limits history world event next }
 {}
 
-/// A build's used room is the total room of its operations.
+/// The history capacity that a build has used is the sum over its operations.
 pub fn room_is_a_sum()
     ensures { (limits : Limits) (history : List Event) (world : World) (build : ℕ) → IsLegal limits history → replay limits history ≡ Some world → RoomIsSum history world build }
 {}
 
-/// Leaving out a build does not change the other builds' room. If the build's events are left out of a history, every
-/// other build has the same operations open, and has used the same amount of room.
+/// Leaving out a build does not change the history capacity used by the others. If the build's events are left out of a
+/// history, every other build has the same operations open, and has used the same amount of capacity.
 pub fn others_keep_their_room()
     ensures { (limits : Limits) (history : List Event) (world : World) (build other : ℕ) → IsLegal limits history → replay limits history ≡ Some world → OthersKeepTheirRoom history world build other }
 {}
 
-/// A history without a build's events is accepted in sequence. The remaining events are accepted one by one, starting
-/// from the empty history. The machine has the same limits and room, and each build can have as many operations open.
+/// A history is still accepted if the events of one build are left out. The remaining events are accepted one by one,
+/// starting from the empty history. The machine has the same limits and room, and each build can have as many
+/// operations open.
 pub fn what_is_left_is_accepted()
     ensures { (limits : Limits) (capacity most : ℕ) (history : List Event) (world : World) (build : ℕ)
         → IsLegal limits history → replay limits history ≡ Some world → WhatIsLeftIsAccepted limits capacity most history world build }
@@ -110,21 +110,20 @@ pub fn vmids_are_of_open_acts()
     ensures { (limits : Limits) (history : List Event) (world : World) (vmid : ℕ) → IsLegal limits history → replay limits history ≡ Some world → VmidIsOpen history world vmid }
 {}
 
-/// A reverse right after its operation restores the ownership. The reverse is accepted, and the ownership is that
-/// before the operation.
+/// A reverse right after its operation restores the ownership of granules. The reverse is accepted, and the ownership
+/// is that before the operation.
 pub fn pairs_lead_back()
     ensures { (limits : Limits) (history : List Event) (world : World) (build : ℕ) (act back : Act) (middle : World)
         → replay limits history ≡ Some world → PairLeadsBack limits build world act back middle }
 {}
 
-/// Operations without a counterpart do not change the ownership. Such an operation neither has a reverse nor is a
-/// reverse.
+/// An operation that neither has nor is a reverse changes no ownership of granules.
 pub fn other_acts_own_the_same()
     ensures { (limits : Limits) (world : World) (build : ℕ) (act : Act) (next : World) → OtherActOwnsSame limits build world act next }
 {}
 
-/// An operation's fields and the ownership before determine the ownership after. Worlds that own the same still do
-/// after the same operation.
+/// The ownership after an operation depends only on the operation and the ownership before. Worlds that own the same
+/// still do after the same operation.
 pub fn ownership_follows()
     ensures { (limits : Limits) (history past : List Event) (world twin : World) (build : ℕ) (act : Act) (next other : World)
         → replay limits history ≡ Some world → replay limits past ≡ Some twin → OwnershipFollows limits build act world twin next other }
@@ -137,8 +136,8 @@ pub fn newest_can_be_undone()
         → IsLegal limits history → replay limits history ≡ Some world → NewestCanBeUndone limits history build world act }
 {}
 
-/// A build with no operation open leaves nothing behind. The history without the build's events leads to the same world
-/// of the model.
+/// A build with no open operation has no effect on the model's world. The history without the build's events leads to
+/// the same world.
 pub fn nothing_open_is_noninterference()
     ensures { (limits : Limits) (history : List Event) (world : World) (build : ℕ) → IsLegal limits history → replay limits history ≡ Some world → NothingOpenIsNoninterference limits history build world }
 {}
@@ -149,8 +148,7 @@ pub fn all_can_be_undone()
     ensures { (limits : Limits) (history : List Event) (world : World) (build : ℕ) → IsLegal limits history → replay limits history ≡ Some world → AllCanBeUndone limits history build world }
 {}
 
-/// Neither another build's event nor a reverse starts a build's RECs. A build without running RECs still has none after
-/// such an event.
+/// A build without running RECs still has none after another build's event or a reverse.
 pub fn builds_stay_at_rest()
     ensures { (limits : Limits) (history : List Event) (world : World) (build : ℕ) (event : Event) (next : World) → replay limits history ≡ Some world → StaysAtRest limits world build event next }
 {}
@@ -163,22 +161,24 @@ pub fn aborts_go_on()
         → AbortGoesOn limits history later build begun world }
 {}
 
-/// A mark is valid as soon as it is set.
-pub fn new_marks_stand()
+/// A build's mark is valid as soon as it is set.
+pub fn new_marks_are_valid()
     ensures { (build : ℕ) (history : List Event) → IsValidMark (mark_at build history) history }
 {}
 
-/// A mark remains valid until the build has fewer operations open than at the mark.
-pub fn marks_stand_on()
+/// A build's mark remains valid until the build has fewer open operations than at the mark.
+pub fn marks_remain_valid()
     ensures { (mark : Mark) (history : List Event) (event : Event) → StaysValid mark history event }
 {}
 
-/// A build can be rolled back to a valid mark, on one condition. No REC that the build created since the mark runs.
+/// A build can be rolled back to a valid mark unless a newer REC runs. A newer REC is one that the build created since
+/// the mark.
 pub fn marks_can_be_rolled_back_to()
     ensures { (limits : Limits) (history : List Event) (world : World) (mark : Mark) → IsLegal limits history → replay limits history ≡ Some world → CanRollBack limits history mark world }
 {}
 
-/// A realm's RECs are those of its build's open Rec operations. A REC that was created later has a higher number.
+/// A realm's RECs are those that open Rec operations of its build created. A REC that was created later has a higher
+/// number.
 pub fn recs_are_open_acts()
     ensures { (limits : Limits) (history : List Event) (world : World) (build : ℕ) → IsLegal limits history → replay limits history ≡ Some world → RecsAreOpen history world build }
 {}

@@ -1,7 +1,7 @@
 //! The refusals of the RMM, and their result words.
 ghost use Rattle.std.specs.Prelude.{◌≡◌, ◌+◌, ◌*◌};
 
-/// The reason why a command is refused. RMM 1.0, RMI status codes.
+/// The RMI status that gives the reason for a refused command. RMM 1.0, RMI status codes.
 #[derive(Clone, Copy, Debug, PartialEq, Eq)]
 pub enum Status {
     Input,
@@ -54,7 +54,7 @@ impl Rmi {
         index: 0,
     };
 
-    /// Returns the result word. It has the status in bits 0 to 7 and the index in bits 8 to 15.
+    /// Returns the RMI result word of the refusal. It has the status in bits 0 to 7 and the index in bits 8 to 15.
     pub fn word(self) -> u64
         ensures { result ≡ result_word self }
     {

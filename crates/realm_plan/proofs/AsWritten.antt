@@ -9,7 +9,7 @@ use Rattle.realm_plan.specs.declared.step.PlanStep.{PlanStep}
 use Rattle.realm_plan.proofs.StepTexts.{text_of_step}
 use Rattle.realm_plan.specs.Contents.{Contents, contents_of}
 use Rattle.realm_plan.specs.Outcome.{◌>>=◌, or_fault, Gives}
-use Rattle.realm_plan.specs.Plan.{Plan, steps_of, builds_of, order_of, plan_numbers_of, lengths_of, plan_of_contents, document_of, plan_of}
+use Rattle.realm_plan.specs.Plan.{Plan, steps_of, builds_of, order_of, plan_numbers_of, check_lengths, plan_of_contents, document_of, plan_of}
 use Rattle.realm_plan.specs.PlanView.{plan_view}
 use Rattle.realm_plan.specs.Written.{written_steps}
 use Rattle.realm_plan.specs.declared.fault.PlanFault.{PlanFault}
@@ -53,7 +53,7 @@ same_builds : (c : Contents) (builds : List (List PlanStep)) (p : Plan) → afte
 same_builds c builds p e =
     let order = bind_ok (after_order c builds) (order_of (length builds) 0 c.order) p e in
     let n = bind_ok (ends c builds order.0) (plan_numbers_of c) p order.2 in
-    let last = bind_ok _ (lengths_of builds order.0) p n.2 in
+    let last = bind_ok _ (check_lengths builds order.0) p n.2 in
     let end = last.2 in
     cc
 

@@ -3,7 +3,7 @@ use Rattle.std.proofs.Common.{◌≡◌, ℕ, false, List, length, Result, Ok, r
 use Rattle.realm_plan.specs.declared.step.PlanStep.{PlanStep}
 use Rattle.realm_plan.specs.Contents.{Contents}
 use Rattle.realm_plan.specs.Outcome.{◌>>=◌, Fails}
-use Rattle.realm_plan.specs.Plan.{Plan, builds_of, order_of, plan_numbers_of, lengths_of, plan_of_contents}
+use Rattle.realm_plan.specs.Plan.{Plan, builds_of, order_of, plan_numbers_of, check_lengths, plan_of_contents}
 use Rattle.realm_plan.specs.declared.fault.PlanFault.{PlanFault}
 use Rattle.realm_plan.specs.declared.fault.PlanError.{PlanError}
 use Rattle.realm_plan.specs.declared.fault.PlanError.TheVariants as errors
@@ -19,7 +19,7 @@ module _ (c : Contents) where
   made builds order n = record { pages = n.pages; vmids = n.vmids; aux = n.aux; history = n.history; builds = builds; order = order; gives_up = false }
 
   abbrev pub ends : List (List PlanStep) → List ℕ → Numbers → Result Plan PlanFault
-  ends builds order n = lengths_of builds order >>= (λ _. Ok (made builds order n))
+  ends builds order n = check_lengths builds order >>= (λ _. Ok (made builds order n))
 
   abbrev pub after_order : List (List PlanStep) → List ℕ → Result Plan PlanFault
   after_order builds order = plan_numbers_of c >>= ends builds order
@@ -42,10 +42,10 @@ module _ (c : Contents) where
       fails_at_numbers error fails = rw (builds_read, order_read) (fails_first (ends builds order) (plan_numbers_of c) error fails)
 
       module _ (n : Numbers) (numbers_read : plan_numbers_of c ≡ Ok n) where
-        pub fails_at_lengths : (error : PlanError) → Fails error (lengths_of builds order) → Fails error (plan_of_contents c)
+        pub fails_at_lengths : (error : PlanError) → Fails error (check_lengths builds order) → Fails error (plan_of_contents c)
         unfolding plan_of_contents
-        fails_at_lengths error fails = rw (builds_read, order_read, numbers_read) (fails_first (λ _. Ok (made builds order n)) (lengths_of builds order) error fails)
+        fails_at_lengths error fails = rw (builds_read, order_read, numbers_read) (fails_first (λ _. Ok (made builds order n)) (check_lengths builds order) error fails)
 
-        pub plan_read : lengths_of builds order ≡ Ok tt → plan_of_contents c ≡ Ok (made builds order n)
+        pub plan_read : check_lengths builds order ≡ Ok tt → plan_of_contents c ≡ Ok (made builds order n)
         unfolding plan_of_contents
         plan_read short = rw (builds_read, order_read, numbers_read, short) refl

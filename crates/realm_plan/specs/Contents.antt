@@ -3,7 +3,7 @@ use Rattle.std.specs.Prelude.{ℕ, ℤ, pos, Bool, true, ◌&&◌, List, [], ◌
 use Rattle.std.specs.List.{list_any}
 use Rattle.std.specs.Str.{bytes_eq}
 use Rattle.toml.specs.Data.{Data, Items, no_items, item, Members, no_members, member, get_member, as_integer, as_str, as_array, as_table}
-use Rattle.realm_plan.specs.declared.contents.Wholes.{Wholes}
+use Rattle.realm_plan.specs.declared.contents.PlanIntegers.{PlanIntegers}
 
 infixl 10 ◌>>=◌
 abbrev pub ◌>>=◌ : {A B : Type 0} → Option A → (A → Option B) → Option B
@@ -20,8 +20,8 @@ whole_of default None = default
 whole_of default (Some value) = as_integer value
 
 -- the whole numbers; all but `pages` have a default
-unfoldable pub wholes_at : Members → Option Wholes
-wholes_at ms =
+unfoldable pub integers_at : Members → Option PlanIntegers
+integers_at ms =
     whole_of None (get_member (codes "pages") ms) >>= (λ pages.
     whole_of (Some (pos 8)) (get_member (codes "vmids") ms) >>= (λ vmids.
     whole_of (Some (pos 0)) (get_member (codes "aux") ms) >>= (λ aux.
@@ -29,9 +29,9 @@ wholes_at ms =
     Some (record { pages = pages; vmids = vmids; aux = aux; history = history })))))
 
 -- whole numbers and no other items
-abbrev pub wholes_of : Items → Option (List ℤ)
-wholes_of no_items = Some []
-wholes_of (item value more) = as_integer value >>= (λ z. option_map (λ zs. z ∷ zs) (wholes_of more))
+abbrev pub integers_of : Items → Option (List ℤ)
+integers_of no_items = Some []
+integers_of (item value more) = as_integer value >>= (λ z. option_map (λ zs. z ∷ zs) (integers_of more))
 
 -- texts and no other items
 abbrev pub texts_of : Items → Option (List (List ℕ))
@@ -58,7 +58,7 @@ builds_at ms = get_member (codes "build") ms >>= as_array >>= build_texts_of
 -- if there is no schedule, it is the empty one
 abbrev pub order_numbers_of : Option Data → Option (List ℤ)
 order_numbers_of None = Some []
-order_numbers_of (Some value) = as_array value >>= wholes_of
+order_numbers_of (Some value) = as_array value >>= integers_of
 
 pub record Contents : Type 0 where
   pub pages : ℤ
@@ -72,7 +72,7 @@ pub record Contents : Type 0 where
 unfoldable pub contents_of : Members → Option Contents
 contents_of ms =
     if has_only plan_keys ms then
-    wholes_at ms >>= (λ n.
+    integers_at ms >>= (λ n.
     order_numbers_of (get_member (codes "order") ms) >>= (λ order.
     builds_at ms >>= (λ builds.
     Some (record { pages = n.pages; vmids = n.vmids; aux = n.aux; history = n.history; order = order; builds = builds }))))

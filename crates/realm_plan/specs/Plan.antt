@@ -54,8 +54,8 @@ plan_numbers_of c =
     Ok (record { pages = pages; vmids = vmids; aux = aux; history = history })))))
 
 -- 1 to 8 builds, each of up to 1024 steps, and up to 16384 turns
-unfoldable pub lengths_of : List (List PlanStep) → List ℕ → Result (Unit {0}) PlanFault
-lengths_of builds order =
+unfoldable pub check_lengths : List (List PlanStep) → List ℕ → Result (Unit {0}) PlanFault
+check_lengths builds order =
     within (nat_le 1 (length builds) && nat_le (length builds) 8) >>= (λ _.
     within (list_all (λ steps. nat_le (length steps) 1024) builds) >>= (λ _.
     within (nat_le (length order) 16384)))
@@ -78,7 +78,7 @@ plan_of_contents c =
     builds_of 0 c.builds >>= (λ builds.
     order_of (length builds) 0 c.order >>= (λ order.
     plan_numbers_of c >>= (λ n.
-    lengths_of builds order >>= (λ _.
+    check_lengths builds order >>= (λ _.
     Ok (record { pages = n.pages; vmids = n.vmids; aux = n.aux; history = n.history; builds = builds; order = order; gives_up = false })))))
 
 -- the document that the bytes are

@@ -1,4 +1,4 @@
-//! The text of an answer in the line of a turn.
+//! The printed text of a host's reply or refusal to a step of a plan.
 ghost use Rattle.std.specs.Prelude.{◌≡◌};
 ghost use Rattle.realm_plan.specs.Answers.{kind_word, refusal_name, refusal_numbers};
 
@@ -9,15 +9,16 @@ use host_commands::{Refusal, Reply};
 use realm_model::Kind;
 use std::fmt;
 
-/// The word for the kind of an undone operation.
+/// The printed word for the kind of an operation, such as `take` or `rtt`.
 #[derive(Clone, Copy)]
 pub struct KindWord(pub Kind);
 
-/// The text of a refusal. It has the number and the name of the refusal, and the numbers that the refusal carries.
+/// The printed text of a host's refusal of a step. It has the number and the name of the refusal, and the numbers that
+/// the refusal carries.
 #[derive(Clone, Copy)]
 pub struct RefusalText(pub Refusal);
 
-/// The text of the reply to an accepted command.
+/// The printed text of a host's reply to an accepted command.
 #[derive(Clone, Copy)]
 pub struct ReplyText(pub Reply);
 

@@ -1,4 +1,4 @@
-//! The parser of steps. Each step is given as a word and numbers.
+//! The parser of a plan's steps. Each step is given as a word and numbers.
 ghost use Rattle.std.specs.Prelude.{◌≡◌, codes};
 ghost use Rattle.decimal_text.specs.Rows.{none, one};
 ghost use Rattle.decimal_text.specs.Written.{u16};
@@ -144,7 +144,7 @@ fn way_back_step(word: &str, numbers: &[u32]) -> Option<PlanStep>
     }
 }
 
-/// Parses a step from a word and numbers. Returns `None` if they denote no step.
+/// Returns the plan step that consists of the given word and operands. Returns `None` if there is no such step.
 pub fn step(word: &str, numbers: &[u32]) -> Option<PlanStep>
     ensures { result ≡ step_at word.now numbers.now }
 {

@@ -1,23 +1,23 @@
-//! The values of a plan's keys, before any limits are checked.
+//! The values of the TOML keys of a plan, before their limits are checked.
 ghost use Rattle.std.specs.Prelude.{◌≡◌, List, map, Some, None, IfOk, option_map, option_and_then};
 ghost use Rattle.std.specs.List.{list_any};
 ghost use Rattle.std.specs.Str.{bytes_eq};
 ghost use Rattle.toml.specs.Data.{get_member, as_array};
 ghost use Rattle.toml.specs.View.{view, array_view, table_view};
-ghost use Rattle.realm_plan.specs.Contents.{has_only, whole_of, wholes_at, wholes_of, texts_of, step_texts_of, build_texts_of, builds_at, order_numbers_of};
+ghost use Rattle.realm_plan.specs.Contents.{has_only, whole_of, integers_at, integers_of, texts_of, step_texts_of, build_texts_of, builds_at, order_numbers_of};
 
 use std::alloc::{AllocError, Global};
 use toml::value::Array;
 use toml::{Table, Value};
 
-/// Returns the value of a key.
+/// Returns the value of a key in a TOML table, if the key is there.
 fn value_at<'a>(table: &'a Table, key: &str) -> Option<&'a Value>
     ensures { option_map (λ v. view v.now) result ≡ get_member key.now (table_view table.now) }
 {
     table.get(key)
 }
 
-/// Returns the array at a key.
+/// Returns the array at a key of a TOML table, if there is one.
 fn array_at<'a>(table: &'a Table, key: &str) -> Option<&'a Array>
     ensures { option_map (λ a. array_view a.now) result
         ≡ option_and_then as_array (get_member key.now (table_view table.now)) }
@@ -25,8 +25,8 @@ fn array_at<'a>(table: &'a Table, key: &str) -> Option<&'a Array>
     value_at(table, key)?.as_array()
 }
 
-/// Returns the integer at a key. If the key is missing, returns the default.
-fn whole_at(table: &Table, key: &str, default: Option<i64>) -> Option<i64>
+/// Returns the integer at a key of a TOML table. If the key is missing, returns the default.
+fn integer_at(table: &Table, key: &str, default: Option<i64>) -> Option<i64>
     ensures { result ≡ whole_of default (get_member key.now (table_view table.now)) }
 {
     match value_at(table, key) {
@@ -35,25 +35,26 @@ fn whole_at(table: &Table, key: &str, default: Option<i64>) -> Option<i64>
     }
 }
 
-/// The integers at the keys of a plan.
+/// The integers at a plan's keys `pages`, `vmids`, `aux` and `history`.
 #[derive(Clone, Copy)]
-struct Wholes {
+struct PlanIntegers {
     pages: i64,
     vmids: i64,
     aux: i64,
     history: i64,
 }
 
-/// Returns the integers at the keys of the document. Missing keys have defaults, but `pages` has none.
-#[tactic(auto, unfolding(crate::specs::Contents::wholes_at))]
-fn wholes_at(table: &Table) -> Option<Wholes>
-    ensures { result ≡ wholes_at (table_view table.now) }
+/// Returns the integers at the keys `pages`, `vmids`, `aux` and `history`. Missing keys have defaults, but `pages` has
+/// none.
+#[tactic(auto, unfolding(crate::specs::Contents::integers_at))]
+fn integers_at(table: &Table) -> Option<PlanIntegers>
+    ensures { result ≡ integers_at (table_view table.now) }
 {
-    let pages = whole_at(table, "pages", None)?;
-    let vmids = whole_at(table, "vmids", Some(8))?;
-    let aux = whole_at(table, "aux", Some(0))?;
-    let history = whole_at(table, "history", Some(1024))?;
-    Some(Wholes {
+    let pages = integer_at(table, "pages", None)?;
+    let vmids = integer_at(table, "vmids", Some(8))?;
+    let aux = integer_at(table, "aux", Some(0))?;
+    let history = integer_at(table, "history", Some(1024))?;
+    Some(PlanIntegers {
         pages,
         vmids,
         aux,
@@ -61,9 +62,9 @@ fn wholes_at(table: &Table) -> Option<Wholes>
     })
 }
 
-/// Returns the integers of an array. Returns `None` if an element is not an integer.
-fn wholes_of(alloc: Global, array: &Array) -> Result<Option<Vec<i64>>, AllocError>
-    ensures { IfOk result (λ r. option_map (λ v. v.items) r ≡ wholes_of (array_view array.now)) }
+/// Returns the elements of a TOML array as integers. Returns `None` if an element is not an integer.
+fn integers_of(alloc: Global, array: &Array) -> Result<Option<Vec<i64>>, AllocError>
+    ensures { IfOk result (λ r. option_map (λ v. v.items) r ≡ integers_of (array_view array.now)) }
 {
     let mut found = Vec::new(alloc);
     for value in array {
@@ -75,7 +76,7 @@ fn wholes_of(alloc: Global, array: &Array) -> Result<Option<Vec<i64>>, AllocErro
     Ok(Some(found))
 }
 
-/// Returns the strings of an array. Returns `None` if an element is not a string.
+/// Returns the elements of a TOML array as strings. Returns `None` if an element is not a string.
 fn texts_of<'a>(alloc: Global, array: &'a Array) -> Result<Option<Vec<&'a str>>, AllocError>
     ensures { IfOk result (λ r. option_map (λ v. map (λ t. t.now) v.items) r ≡ texts_of (array_view array.now)) }
 {
@@ -100,7 +101,7 @@ fn is_among(names: &[&str], key: &str) -> bool
     false
 }
 
-/// Whether each key of the table is one of the names.
+/// Whether each key of a TOML table is in the list `names`.
 fn has_only_keys(table: &Table, names: &[&str]) -> bool
     ensures { result ≡ has_only (map (λ n. n.now) names.now) (table_view table.now) }
 {
@@ -112,8 +113,8 @@ fn has_only_keys(table: &Table, names: &[&str]) -> bool
     true
 }
 
-/// Returns the texts of a build's steps. Returns `None` if `value` is not a table with the single key `steps` and an
-/// array of strings.
+/// Returns the texts of a build's steps from the TOML value of the build. Returns `None` if `value` is not a table with
+/// the single key `steps` and an array of strings.
 fn steps_of<'a>(alloc: Global, value: &'a Value) -> Result<Option<Vec<&'a str>>, AllocError>
     ensures { IfOk result (λ r. option_map (λ v. map (λ t. t.now) v.items) r ≡ step_texts_of (view value.now)) }
 {
@@ -129,7 +130,7 @@ fn steps_of<'a>(alloc: Global, value: &'a Value) -> Result<Option<Vec<&'a str>>,
     texts_of(alloc, array)
 }
 
-/// Returns the step texts of each build in an array.
+/// Returns the texts of each build's steps from a plan's array of builds.
 fn builds_of<'a>(alloc: Global, array: &'a Array) -> Result<Option<Vec<Vec<&'a str>>>, AllocError>
     ensures { IfOk result (λ r. option_map (λ v. map (λ b. map (λ t. t.now) b.items) v.items) r
         ≡ build_texts_of (array_view array.now)) }
@@ -144,7 +145,7 @@ fn builds_of<'a>(alloc: Global, array: &'a Array) -> Result<Option<Vec<Vec<&'a s
     Ok(Some(found))
 }
 
-/// Returns the step texts of each build in the document.
+/// Returns the texts of each build's steps from the TOML document of a plan.
 fn builds_at<'a>(alloc: Global, table: &'a Table) -> Result<Option<Vec<Vec<&'a str>>>, AllocError>
     ensures { IfOk result (λ r. option_map (λ v. map (λ b. map (λ t. t.now) b.items) v.items) r
         ≡ builds_at (table_view table.now)) }
@@ -155,8 +156,8 @@ fn builds_at<'a>(alloc: Global, table: &'a Table) -> Result<Option<Vec<Vec<&'a s
     builds_of(alloc, array)
 }
 
-/// Returns the entries of a plan's schedule. Returns `None` if `value` is not an array of integers. A missing value
-/// means an empty schedule.
+/// Returns the entries of a plan's schedule from the value of its key `order`. Returns `None` if `value` is not an
+/// array of integers. A missing value means an empty schedule.
 fn order_of(alloc: Global, value: Option<&Value>) -> Result<Option<Vec<i64>>, AllocError>
     ensures { IfOk result (λ r. option_map (λ v. v.items) r
         ≡ order_numbers_of (option_map (λ v. view v.now) value.entry)) }
@@ -167,10 +168,10 @@ fn order_of(alloc: Global, value: Option<&Value>) -> Result<Option<Vec<i64>>, Al
     let Some(array) = value.as_array() else {
         return Ok(None);
     };
-    wholes_of(alloc, array)
+    integers_of(alloc, array)
 }
 
-/// The values of a plan's keys, not checked against their limits.
+/// The values of a plan's TOML keys, not yet checked against their limits.
 #[derive(Drop)]
 pub struct Contents<'a> {
     pub pages: i64,
@@ -185,7 +186,8 @@ impl<'a> Contents<'a> {
     ghost use Rattle.realm_plan.specs.Contents.{contents_of};
     ghost use Rattle.realm_plan.specs.ContentsView.{contents_view};
 
-    /// Returns the contents of a plan's document. `None` means that a key is missing, unknown or of the wrong kind.
+    /// Reads the values of all keys from the TOML document of a plan. `None` means that a key is missing, unknown or of
+    /// the wrong kind.
     #[tactic(auto, unfolding(crate::specs::Contents::contents_of))]
     pub fn of(alloc: Global, table: &'a Table) -> Result<Option<Contents<'a>>, AllocError>
         ensures { IfOk result (λ r. option_map contents_view r ≡ contents_of (table_view table.now)) }
@@ -196,7 +198,7 @@ impl<'a> Contents<'a> {
         ) {
             return Ok(None);
         }
-        let Some(wholes) = wholes_at(table) else {
+        let Some(wholes) = integers_at(table) else {
             return Ok(None);
         };
         let Some(order) = order_of(alloc, value_at(table, "order"))? else {

@@ -8,26 +8,27 @@ use thiserror::Error;
 /// The reason why bytes are not a valid plan. Of several reasons, it is the first in this list.
 #[derive(Clone, Copy, Debug, PartialEq, Eq, Error)]
 pub enum PlanFault {
-    /// Bytes that are not UTF-8, or not TOML.
+    /// Bytes of a plan that are not UTF-8, or not TOML.
     #[error("plan 20 syntax")]
     Syntax,
-    /// A key that is missing, unknown or of the wrong kind.
+    /// A key of a plan that is missing, unknown or of the wrong kind.
     #[error("plan 21 key")]
     Key,
-    /// A text that does not spell a step. It is text `step` of build `build`, the first such text of the lowest build
-    /// that has one. Builds and steps are counted from 0.
+    /// A text in a plan's list of steps that does not spell a step. It is text `step` of build `build`, the first such
+    /// text of the lowest build that has one. Builds and steps are counted from 0.
     #[error("plan 22 step {build} {step}")]
     Step { build: usize, step: usize },
-    /// An entry of `order` that names no build. It is the first such entry, and `place` is its index, counted from 0.
+    /// An entry of a plan's schedule `order` that names no build. It is the first such entry, and `place` is its index,
+    /// counted from 0.
     #[error("plan 23 order {place}")]
     Order { place: usize },
-    /// A limit that is not met. It is a limit on a number, a list's length or the plan's size in bytes. If there are
-    /// too many bytes, this fault comes before all others.
+    /// A limit that the plan violates. It is a limit on a number, a list's length or the plan's size in bytes. If there
+    /// are too many bytes, this fault comes before all others.
     #[error("plan 24 limit")]
     Limit,
 }
 
-/// The reason why no plan is returned.
+/// The error of parsing a plan: a fault in its bytes, or a failed allocation.
 #[derive(Clone, Copy, Debug, Error)]
 pub enum PlanError {
     /// A failed allocation.

@@ -1,4 +1,4 @@
-//! A theorem on the texts of steps.
+//! The theorem that different steps of plans have different texts.
 ghost use Rattle.std.specs.Prelude.{◌≡◌, ℕ, List};
 ghost use Rattle.realm_plan.specs.declared.step.PlanStep.{PlanStep};
 ghost use Rattle.realm_plan.specs.StepsWritten.{IsStepText};

@@ -1,4 +1,4 @@
-//! Plans of builds: their parser, and the texts of steps, answers and maps.
+//! The parser of plans, and the printed texts of steps, replies, refusals and maps.
 //!
 //! All functions go from values to values: none reads a device or knows a host. `Plan::from_bytes` returns the plan
 //! that the bytes are, or the one fault that `plan_of` names. `step_from_text` reads a step, and `StepText` writes one.

@@ -1,9 +1,9 @@
-//! The limits of a plan.
+//! The limits on a plan's numbers and on the lengths of its lists.
 ghost use Rattle.std.specs.Prelude.{◌≡◌, ◌≤◌, map, All, IfOk, OnOk, length, nat_le, vec_len};
 ghost use Rattle.std.specs.List.{list_all};
 ghost use Rattle.realm_plan.specs.ContentsView.{contents_view};
 ghost use Rattle.realm_plan.specs.Outcome.{Gives};
-ghost use Rattle.realm_plan.specs.Plan.{between as between_at, within as within_at, plan_numbers_of, lengths_of};
+ghost use Rattle.realm_plan.specs.Plan.{between as between_at, within as within_at, plan_numbers_of, check_lengths};
 
 use crate::PlanStep;
 use crate::contents::Contents;
@@ -17,7 +17,7 @@ pub const MOST_BUILDS: usize = 8;
 /// The maximum number of steps of a build.
 pub const MOST_STEPS: usize = 1024;
 
-/// The maximum number of turns of a plan.
+/// The maximum number of turns in a plan's schedule.
 pub const MOST_TURNS: usize = 16384;
 
 /// The values of a plan's integer keys, each within its limits.
@@ -41,7 +41,8 @@ fn between(low: u16, high: u16, whole: i64) -> Result<u16, PlanError>
     }
 }
 
-/// Returns the fault `Limit` if `holds` is false. `holds` is whether a length is within its limits.
+/// Returns an error if a checked length is not within its limits. `holds` is whether it is. The error is the fault
+/// `Limit`.
 fn within(holds: bool) -> Result<(), PlanError>
     ensures value { Gives (λ n. n) result (within_at holds) }
 {
@@ -52,8 +53,8 @@ fn within(holds: bool) -> Result<(), PlanError>
     }
 }
 
-/// Checks the values of a plan's integer keys. Returns the values, or the fault `Limit` if one of them is outside its
-/// limits.
+/// Checks that the values of a plan's integer keys are within their limits. Returns the values, or the fault `Limit` if
+/// one of them is not.
 #[tactic(auto, unfolding(crate::specs::Plan::plan_numbers_of))]
 pub fn numbers_of(contents: &Contents<'_>) -> Result<Numbers, PlanError>
     ensures value { Gives (λ n. n) result (plan_numbers_of (contents_view contents.now)) }
@@ -81,11 +82,11 @@ fn are_short(builds: &[Vec<PlanStep>]) -> bool
     builds.iter().all(|steps| steps.len() <= MOST_STEPS)
 }
 
-/// Checks the lengths of a plan's lists. Returns the fault `Limit` if there is no build, or if there are too many
-/// builds, turns, or steps of a build.
-#[tactic(auto, using(crate::proofs::Views::item_views), unfolding(crate::specs::Plan::lengths_of))]
-pub(crate) fn lengths_of(builds: &[Vec<PlanStep>], order: &[usize]) -> Result<(), PlanError>
-    ensures value { Gives (λ n. n) result (lengths_of (map (λ b. b.items) builds.now) order.now) }
+/// Checks that a plan's numbers of builds, steps and turns are within their limits. Returns the fault `Limit` if there
+/// is no build, or if there are too many builds, turns, or steps of a build.
+#[tactic(auto, using(crate::proofs::Views::item_views), unfolding(crate::specs::Plan::check_lengths))]
+pub(crate) fn check_lengths(builds: &[Vec<PlanStep>], order: &[usize]) -> Result<(), PlanError>
+    ensures value { Gives (λ n. n) result (check_lengths (map (λ b. b.items) builds.now) order.now) }
     ensures builds { OnOk result ((1 ≤ length builds.now) × (length builds.now ≤ 8)) }
     ensures steps { OnOk result (All (λ steps. vec_len steps ≤ 1024) builds.now) }
     ensures order { OnOk result (length order.now ≤ 16384) }

@@ -1,5 +1,5 @@
-//! The lines of idle turns, and the lines of the map. They are the lines of a run's text that hold no answer. Each is
-//! appended whole; at an `Err` the text may have a part of it.
+//! The output lines for idle turns, pages, realms and the number of free pages. They are the lines of a run's text that
+//! hold no answer. Each is appended whole; at an `Err` the text may have a part of it.
 ghost use Rattle.std.specs.Prelude.{◌≡◌, ◌++◌, OnOk, string_bytes};
 ghost use Rattle.realm_plan.specs.Lines.{state_word, sum_numbers, realm_word, idle_line, page_line, realm_line, free_line};
 
@@ -10,7 +10,7 @@ use granule_addr::{BuildId, Vmid};
 use realm_model::{GranuleState, RealmState};
 use std::alloc::AllocError;
 
-/// The name of a granule's state. RMM 1.0, Granule state.
+/// The RMM 1.0 name of a granule's state, such as `DELEGATED`. RMM 1.0, Granule state.
 pub fn state_word(state: GranuleState) -> &'static str
     ensures { result.now ≡ state_word state }
 {
@@ -35,7 +35,7 @@ fn sum_numbers(state: GranuleState, sum: u32) -> ArrayVec<u32, MOST_NUMBERS>
     }
 }
 
-/// The name of a realm's state. RMM 1.0, Realm state.
+/// The RMM 1.0 name of a realm's state: `NEW` or `ACTIVE`. RMM 1.0, Realm state.
 pub fn realm_word(state: RealmState) -> &'static str
     ensures { result.now ≡ realm_word state }
 {
@@ -45,14 +45,15 @@ pub fn realm_word(state: RealmState) -> &'static str
     }
 }
 
-/// Appends the line of an idle turn. The turn is that of a build that has no step left.
+/// Appends the output line for a turn of a build that has no step left.
 pub fn push_idle(text: &mut String, build: BuildId) -> Result<(), AllocError>
     ensures { OnOk result (string_bytes text.new ≡ string_bytes text.old ++ idle_line build) }
 {
     writeln!(text, "{} - idle", build.number())
 }
 
-/// Appends the map's line for a page of a build. The line has the sum of its bytes if it is UNDELEGATED or DATA.
+/// Appends the line for a build's page to the printed map of a host. The line has the sum of the page's bytes if the
+/// page is UNDELEGATED or DATA.
 pub fn push_page(
     text: &mut String,
     build: BuildId,
@@ -72,7 +73,7 @@ pub fn push_page(
     )
 }
 
-/// Appends the map's line for the realm of a build.
+/// Appends the line for a build's realm to the printed map of a host.
 pub fn push_realm(
     text: &mut String,
     build: BuildId,
@@ -86,7 +87,7 @@ pub fn push_realm(
     writeln!(text, "{build} realm {word} vmid {}", vmid.number())
 }
 
-/// Appends the last line of the map. It has the number of granules that no build leases.
+/// Appends the line with the number of granules that no build leases. It is the last line of a host's map.
 pub fn push_free(text: &mut String, count: u16) -> Result<(), AllocError>
     ensures { OnOk result (string_bytes text.new ≡ string_bytes text.old ++ free_line count) }
 {

@@ -8,10 +8,10 @@ use granule_addr::PageOff;
 /// The highest page number of a build. Numbers begin at 0, and the largest machine has 4096 pages.
 pub const MOST_PAGE: u16 = 4095;
 
-/// The greatest offset in a page.
+/// The greatest offset of a byte in a page of 4 KiB.
 const MOST_OFFSET: u32 = 4095;
 
-/// The number of a build's page.
+/// The number of a build's page, as an operand of a step.
 #[derive(Clone, Copy)]
 pub struct Page(pub u16);
 
@@ -30,7 +30,7 @@ impl Operand for Page {
     }
 }
 
-/// The offset of a byte in a page.
+/// The offset of a byte in a page, as an operand of a step.
 #[derive(Clone, Copy)]
 pub struct Offset(pub PageOff);
 

@@ -1,4 +1,4 @@
-//! The plan: a machine, the builds on it, and their turns.
+//! The type of plans: a machine, builds with their steps, and a schedule.
 ghost use Rattle.host_commands.specs.declared.cmd.Step.TheVariants.{Abort};
 ghost use Rattle.realm_plan.specs.declared.step.PlanStep.TheVariants.{Whole};
 ghost use Rattle.std.specs.Prelude.{◌≡◌, ◌<◌, ◌≤◌, true, map, All, IfOk, vec_len};
@@ -6,8 +6,8 @@ ghost use Rattle.std.specs.Prelude.{◌≡◌, ◌<◌, ◌≤◌, true, map, Al
 use crate::PlanStep;
 use crate::contents::Contents;
 use crate::fault::{PlanError, PlanFault};
-use crate::limits::{lengths_of, numbers_of};
-use crate::turns::{builds_of, order_of, turns_of};
+use crate::limits::{check_lengths, numbers_of};
+use crate::turns::{build_ids_of, builds_of, order_of};
 use granule_addr::BuildId;
 use host_commands::Step;
 use std::alloc::Global;
@@ -16,7 +16,7 @@ use toml::Table;
 /// The maximum number of bytes of a plan.
 pub const MOST_BYTES: usize = 1_048_576;
 
-/// A machine, the builds on it, and their turns.
+/// A plan: the sizes of a machine, the steps of its builds, and a schedule.
 #[derive(Drop)]
 pub struct Plan {
     pub pages: u16,
@@ -27,11 +27,11 @@ pub struct Plan {
     pub history: u16,
     /// The steps of each build.
     pub builds: Vec<Vec<PlanStep>>,
-    /// The build of each turn.
+    /// The schedule: for each turn, the build that takes it.
     pub order: Vec<BuildId>,
-    /// Whether a build gives up when a step of it is refused. It then skips its remaining steps, and aborts.
+    /// Whether a build skips its remaining steps and aborts after a step is refused.
     pub gives_up: bool,
-    /// The step with which a build gives up: an abort.
+    /// The abort step, which a build performs after a refusal if `gives_up` is set.
     pub abort: PlanStep,
     pub ghost pages_in_limits: { (1 ≤ pages) × (pages ≤ 4096) },
     pub ghost vmids_in_limits: { 1 ≤ vmids },
@@ -70,7 +70,8 @@ impl Plan {
         }
     }
 
-    /// Creates a plan from its contents. The error is the reason why they are not a valid plan, or a failed allocation.
+    /// Creates a plan from the values of its keys, if they are valid. The error is the reason why they are not a valid
+    /// plan, or a failed allocation.
     #[tactic(auto, unfolding(crate::specs::Plan::plan_of_contents))]
     fn from_contents(alloc: Global, contents: &Contents<'_>) -> Result<Plan, PlanError>
         ensures { Gives plan_view result (plan_of_contents (contents_view contents.now)) }
@@ -78,8 +79,8 @@ impl Plan {
         let builds = builds_of(alloc, &contents.builds)?;
         let order = order_of(alloc, builds.len(), &contents.order)?;
         let numbers = numbers_of(contents)?;
-        lengths_of(&builds, &order)?;
-        let turns = turns_of(alloc, &order)?;
+        check_lengths(&builds, &order)?;
+        let turns = build_ids_of(alloc, &order)?;
         Ok(Plan {
             pages: numbers.pages,
             vmids: numbers.vmids,
@@ -92,8 +93,8 @@ impl Plan {
         })
     }
 
-    /// Parses a plan. The error is the reason why the bytes spell no valid plan. `Memory` comes only if allocation
-    /// failed.
+    /// Parses a plan from the bytes of its TOML text. The error is the reason why the bytes spell no valid plan.
+    /// `Memory` comes only if allocation failed.
     #[tactic(auto, unfolding(crate::specs::Plan::plan_of))]
     pub fn from_bytes(alloc: Global, bytes: &[u8]) -> Result<Plan, PlanError>
         ensures value { Gives plan_view result (plan_of bytes.now) }
@@ -111,7 +112,7 @@ impl Plan {
         Plan::from_contents(alloc, &contents)
     }
 
-    /// Returns the same plan, with `gives_up` set. The bytes of a plan never say so.
+    /// Returns the plan with `gives_up` set, so that builds abort after a refusal. The bytes of a plan never set it.
     pub fn giving_up(self) -> Plan
         ensures { plan_view result ≡ record (plan_view self) { gives_up = true } }
     {

@@ -1,4 +1,4 @@
-//! The spelling of steps in plans and turn lines.
+//! The text of a step, in plans and in the output lines of turns.
 ghost use Rattle.std.specs.Prelude.{◌≡◌, ◌∷◌, ◌≤◌, length};
 
 use crate::operands::{MOST_NUMBERS, one};
@@ -61,7 +61,7 @@ impl fmt::Display for CmdText<'_> {
     }
 }
 
-/// A step's text, as the plan spells the step.
+/// The text of a step, spelled as in the plan.
 #[derive(Clone, Copy)]
 pub struct StepText<'a>(pub &'a PlanStep);
 

@@ -11,17 +11,17 @@ use decimal_text::{cut_at_space, numbers_of};
 use granule_addr::IpaWidth;
 use host_commands::{Cmd, Step};
 
-/// A step as a plan writes it.
+/// A step of a plan, with all its numbers or with the width left out.
 #[derive(Drop)]
 pub enum PlanStep {
     /// A step that is written with all its numbers.
     Whole(Step),
-    /// A `realm` step that leaves out the width. Its width is the smallest one, 39. RMI_REALM_CREATE
+    /// A `realm` step without the width of the realm's IPA space. Its width is the smallest one, 39. RMI_REALM_CREATE
     WidthLeftOut { rd: u16, root: u16 },
 }
 
 impl PlanStep {
-    /// Returns the step that the host is asked to perform. A width that was left out is filled in. No memory is taken.
+    /// Returns the step for the host, with a left-out width filled in. No memory is taken.
     pub fn asked(&self) -> Step
         ensures { result ≡ asked self.now }
     {

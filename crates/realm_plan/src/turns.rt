@@ -1,4 +1,4 @@
-//! The parsing of the builds' steps and of the schedule's entries.
+//! The parsers of the builds' steps and of the schedule's entries in a plan.
 ghost use Rattle.std.specs.Prelude.{◌≡◌, ◌<◌, map, All, IfOk, IfSome};
 ghost use Rattle.realm_plan.specs.Outcome.{Gives};
 ghost use Rattle.realm_plan.specs.Plan.{steps_of, builds_of, build_named as build_named_at, order_of};
@@ -46,7 +46,8 @@ fn build_named(count: usize, entry: i64) -> Option<usize>
     }
 }
 
-/// Returns the build of each turn. The entries are those of the schedule, and `count` is the number of builds.
+/// Returns the build of each turn in a plan's schedule. The entries are those of the schedule, and `count` is the
+/// number of builds.
 pub fn order_of(alloc: Global, count: usize, entries: &[i64]) -> Result<Vec<usize>, PlanError>
     ensures value { Gives (λ v. v.items) result (order_of count 0 entries.now) }
     ensures below { IfOk result (λ v. All (λ build. build < count) v.items) }
@@ -62,7 +63,7 @@ pub fn order_of(alloc: Global, count: usize, entries: &[i64]) -> Result<Vec<usiz
 }
 
 /// Converts build numbers to values of `BuildId`.
-pub(crate) fn turns_of(alloc: Global, builds: &[usize]) -> Result<Vec<BuildId>, AllocError>
+pub(crate) fn build_ids_of(alloc: Global, builds: &[usize]) -> Result<Vec<BuildId>, AllocError>
     requires { All (λ build. build < 8) builds.now }
     ensures { IfOk result (λ turns. turns.items ≡ builds.now) }
 {

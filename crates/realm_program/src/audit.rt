@@ -39,8 +39,7 @@ fn follow(opened: &mut Vec<Act>, act: &Act) -> Result<(), AllocError>
     Ok(())
 }
 
-/// Whether a report fits a history. It fits if its lines match, one by one, the events that the history has of the
-/// report's build.
+/// Whether the lines of a report match the events of its build in a history. The lines match the events one by one.
 ///
 /// The steps are the build's plan. The history is any list of events, and need not be legal. There are as many accepted
 /// lines as events of the build, and the question of each is that of its event. For a command, the event has the
@@ -71,7 +70,8 @@ pub fn fits(
     Ok(next == history.len())
 }
 
-/// Whether all reports fit the history. Each report is checked with the steps that are paired with it.
+/// Whether the reports of all workers match the events of a history. Each report is checked with the steps that are
+/// paired with it.
 pub fn fit_all(
     alloc: Global,
     history: &[Event],

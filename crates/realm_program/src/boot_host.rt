@@ -45,7 +45,7 @@ pub fn boot<S: BuildableStore>(alloc: Global, plan: &Plan) -> Result<Host<S>, Al
     boot_by(alloc, settings, plan.pages)
 }
 
-/// A store of pages that can be built. It can have any number of pages that a machine can have.
+/// A store of pages that can be created at a given size. The size is any number of pages that a machine can have.
 pub trait BuildableStore: PageStore + Drop {
     /// Returns a store of `pages` pages, all free and zero. `BadSize` comes exactly when `pages` is not 1 to 4,096; the
     /// only other error is `Memory`.

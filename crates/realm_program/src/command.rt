@@ -30,7 +30,7 @@ fn allocated_for(act: &Act) -> Allocated
 }
 
 // Whether `act` is the operation of `cmd` on the granules of the pages that `cmd` names.
-fn is_made_of(opened: &[Act], cmd: &Cmd, act: &Act) -> bool
+fn is_act_on_pages(opened: &[Act], cmd: &Cmd, act: &Act) -> bool
     ensures { IsTrue result ↔ IsMadeOf (flat_map pages_held opened.now) cmd.now act.now }
 {
     let Some(granules) = granules_of(opened, cmd) else {
@@ -49,7 +49,7 @@ fn is_act_of(opened: &[Act], cmd: &Cmd, act: &Act) -> bool
     match (cmd, act) {
         (Cmd::Take { order }, Act::Take { order: taken, .. }) => *order == taken.number(),
         (Cmd::Take { .. }, _) => false,
-        _ => is_made_of(opened, cmd, act),
+        _ => is_act_on_pages(opened, cmd, act),
     }
 }
 
@@ -67,7 +67,7 @@ fn is_reply_to(opened: &[Act], reply: &Reply, act: &Act) -> bool
 
 /// Whether a build's command and its reply match an operation. They do if `cmd` can be performed as `act` and answered
 /// with `reply`. The build's open operations are `opened`.
-pub(crate) fn is_replied(opened: &[Act], cmd: &Cmd, reply: &Reply, act: &Act) -> bool
+pub(crate) fn command_and_reply_match(opened: &[Act], cmd: &Cmd, reply: &Reply, act: &Act) -> bool
     ensures { IsTrue result ↔ IsFittingReply (flat_map pages_held opened.now) cmd.now reply.now act.now }
 {
     is_act_of(opened, cmd, act) && is_reply_to(opened, reply, act)

@@ -1,4 +1,4 @@
-//! The faults of the program. A fault is the reason why the text of a run is printed only in part, or not at all.
+//! The reasons why a program prints no text or only part of it.
 ghost use Rattle.std.specs.Prelude.{◌≡◌};
 ghost use Rattle.realm_program.specs.declared.fault.Fault.TheVariants.{Memory, Device};
 
@@ -9,19 +9,19 @@ use realm_plan::{PlanError, PlanFault};
 use std::alloc::AllocError;
 use thiserror::Error;
 
-/// The reason why nothing is printed, or only a prefix of the text. Its line goes to standard error.
+/// The reason why a program prints nothing, or only a prefix of its text. Its line goes to standard error.
 #[derive(Clone, Copy, Debug, PartialEq, Eq, Error)]
 pub enum Fault {
     /// An input that is not a plan.
     #[error(transparent)]
     Plan(PlanFault),
-    /// A build to be left out that is not in the plan.
+    /// A request to leave out a build that the plan does not have.
     #[error("erase names no build")]
     EraseNamesNoBuild,
     /// A failed allocation.
     #[error("memory")]
     Memory,
-    /// A build's worker that waited in vain for a turn.
+    /// A build whose worker thread waited in vain for its turn.
     #[error("thread")]
     Stuck(BuildId),
     /// A mismatch between a run and its records. In a run in threads: the history does not match a worker's report, or

@@ -1,4 +1,4 @@
-//! The reading of a whole input. At most one byte more than a plan may have is read.
+//! A function that reads a whole input into memory. At most one byte more than a plan may have is read.
 ghost use Rattle.std.specs.Prelude.{◌≡◌, ◌+◌, ◌≤◌, ◌↔◌, [], false, true, IfOk, IfSome, Err};
 ghost use Rattle.realm_program.specs.Whole.{kept_of};
 ghost use Rattle.checked_io.specs.declared.told.ReadError.TheVariants.{Device};
@@ -7,10 +7,10 @@ use checked_io::{ReadError, Told};
 use std::alloc::Global;
 use std::io::Read;
 
-/// The maximum number of bytes that are kept of an input. It is one more than a plan may have.
+/// The maximum number of input bytes that are kept. It is one more than a plan may have.
 pub const KEPT: usize = 1_048_577;
 
-/// The largest number of reads of one input.
+/// The maximum number of read calls for one input.
 pub const MOST_READS: usize = 1_048_578;
 
 // An empty list of bytes, with capacity for `KEPT` bytes if there is memory for them. A list that grows is copied, and
@@ -24,7 +24,7 @@ fn room(alloc: Global) -> Vec<u8>
     }
 }
 
-/// Reads a whole input. Returns all its bytes, or the first 1,048,577 bytes if there are more.
+/// Reads an input to its end, or up to 1,048,577 bytes. Returns the bytes.
 ///
 /// `Device` comes if a read failed, and `Memory` only if allocation failed.
 pub fn read_whole<R: Read>(alloc: Global, input: &mut Told<R>) -> Result<Vec<u8>, ReadError>

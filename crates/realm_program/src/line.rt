@@ -7,13 +7,13 @@ ghost use Rattle.build_seats.specs.Events.{is_done, question_of_step, question_a
 ghost use Rattle.build_seats.specs.declared.ask.Question.TheVariants as question;
 ghost use Rattle.realm_program.specs.Fitting.{AnswerFits};
 
-use crate::command::is_replied;
-use crate::undo::is_undone;
+use crate::command::command_and_reply_match;
+use crate::undo::undo_and_reply_match;
 use builders::{Answer, Asked, ReportLine};
 use host_commands::{Cmd, Step};
 use realm_model::{Act, Event};
 
-/// Whether an answer has an event. It has one if it is to an accepted command or undo.
+/// Whether an answer says that the host accepted a command or an undo. Only such an answer has an event.
 pub(crate) fn is_done(answer: &Answer) -> bool
     ensures { result ≡ is_done answer.now }
 {
@@ -26,7 +26,7 @@ fn command_fits(opened: &[Act], history: &[Event], next: usize, cmd: &Cmd, answe
 {
     match answer {
         Answer::Replied(reply) => match history.get(next) {
-            Some(event) => is_replied(opened, cmd, reply, &event.act),
+            Some(event) => command_and_reply_match(opened, cmd, reply, &event.act),
             None => false,
         },
         Answer::Nothing | Answer::Refused(_) => true,
@@ -40,7 +40,7 @@ fn undo_fits(opened: &[Act], history: &[Event], next: usize, answer: &Answer) ->
 {
     match answer {
         Answer::Undone(undone) => match history.get(next) {
-            Some(event) => is_undone(opened, undone, &event.act),
+            Some(event) => undo_and_reply_match(opened, undone, &event.act),
             None => false,
         },
         Answer::Nothing | Answer::Refused(_) => true,
@@ -70,9 +70,9 @@ fn step_fits(opened: &[Act], history: &[Event], next: usize, step: &Step, answer
     }
 }
 
-/// Whether a line of a report fits the history. Its answer must agree with the build's open operations `opened`, and
-/// with the build's next event. The event is at index `next` of the history. A line of a step that the plan does not
-/// have agrees with nothing.
+/// Whether a line of a report agrees with a history of events. Its answer must agree with the build's open operations
+/// `opened`, and with the build's next event. The event is at index `next` of the history. A line of a step that the
+/// plan does not have agrees with nothing.
 pub(crate) fn line_fits(
     opened: &[Act],
     history: &[Event],

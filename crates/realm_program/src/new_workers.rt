@@ -1,4 +1,4 @@
-//! The workers of a plan's builds.
+//! The creation of workers, which perform the steps of a plan's builds.
 ghost use Rattle.std.specs.Prelude.{◌≡◌, ◌<◌, map, vec_len, IfOk};
 ghost use Rattle.std.specs.List.{range_with_len};
 ghost use Rattle.realm_plan.specs.Asked.{asked};
@@ -40,7 +40,7 @@ fn worker_of<L: Ledgers>(
     }
 }
 
-/// Returns a new worker for each seat, in the sequence of the seats.
+/// Returns a new worker for each build's session on a shared host. The workers are in the sequence of the seats.
 pub fn workers_of<L: Ledgers>(
     alloc: Global,
     plan: &Plan,

@@ -19,7 +19,8 @@ pub trait PlanText {
 
     ghost is_without: { Self → PlanModel → FaultModel → Type 0 };
 
-    /// Returns the text of a plan. The text is complete in memory, and the error is the reason why there is none.
+    /// Returns the text made from a plan. The text is complete in memory, and the error is the reason why there is
+    /// none.
     fn text_of(&self, alloc: Global, plan: &Plan) -> Result<Vec<u8>, Fault>
         ensures ok { IfOk result (λ text. is_text self.now (plan_view plan.now) text.items) }
         ensures err { IfErr result (λ fault. is_without self.now (plan_view plan.now) fault) }

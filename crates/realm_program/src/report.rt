@@ -1,4 +1,4 @@
-//! The text of a report: a line for each answer.
+//! The text of a worker's report, which has a line for each answer.
 ghost use Rattle.std.specs.Prelude.{◌≡◌, ◌++◌, OnOk, Some, string_bytes};
 ghost use Rattle.plan_replay.specs.Turn.{undoes_many};
 ghost use Rattle.realm_program.specs.Report.{step_of_line, ends_step, answer_of_line, line_text, report_text};
@@ -81,9 +81,9 @@ fn push_line(
     }
 }
 
-/// Appends the lines of a report. Each has the form of a turn's line: the build, the step and the answer. An undo is
-/// `done` in the last line of an abort or a step back, also if the worker was stopped there. A line whose index the
-/// plan does not have is left out: no report of the plan has one. At an `Err` the text may have a part.
+/// Appends the lines of a worker's report to a text. Each has the form of a turn's line: the build, the step and the
+/// answer. An undo is `done` in the last line of an abort or a step back, also if the worker was stopped there. A line
+/// whose index the plan does not have is left out: no report of the plan has one. At an `Err` the text may have a part.
 pub(crate) fn push_report(
     text: &mut String,
     steps: &[PlanStep],

@@ -1,4 +1,4 @@
-//! The reasons why a run in threads has no text.
+//! The errors that can end a plan's run in threads.
 ghost use Rattle.std.specs.Prelude.{◌≡◌};
 ghost use Rattle.realm_program.specs.declared.run_fault.RunFault.TheVariants.{Memory};
 
@@ -6,17 +6,17 @@ use granule_addr::BuildId;
 use std::alloc::AllocError;
 use thiserror::Error;
 
-/// The reason why there is no text of a run in threads.
+/// The reason why a plan's run in threads gives no text.
 #[derive(Clone, Copy, Debug, Error)]
 pub enum RunFault {
     /// A failed allocation.
     #[error("memory")]
     Memory,
-    /// The lowest build whose worker waited in vain for a turn.
+    /// The lowest build whose worker thread waited in vain for its turn.
     #[error("thread")]
     Stuck(BuildId),
-    /// A mismatch with the history. A build's report, or the list of events of a build's seat, does not fit the
-    /// history.
+    /// A mismatch between the records of a build and the history of events. A build's report, or the list of events of
+    /// a build's seat, does not fit the history.
     #[error("mismatch")]
     Mismatch,
 }

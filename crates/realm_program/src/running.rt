@@ -1,4 +1,4 @@
-//! Runs in threads, from the plan to the text. A plan is read, and the text of its run is written.
+//! The run of a plan in threads, from its input to its text. A plan is read, and the text of its run is written.
 ghost use Rattle.std.specs.Prelude.{◌≡◌, ◌+◌, ◌≤◌, ◌↔◌, ◌⊎◌, false, true, Err, IfOk, IfErr, string_bytes};
 ghost use Rattle.realm_plan.specs.PlanView.{plan_view};
 ghost use Rattle.realm_program.specs.Printed.{IsEnd};

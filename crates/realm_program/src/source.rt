@@ -11,7 +11,7 @@ use realm_plan::Plan;
 use std::alloc::Global;
 use std::io::Read;
 
-/// Reads a plan. Errors: its fault; Memory, if allocation failed; Device, if a read failed.
+/// Reads a plan from an input. Errors: its fault; Memory, if allocation failed; Device, if a read failed.
 pub fn plan_in<R: Read>(alloc: Global, input: &mut Told<R>) -> Result<Plan, Fault>
     requires { input.old.failed ≡ false }
     ensures told { (input.new.failed ≡ true) ↔ (result ≡ Err Device) }

@@ -1,4 +1,4 @@
-//! The texts of a plan's run. One is the text of the whole run, and the other is the map with one build left out.
+//! The text of a plan's run, and the printed map without one build.
 ghost use Rattle.std.specs.Prelude.{◌≡◌, ◌+◌, ◌<◌, ◌≤◌, ◌↔◌, ◌⊎◌, ◌≢◌, [], false, true, Err, IfOk, IfErr, string_bytes, vec_len};
 ghost use Rattle.std.specs.Result.{OnOk};
 ghost use Rattle.plan_replay.specs.Run.{IsReportedRun};
@@ -14,7 +14,7 @@ use crate::printing::{PlanText, print};
 use buddy::BuddyArena;
 use checked_io::Told;
 use granule_addr::BuildId;
-use plan_replay::{map_text, push_map, run_turns, text_for};
+use plan_replay::{empty_output_text, map_text, push_map, run_turns};
 use realm_host::{Host, HostLedger, apply_without};
 use realm_plan::Plan;
 use std::alloc::{AllocError, Global};
@@ -51,7 +51,7 @@ fn push_text<S: BuildableStore>(
 pub fn text_of<S: BuildableStore>(alloc: Global, plan: &Plan) -> Result<String, AllocError>
     ensures { IfOk result (λ text. IsText (plan_view plan.now) (string_bytes text)) }
 {
-    let mut text = text_for(alloc, plan)?;
+    let mut text = empty_output_text(alloc, plan)?;
     push_text::<S>(alloc, plan, &mut text)?;
     Ok(text)
 }
@@ -61,13 +61,14 @@ pub fn text_of<S: BuildableStore>(alloc: Global, plan: &Plan) -> Result<String, 
 fn ledger_of(alloc: Global, plan: &Plan) -> Result<HostLedger, AllocError>
     ensures { IfOk result (RunLeadsTo (plan_view plan.now)) }
 {
-    let mut lines = text_for(alloc, plan)?;
+    let mut lines = empty_output_text(alloc, plan)?;
     let host = run_plan::<BuddyArena>(alloc, plan, &mut lines)?;
     Ok(host.into_ledger())
 }
 
-/// Returns the text of the map without a build. It is the map of a fresh host to which the history is applied without
-/// the events of `build`. The fresh host is booted from the plan. The one error is that allocation failed.
+/// Returns the printed map of pages and realms with one build left out. It is the map of a fresh host to which the
+/// history is applied without the events of `build`. The fresh host is booted from the plan. The one error is that
+/// allocation failed.
 pub fn map_without(
     alloc: Global,
     plan: &Plan,
@@ -115,11 +116,11 @@ fn asked_text_of(alloc: Global, plan: &Plan, erase: Option<BuildId>) -> Result<S
 
 // A request for the text of a replay, or for the map without the build `erase`.
 #[derive(Drop)]
-struct Replayed {
+struct ReplayRequest {
     erase: Option<BuildId>,
 }
 
-impl PlanText for Replayed {
+impl PlanText for ReplayRequest {
     ghost is_text = { λ asked. IsAskedText asked.erase };
 
     ghost is_without = { λ asked. IsWithoutText asked.erase };
@@ -149,5 +150,5 @@ pub fn replay<R: Read, W: Write>(
     ensures device { ((input.new.failed ≡ true) ⊎ (output.new.failed ≡ true)) ↔ (result ≡ Err Device) }
     ensures asked { input.new.reads ≤ input.old.reads + 1048578 }
 {
-    print(&Replayed { erase }, alloc, input, output)
+    print(&ReplayRequest { erase }, alloc, input, output)
 }

@@ -1,4 +1,4 @@
-//! The text of a run in threads.
+//! The text that a plan's run in threads prints.
 ghost use Rattle.std.specs.Prelude.{◌≡◌, ◌++◌, ◌⊎◌, OnOk, IfOk, IfErr, All, string_bytes};
 ghost use Rattle.std.specs.List.{flat_map};
 ghost use Rattle.plan_replay.specs.Run.{map_text};
@@ -13,7 +13,7 @@ use crate::run_fault::RunFault;
 use builders::Report;
 use host_commands::Step;
 use page_arena::PageStore;
-use plan_replay::{push_map, text_for};
+use plan_replay::{empty_output_text, push_map};
 use realm_host::Host;
 use realm_plan::Plan;
 use std::alloc::{AllocError, Global};
@@ -46,15 +46,15 @@ fn text_of<S: PageStore>(
 ) -> Result<String, AllocError>
     ensures { IfOk result (λ text. string_bytes text ≡ flat_map (report_lines (plan_view plan.now)) reports.now ++ (map_text host.now ++ audit_line)) }
 {
-    let mut text = text_for(alloc, plan)?;
+    let mut text = empty_output_text(alloc, plan)?;
     push_reports(&mut text, plan, reports)?;
     push_map(&mut text, host)?;
     text.push_str("audit ok\n")?;
     Ok(text)
 }
 
-/// Returns the text of a run in threads. Errors: `Mismatch`, if a report does not match the host's history; `Memory`,
-/// if allocation failed.
+/// Returns the text of a run in threads, if all reports match the history. Errors: `Mismatch`, if a report does not
+/// match the host's history; `Memory`, if allocation failed.
 pub fn audited_text_of<S: PageStore>(
     alloc: Global,
     plan: &Plan,

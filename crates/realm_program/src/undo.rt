@@ -18,7 +18,7 @@ fn is_of_kind(act: &Act, kind: Kind) -> bool
 
 /// Whether a build's undo and its reply match an operation. They do if the undo can be performed as `act` and answered
 /// with `undone`. The build's open operations are `opened`.
-pub(crate) fn is_undone(opened: &[Act], undone: &Undone, act: &Act) -> bool
+pub(crate) fn undo_and_reply_match(opened: &[Act], undone: &Undone, act: &Act) -> bool
     ensures { IsTrue result ↔ IsFittingUndo opened.now undone.now act.now }
 {
     match opened.last() {

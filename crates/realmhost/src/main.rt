@@ -1,5 +1,5 @@
-//! The program that replays plans of builds, or runs them in threads. A plan comes on standard input, and the text of
-//! its run goes to standard output.
+//! The command-line program that replays a plan of builds, or runs the builds in threads. A plan comes on standard
+//! input, and the text of its run goes to standard output.
 #![tactic(auto)]
 
 ghost use Rattle.std.specs.Prelude.{◌≡◌, false, IfErr};
@@ -17,8 +17,8 @@ use std::rt::Env;
 use std::sync::Wait;
 use std::thread::Threads;
 
-/// Performs what the command line asks for. Reads a plan from `input`, runs it, and writes the resulting text to
-/// `output`.
+/// Replays or runs a plan of builds, as the command-line arguments say. Reads the plan from `input`, and writes the
+/// resulting text to `output`.
 fn perform<H: Env + AllocGlobal + Threads + Wait + Sync, R: Read, W: Write>(
     rt: &H,
     input: &mut Told<R>,
@@ -36,7 +36,7 @@ fn perform<H: Env + AllocGlobal + Threads + Wait + Sync, R: Read, W: Write>(
     Ok(())
 }
 
-/// Returns the exit status for an outcome. If the outcome is a `Stop`, its reason is printed first.
+/// Returns the exit status for the outcome of the program. If the outcome is a `Stop`, its reason is printed first.
 fn end(rt: &HostRuntime, outcome: Result<(), Stop<Fault>>) -> ExitCode
     ensures value { exit_status result ≡ status_of_outcome outcome }
     ensures stops { IfErr outcome (λ _. IsStatus (exit_status result)) }

@@ -11,12 +11,12 @@ ghost use Rattle.view_program.specs.Stop.{view_exit_status};
 mod meter;
 
 use checked_io::Told;
-use command_line::{Ended, Input, Output, Painting, Stop, arguments};
+use command_line::{Ended, Input, Output, Stop, TextKind, arguments};
 use meter::Meter;
 use std::process::ExitCode;
 use view_program::{ViewError, ViewOutcome, ViewSubcommand, run};
 
-/// The kind of input that a subcommand reads.
+/// Returns the kind of input that a subcommand reads: a plan or a history.
 fn awaited(asked: ViewSubcommand) -> &'static str {
     match asked {
         ViewSubcommand::Apply(_) => "a history",
@@ -24,15 +24,16 @@ fn awaited(asked: ViewSubcommand) -> &'static str {
     }
 }
 
-/// Returns the `Painting` of a subcommand's output on a terminal. It is `None` if the output has no colour.
-fn painting(asked: ViewSubcommand) -> Option<Painting> {
+/// Returns the kind of text by which a subcommand's output is coloured on a terminal. It is `None` if the output has no
+/// colour.
+fn painting(asked: ViewSubcommand) -> Option<TextKind> {
     match asked {
-        ViewSubcommand::Check | ViewSubcommand::Why { .. } => Some(Painting::Messages),
+        ViewSubcommand::Check | ViewSubcommand::Why { .. } => Some(TextKind::Messages),
         _ => None,
     }
 }
 
-/// Performs what the command line asks for.
+/// Parses the command line, and carries out its request.
 fn show(rt: &HostRuntime) -> Result<Ended<ViewOutcome>, Stop<ViewError>> {
     let alloc = rt.alloc();
     let words = arguments::<_, ViewError>(rt)?;
@@ -49,8 +50,8 @@ fn show(rt: &HostRuntime) -> Result<Ended<ViewOutcome>, Stop<ViewError>> {
     Ended::of_run(outcome, output.is_closed())
 }
 
-/// Returns the exit status for an outcome. If the program stops, standard error has the reason. The faults of a plan
-/// are on standard output.
+/// Returns the program's exit status for the outcome of its run. If the program stops, standard error has the reason.
+/// The faults of a plan are on standard output.
 fn end(rt: &HostRuntime, outcome: Result<Ended<ViewOutcome>, Stop<ViewError>>) -> ExitCode
     ensures value { exit_status result ≡ view_exit_status outcome }
     ensures stops { IfErr outcome (λ _. IsStatus (exit_status result)) }

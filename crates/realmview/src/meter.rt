@@ -1,4 +1,4 @@
-//! The progress of a sample of schedules, on a terminal.
+//! Shows the progress through a sample of schedules on a terminal.
 use std::cell::Cell;
 use std::io::IsTerminal;
 use std::time::Instant;
@@ -17,7 +17,7 @@ pub struct Meter<'a> {
 }
 
 impl Meter<'_> {
-    /// Creates a meter. It prints nothing if standard error is no terminal.
+    /// Creates a progress line, which prints nothing if standard error is no terminal.
     pub fn new(rt: &HostRuntime) -> Meter<'_> {
         let begun = if rt.stderr().is_terminal() {
             Instant::now(rt).ok()

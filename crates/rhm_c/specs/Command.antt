@@ -24,8 +24,8 @@ auxiliaries_in pages = if list_all is_page_number pages then Some (record { item
 
 -- ---- the commands
 
-abbrev pub first_command : RawCommand → Option Cmd
-first_command c =
+abbrev pub command_of_kinds_0_to_5 : RawCommand → Option Cmd
+command_of_kinds_0_to_5 c =
     if c.kind == 0 then Some (Take c.order) else
     (if c.kind == 1 then Some (Fill c.page c.value) else
     (if c.kind == 2 then Some (Peek c.page c.offset) else
@@ -33,15 +33,15 @@ first_command c =
     (if c.kind == 4 then Some (Realm c.page c.second c.width) else
     (if c.kind == 5 then Some (Rtt c.page c.ipa c.level) else None)))))
 
-abbrev pub next_command : RawCommand → Option Cmd
-next_command c =
+abbrev pub command_of_kinds_6_to_9 : RawCommand → Option Cmd
+command_of_kinds_6_to_9 c =
     if c.kind == 6 then Some (Ripas c.ipa c.count) else
     (if c.kind == 7 then Some (Data c.page c.ipa c.second) else
     (if c.kind == 8 then Some (Unknown c.page c.ipa) else
     (if c.kind == 9 then option_map (λ pages. Rec c.page pages) (auxiliaries_in (take c.aux_count c.aux)) else None)))
 
-abbrev pub last_command : RawCommand → Option Cmd
-last_command c =
+abbrev pub command_of_kinds_10_to_13 : RawCommand → Option Cmd
+command_of_kinds_10_to_13 c =
     if c.kind == 10 then Some Activate else
     (if c.kind == 11 then Some (Enter c.rec) else
     (if c.kind == 12 then Some (Exit c.rec) else
@@ -50,7 +50,7 @@ last_command c =
 -- The command that is meant. There is none for an unknown kind, or if an operand is out of its range.
 abbrev pub command_in : RawCommand → Option Cmd
 command_in c =
-    if operands_fit c then (if nat_le c.kind 5 then first_command c else (if nat_le c.kind 9 then next_command c else last_command c)) else None
+    if operands_fit c then (if nat_le c.kind 5 then command_of_kinds_0_to_5 c else (if nat_le c.kind 9 then command_of_kinds_6_to_9 c else command_of_kinds_10_to_13 c)) else None
 
 -- ---- builds
 

@@ -1,4 +1,4 @@
-//! Aborts of builds.
+//! Functions of the C interface that abort a build.
 ghost use Rattle.std.specs.Prelude.{◌≡◌};
 ghost use Rattle.rhm_c.specs.Command.{build_in};
 ghost use Rattle.rhm_c.specs.Answer.{IsOnHandle};
@@ -25,8 +25,8 @@ pub(crate) fn abort(host: &mut PlainHost, build: BuildId) -> CallAnswer
     counted(&host.abort(build))
 }
 
-/// Begins the abort of a build. Returns 0, with the number of operations that it has open in `value`. Until it has none,
-/// its commands are refused, and each of its undos is performed.
+/// Begins the abort of a build. Returns 0, with the number of operations that it has open in `value`. Until it has
+/// none, its commands are refused, and each of its undos is performed.
 ///
 /// Else nothing changes: 1, 2 and 8 are the refusals, and 14 a closed handle.
 #[unsafe(no_mangle)]

@@ -1,12 +1,12 @@
-//! The C form of a host's operations on an RMM.
+//! C structs for the operations that a host performs on an RMM.
 ghost use Rattle.std.specs.Prelude.{◌≡◌, slice_index_or};
 ghost use Rattle.rhm_c.specs.Action as shown;
 
 use history_calls::HostAction;
 use rmi_abi::{Call, Registers, encode_call};
 
-/// A host's operation on an RMM. It has a kind, the registers if it is a call, and operands. Fields that the kind does
-/// not use are 0.
+/// An operation of a host on an RMM, as a C struct. It has a kind, the registers if it is a call, and operands. Fields
+/// that the kind does not use are 0.
 #[repr(C)]
 #[derive(Clone, Copy)]
 pub struct RawAction {
@@ -29,8 +29,8 @@ pub struct RawAction {
     pub aux: [u64; 16],
 }
 
-/// The operations on an RMM for one command or undo. A host performs at most 5 of them on its RMM. `expected` is the
-/// model's X0: 0 if the model performs the call, or else the word of the refusal.
+/// The operations that a host performs on its RMM for one command or undo. There are at most 5 of them. `expected` is
+/// the model's X0: 0 if the model performs the call, or else the word of the refusal.
 #[repr(C)]
 #[derive(Clone, Copy)]
 pub struct RawActions {
@@ -200,7 +200,7 @@ fn raw_at(actions: &[HostAction], place: usize) -> RawAction
     }
 }
 
-/// Returns the C form of a list of operations. `expected` is the model's X0.
+/// Converts a list of a host's operations on an RMM to a C struct. `expected` is the model's X0.
 pub(crate) fn raw_actions(actions: &[HostAction], expected: u64) -> RawActions
     ensures { result ≡ shown.raw_actions expected actions.now }
 {

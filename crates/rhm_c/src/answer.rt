@@ -1,17 +1,17 @@
-//! The C form of answers: a status and a value.
+//! Answers to a C program's calls: a status and a value.
 ghost use Rattle.std.specs.Prelude.{◌≡◌};
 ghost use Rattle.rhm_c.specs.Answer as answers;
 
 use host_commands::{Refusal, Reply};
 
-/// The answer to a call. It has a status, and a value, which is 0 if the status has none.
+/// The answer to a C program's call: a status and a value. The value is 0 if the status has none.
 #[derive(Clone, Copy)]
 pub(crate) struct CallAnswer {
     pub(crate) status: u64,
     pub(crate) value: u64,
 }
 
-/// The status for a build that does not exist.
+/// The status of a call on a build that does not exist.
 pub(crate) const NO_BUILD: u64 = 1;
 
 /// The status of a call on a closed handle.
@@ -24,7 +24,7 @@ pub(crate) fn closed() -> CallAnswer
     only(CLOSED)
 }
 
-/// Returns an answer with a status and no value.
+/// Returns an answer with the given status and the value 0.
 pub(crate) fn only(status: u64) -> CallAnswer
     ensures { result ≡ answers.only status }
 {
@@ -84,7 +84,7 @@ pub(crate) fn refusal_value(refusal: &Refusal) -> u64
     }
 }
 
-/// Returns a refusal as an answer.
+/// Converts a host's refusal to a status number and a value for C.
 pub(crate) fn refused(refusal: &Refusal) -> CallAnswer
     ensures { result ≡ answers.refused_as refusal.now }
 {
@@ -94,7 +94,7 @@ pub(crate) fn refused(refusal: &Refusal) -> CallAnswer
     }
 }
 
-/// Returns the answer to a call that counts operations. The call returns a count, or is refused.
+/// Converts a count or a host's refusal to a status and a value for C.
 pub(crate) fn counted(count: &Result<u16, Refusal>) -> CallAnswer
     ensures { result ≡ answers.counted_as count.now }
 {

@@ -1,4 +1,4 @@
-//! Commands that are performed in one step.
+//! Functions of the C interface that perform a command in one call.
 ghost use Rattle.std.specs.Prelude.{◌≡◌};
 ghost use Rattle.realm_host.specs.Call.{Ask};
 ghost use Rattle.rhm_c.specs.Command as commands;
@@ -12,7 +12,7 @@ use granule_addr::BuildId;
 use host_commands::Cmd;
 use std::alloc::Global;
 
-/// Performs a command of a build.
+/// Performs a build's command on a host, and returns the reply or the refusal.
 pub(crate) fn ask(host: &mut PlainHost, build: BuildId, cmd: &Cmd) -> CallAnswer
     ensures { IsAnsweredAs answered_as host.old build (Ask cmd.now) result host.new }
 {
@@ -32,7 +32,7 @@ fn ask_raw(host: &mut PlainHost, build: u64, raw: &RawCommand) -> CallAnswer
     }
 }
 
-/// Performs a command of a build. Returns 0, with the reply in `value`, and one event ends the history.
+/// Performs a build's command in one call. Returns 0, with the reply in `value`, and one event ends the history.
 ///
 /// Else nothing changes: 1 to 13 is the number of the refusal, and `value` the page, the order or the RMM's result word
 /// that it has. 14 comes for a closed handle, 15 if there is no such command. `value` is 0 if there is none.

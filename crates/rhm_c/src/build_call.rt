@@ -1,4 +1,4 @@
-//! Calls on a build that are not commands. They are undos, aborts, marks and rollbacks.
+//! Calls on a build: undo, abort, rollback, and setting the mark for rollbacks.
 ghost use Rattle.std.specs.Prelude.{◌≡◌};
 ghost use Rattle.rhm_c.specs.Command.{build_in};
 ghost use Rattle.rhm_c.specs.Answer.{IsOnHandle};
@@ -15,7 +15,7 @@ use crate::undo::undo;
 use granule_addr::BuildId;
 use std::alloc::Global;
 
-/// A call on a build that is not a command.
+/// A call on a build: undo, abort, rollback, or setting the mark for rollbacks.
 #[derive(Clone, Copy)]
 pub(crate) enum BuildCall {
     Undo,
@@ -48,7 +48,8 @@ fn perform_of(host: &mut PlainHost, build: u64, call: BuildCall) -> CallAnswer
     }
 }
 
-/// Performs a call on a build of a handle's host. Writes the value of its answer, and returns the status.
+/// Performs a `BuildCall` on a build of the host that a handle keeps. Writes the value of its answer, and returns the
+/// status.
 pub(crate) fn call_build(
     alloc: Global,
     handle: &mut HostHandle,

@@ -1,4 +1,4 @@
-//! The C form of commands.
+//! The C struct for a build's commands.
 ghost use Rattle.std.specs.Prelude.{◌≡◌, ◌≤◌, true, take};
 ghost use Rattle.rhm_c.specs.Command as commands;
 
@@ -79,9 +79,9 @@ impl RawCommand {
     }
 
     // The command of a kind from 0 (Take) to 5 (Rtt); `None` for any other kind.
-    fn first_command(&self) -> Option<Cmd>
+    fn command_of_kinds_0_to_5(&self) -> Option<Cmd>
         requires { commands.operands_fit self.now ≡ true }
-        ensures { result ≡ commands.first_command self.now }
+        ensures { result ≡ commands.command_of_kinds_0_to_5 self.now }
     {
         match self.kind {
             0 => Some(Cmd::Take {
@@ -113,9 +113,9 @@ impl RawCommand {
     }
 
     // The command of a kind from 6 (Ripas) to 9 (Rec); `None` for any other kind, or without valid auxiliaries.
-    fn next_command(&self) -> Option<Cmd>
+    fn command_of_kinds_6_to_9(&self) -> Option<Cmd>
         requires { commands.operands_fit self.now ≡ true }
-        ensures { result ≡ commands.next_command self.now }
+        ensures { result ≡ commands.command_of_kinds_6_to_9 self.now }
     {
         match self.kind {
             6 => Some(Cmd::Ripas {
@@ -140,9 +140,9 @@ impl RawCommand {
     }
 
     // The command of a kind from 10 (Activate) to 13 (Poke); `None` for any other kind.
-    fn last_command(&self) -> Option<Cmd>
+    fn command_of_kinds_10_to_13(&self) -> Option<Cmd>
         requires { commands.operands_fit self.now ≡ true }
-        ensures { result ≡ commands.last_command self.now }
+        ensures { result ≡ commands.command_of_kinds_10_to_13 self.now }
     {
         match self.kind {
             10 => Some(Cmd::Activate),
@@ -169,11 +169,11 @@ impl RawCommand {
         if !self.fits() {
             None
         } else if self.kind <= 5 {
-            self.first_command()
+            self.command_of_kinds_0_to_5()
         } else if self.kind <= 9 {
-            self.next_command()
+            self.command_of_kinds_6_to_9()
         } else {
-            self.last_command()
+            self.command_of_kinds_10_to_13()
         }
     }
 }

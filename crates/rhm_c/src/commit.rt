@@ -1,5 +1,5 @@
-//! Commits of prepared commands and undos. The RMM has answered, and the host performs the command or the undo if the
-//! model's answer is the same.
+//! Functions of the C interface that commit a prepared command or undo. The RMM has answered, and the host performs the
+//! command or the undo if the model's answer is the same.
 ghost use Rattle.std.specs.Prelude.{◌≡◌};
 ghost use Rattle.std.specs.List.{list_all};
 ghost use Rattle.rhm_c.specs.Command as commands;
@@ -12,12 +12,11 @@ use crate::command::{asked, build_of};
 use crate::placed_host::PlainHost;
 use crate::undo::undo;
 use crate::{HostHandle, RawCommand};
-use history_calls::{Actions, Frame, HostAction, actions_asked, actions_back, refusal_asked};
+use history_calls::{Actions, Frame, HostAction, actions_asked, actions_back, refusal_of_command};
 use host_commands::Refusal;
 use std::alloc::Global;
 
-/// The RMM's answer to the prepared call. It is in the registers X0 and X1. They do not matter if no call was to be
-/// made.
+/// The RMM's answer to a prepared RMI call: the registers X0 and X1. They do not matter if no call was to be made.
 #[repr(C)]
 #[derive(Drop)]
 pub struct FirmwareAnswer {
@@ -137,7 +136,7 @@ fn commit(
         Err(status) => return only(status),
     };
     let prepared = actions_asked(frame, host, build, (raw.run % 64) as u16, &cmd);
-    match check(prepared, refusal_asked(host, build, &cmd), answer) {
+    match check(prepared, refusal_of_command(host, build, &cmd), answer) {
         Ok(()) => ask(host, build, &cmd),
         Err(answer) => answer,
     }
@@ -161,11 +160,11 @@ fn commit_undo(
     }
 }
 
-/// Commits a prepared command of a build. `answer` has the registers of the RMM's answer. If the model's answer is the
-/// same, does and returns what `rhm_ask` would.
+/// Performs a build's prepared command, if the RMM's answer is the model's. `answer` has the registers of the RMM's
+/// answer. Does and returns what `rhm_ask` would.
 ///
-/// Else nothing changes. 16: X0 is not the model's, which is `value`: 0 if the model performs the call, and else the word
-/// of its refusal. 17: X0 is the model's, and X1 is not the output that the host knows.
+/// Else nothing changes. 16: X0 is not the model's, which is `value`: 0 if the model performs the call, and else the
+/// word of its refusal. 17: X0 is the model's, and X1 is not the output that the host knows.
 #[unsafe(no_mangle)]
 pub extern "C" fn rhm_commit(
     alloc: Global,
@@ -186,8 +185,8 @@ pub extern "C" fn rhm_commit(
     given(committed, value)
 }
 
-/// Commits a prepared undo of a build. `rhm_commit` commits a command in the same way. Returns 0, with the number of
-/// operations that are left open in `value`.
+/// Performs a build's prepared undo, if the RMM's answer is the model's. `rhm_commit` commits a command in the same
+/// way. Returns 0, with the number of operations that are left open in `value`.
 #[unsafe(no_mangle)]
 pub extern "C" fn rhm_commit_undo(
     alloc: Global,

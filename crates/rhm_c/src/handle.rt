@@ -1,4 +1,4 @@
-//! The handles by which C keeps hosts.
+//! Handles through which a C program keeps a host.
 ghost use Rattle.std.specs.Prelude.{◌≡◌, Some, None, IfSome, IfNone, is_some};
 
 use crate::{HeldHost, PlacedHost};
@@ -6,7 +6,8 @@ use box_parts::BoxParts;
 use std::alloc::Global;
 use std::mem::replace;
 
-/// The handle by which C keeps a host. A closed handle has no host. A handle whose bytes are all 0 is closed.
+/// A handle through which a C program keeps a host. A closed handle has no host. A handle whose bytes are all 0 is
+/// closed.
 #[repr(C)]
 #[derive(Drop)]
 pub struct HostHandle {

@@ -1,4 +1,4 @@
-//! A heap-allocated host that C keeps. No other file knows its pointer.
+//! A heap-allocated host that a C program keeps. No other file knows its pointer.
 ghost use Rattle.std.specs.Prelude.{◌≡◌, true, Option, Some, None, is_some};
 ghost use Rattle.std.specs.Coded.{coded_option};
 ghost use Rattle.rhm_c.specs.Codes.{placed_host_code};
@@ -11,7 +11,7 @@ use box_parts::BoxParts;
 use std::alloc::Global;
 use std::marker::Model;
 
-/// A host on the heap, or none. To C it is one pointer, null if there is none.
+/// A pointer to a host on the heap, null if there is none.
 #[repr(C)]
 #[derive(Drop)]
 pub struct HeldHost {

@@ -1,4 +1,4 @@
-//! Readings of a host's history, event by event.
+//! Functions of the C interface that read a host's history event by event.
 ghost use Rattle.std.specs.Prelude.{◌≡◌, map};
 ghost use Rattle.history_calls.specs.Frame as frames;
 ghost use Rattle.rhm_c.specs.History as histories;
@@ -14,10 +14,12 @@ use history_calls::Frame;
 use realm_model::{Act, Event};
 use std::alloc::Global;
 
-/// The C form of an event. It has a build, a kind and operands. Operands that the kind does not have are 0.
+/// An event of a host's history, as a C struct. It has a build, a kind and operands. Operands that the kind does not
+/// have are 0.
 ///
-/// `granule` is the address of the granule that the operation names first, and `second` that of the first starting table
-/// or of the source. `count` is a number of granules or of IPA granules. `aux` has the addresses of a REC's auxiliaries.
+/// `granule` is the address of the granule that the operation names first, and `second` that of the first starting
+/// table or of the source. `count` is a number of granules or of IPA granules. `aux` has the addresses of a REC's
+/// auxiliaries.
 #[repr(C)]
 #[derive(Clone, Copy)]
 pub struct RawEvent {
@@ -262,8 +264,8 @@ pub extern "C" fn rhm_event_count(alloc: Global, handle: &mut HostHandle) -> u64
     count
 }
 
-/// Writes an event of the history to `reading`. `number` is the event's index, counted from 0. Returns false, and
-/// writes nothing, if there is no such event, and for a closed handle.
+/// Writes event `number` of a host's history to `reading`. `number` is the event's index, counted from 0. Returns
+/// false, and writes nothing, if there is no such event, and for a closed handle.
 #[unsafe(no_mangle)]
 pub extern "C" fn rhm_read_event(
     alloc: Global,

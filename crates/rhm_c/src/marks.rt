@@ -1,4 +1,4 @@
-//! Marks of builds, and rollbacks to a mark.
+//! Functions that mark a point of a build, and roll the build back to it.
 ghost use Rattle.std.specs.Prelude.{◌≡◌};
 ghost use Rattle.rhm_c.specs.Command.{build_in};
 ghost use Rattle.rhm_c.specs.Answer.{IsOnHandle};
@@ -12,7 +12,7 @@ use granule_addr::BuildId;
 use host_commands::{Refusal, check_build};
 use std::alloc::Global;
 
-/// Sets the mark of a build.
+/// Marks a build's current point for a later rollback.
 pub(crate) fn mark(host: &mut PlainHost, build: BuildId) -> CallAnswer
     ensures { IsMarkedHere host.old build result host.new }
 {
@@ -32,7 +32,7 @@ fn refusal_without_mark(host: &PlainHost, build: BuildId) -> Refusal
     }
 }
 
-/// Undoes the operations that a build opened after its mark.
+/// Rolls a build back to its mark, by undoing all operations opened since.
 pub(crate) fn roll_back(host: &mut PlainHost, build: BuildId) -> CallAnswer
     ensures { IsBackHere host.old build result host.new }
 {
@@ -42,8 +42,8 @@ pub(crate) fn roll_back(host: &mut PlainHost, build: BuildId) -> CallAnswer
     }
 }
 
-/// Sets the mark of a build, in place of an older mark. Returns 0, with the number of the build's open operations in
-/// `value`.
+/// Marks a build's current point for a later rollback, in place of an older mark. Returns 0, with the number of the
+/// build's open operations in `value`.
 ///
 /// Else nothing changes: 1 and 2 are the refusals, and 14 a closed handle.
 #[unsafe(no_mangle)]
@@ -59,8 +59,8 @@ pub extern "C" fn rhm_mark(
     call_build(alloc, handle, build, BuildCall::Mark, value)
 }
 
-/// Undoes the operations that a build opened after its mark. All are undone in one call, the newest first. Returns 0,
-/// with the number of operations in `value`. The mark stays.
+/// Rolls a build back to its mark, by undoing all operations opened since. All are undone in one call, the newest
+/// first. Returns 0, with the number of operations in `value`. The mark stays.
 ///
 /// Else nothing changes: 1, 2, 7 and 8 are the refusals, of which the first that holds comes, and 14 a closed handle. 7
 /// comes if the build has no mark.

@@ -1,4 +1,4 @@
-//! The opening and closing of handles.
+//! Functions that open and close a C program's handle of a host.
 ghost use Rattle.std.specs.Prelude.{◌≡◌, ◌≢◌, ◌≤◌, ◌↔◌, true, false, None, Some, is_some};
 ghost use Rattle.rhm_c.specs.Settings.{are_settings, opened_host};
 
@@ -43,7 +43,7 @@ pub extern "C" fn rhm_open(alloc: Global, handle: &mut HostHandle, settings: &Ho
     OPENED
 }
 
-/// Closes a handle, and frees its memory. A closed one stays closed.
+/// Closes a handle, and frees the memory of its host. A closed handle stays closed.
 #[unsafe(no_mangle)]
 pub extern "C" fn rhm_close(alloc: Global, handle: &mut HostHandle)
     ensures { handle.new.held.host ≡ None }

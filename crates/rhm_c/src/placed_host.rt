@@ -1,4 +1,4 @@
-//! A host, with the addresses of its granules.
+//! A host, together with the physical addresses of its granules.
 ghost use Rattle.std.specs.Prelude.{◌≡◌, true, IfSome};
 ghost use Rattle.rhm_c.specs.Settings.{are_settings, opened_host};
 
@@ -8,10 +8,11 @@ use page_arena::PlainStore;
 use realm_host::{Host, Settings};
 use std::alloc::Global;
 
-/// A host over a plain store of pages.
+/// A host that keeps the pages of its granules in a `PlainStore`.
 pub(crate) type PlainHost = Host<PlainStore>;
 
-/// A host with its frame. The frame has the address of granule 0 and the number of granules.
+/// A host, with the physical address and the number of its granules. The frame has the address of granule 0 and the
+/// number of granules.
 #[derive(Drop)]
 pub struct PlacedHost {
     pub(crate) host: Host<PlainStore>,

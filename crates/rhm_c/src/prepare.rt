@@ -1,4 +1,5 @@
-//! The preparation of commands and undos. It gives the operations that the hypervisor is to perform on its RMM.
+//! Functions of the C interface that prepare a command or undo, and change nothing. They give the operations that the
+//! hypervisor is to perform on its RMM.
 ghost use Rattle.std.specs.Prelude.{◌≡◌};
 ghost use Rattle.rhm_c.specs.Preparing as preparing;
 
@@ -7,7 +8,7 @@ use crate::answer::{CLOSED, NO_BUILD, refusal_status, refusal_value};
 use crate::command::{asked, build_of};
 use crate::placed_host::PlainHost;
 use crate::{HostHandle, RawActions, RawCommand};
-use history_calls::{Actions, Frame, actions_asked, actions_back, refusal_asked};
+use history_calls::{Actions, Frame, actions_asked, actions_back, refusal_of_command};
 use host_commands::Refusal;
 use std::alloc::Global;
 
@@ -48,7 +49,7 @@ fn prepare(
         Ok((build, cmd)) => {
             write(
                 actions_asked(frame, host, build, (raw.run % 64) as u16, &cmd),
-                refusal_asked(host, build, &cmd),
+                refusal_of_command(host, build, &cmd),
                 into,
             )
         }
@@ -66,8 +67,9 @@ fn prepare_undo(frame: Frame, host: &PlainHost, build: u64, into: &mut RawAction
     }
 }
 
-/// Prepares a command of a build, and changes nothing. Returns 0, with the operations that the hypervisor performs on
-/// its RMM, in sequence; a Take needs none. `expected` is X0 of the model: 0, or the word of its refusal.
+/// Prepares a build's command: lists the operations needed on the RMM, and changes nothing. Returns 0, with the
+/// operations that the hypervisor performs on its RMM, in sequence; a Take needs none. `expected` is X0 of the model:
+/// 0, or the word of its refusal.
 ///
 /// Else `actions` stays as it is. 1 to 12 is the number of the refusal that the host gives before it calls the RMM. 13
 /// is an operand that no call has, 14 a closed handle, and 15 what is no command.
@@ -90,8 +92,8 @@ pub extern "C" fn rhm_prepare(
     status
 }
 
-/// Prepares an undo of a build. `rhm_prepare` prepares a command in the same way. The refusals are 1, 7 and 8, and 14
-/// is a closed handle.
+/// Prepares a build's undo: lists the operations needed on the RMM, and changes nothing. `rhm_prepare` prepares a
+/// command in the same way. The refusals are 1, 7 and 8, and 14 is a closed handle.
 #[unsafe(no_mangle)]
 pub extern "C" fn rhm_prepare_undo(
     alloc: Global,

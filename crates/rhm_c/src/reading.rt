@@ -1,4 +1,5 @@
-//! Readings of a host. They are of its free pages, and of its builds with their pages, realms and RECs.
+//! Functions of the C interface that read the state of a host. They read its free pages, and its builds with their
+//! pages, realms and RECs.
 ghost use Rattle.std.specs.Prelude.{◌≡◌};
 ghost use Rattle.rhm_c.specs.Reading as readings;
 ghost use Rattle.rhm_c.specs.Reading.{IsRead};
@@ -11,9 +12,9 @@ use history_calls::Frame;
 use realm_host::{GranuleState, Mark, RealmState, RecState};
 use std::alloc::Global;
 
-/// The state of a build. It has the number of pages, the number of open operations, and flags for a mark and an abort.
-/// `mark` is the number of operations that were open at the mark, if the build has one. A flag is 1 if it holds, and 0
-/// if not.
+/// The state of a build that a C program reads. It has the number of pages, the number of open operations, and flags
+/// for a mark and an abort. `mark` is the number of operations that were open at the mark, if the build has one. A flag
+/// is 1 if it holds, and 0 if not.
 #[repr(C)]
 #[derive(Drop)]
 pub struct BuildReading {
@@ -24,7 +25,7 @@ pub struct BuildReading {
     pub is_aborting: u64,
 }
 
-/// A page of a build. Its fields are the address and the state of the page's granule.
+/// The address and the granule state of a build's page.
 #[repr(C)]
 #[derive(Drop)]
 pub struct PageReading {
@@ -32,8 +33,8 @@ pub struct PageReading {
     pub state: u64,
 }
 
-/// The attributes of a realm. They are the addresses of its RD and first starting table, its state, VMID and IPA width,
-/// and the number of its next REC. `state` is 0 for NEW and 1 for ACTIVE.
+/// The attributes of a build's realm that a C program reads. They are the addresses of its RD and first starting table,
+/// its state, VMID and IPA width, and the number of its next REC. `state` is 0 for NEW and 1 for ACTIVE.
 #[repr(C)]
 #[derive(Drop)]
 pub struct RealmReading {
@@ -45,7 +46,8 @@ pub struct RealmReading {
     pub next_rec: u64,
 }
 
-/// A REC of a realm. Its fields are the address of its granule, and its state: 0 for READY and 1 for RUNNING.
+/// The address and state of a REC. The address is that of the REC's granule, and `state` is 0 for READY and 1 for
+/// RUNNING.
 #[repr(C)]
 #[derive(Drop)]
 pub struct RecReading {
@@ -242,8 +244,8 @@ pub extern "C" fn rhm_read_page(
     report(found, reading)
 }
 
-/// Writes the realm of a build to `reading`. Returns false, and writes nothing, if the build has none, and for a closed
-/// handle.
+/// Writes the attributes of a build's realm to `reading`. Returns false, and writes nothing, if the build has none, and
+/// for a closed handle.
 #[unsafe(no_mangle)]
 pub extern "C" fn rhm_read_realm(
     alloc: Global,

@@ -1,8 +1,8 @@
-//! The C form of a host's settings.
+//! The C struct for the settings of a new host.
 ghost use Rattle.std.specs.Prelude.{◌≡◌};
 ghost use Rattle.rhm_c.specs.Settings.{are_settings};
 
-/// The settings of a new host. They are its sizes and limits, and the address of its granule 0.
+/// The settings of a new host: sizes, limits, and the address of its granule 0.
 #[repr(C)]
 #[derive(Drop)]
 pub struct HostSettings {

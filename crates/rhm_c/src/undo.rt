@@ -1,4 +1,4 @@
-//! Undos that are performed in one step.
+//! Functions of the C interface that undo an operation in one call.
 ghost use Rattle.std.specs.Prelude.{◌≡◌};
 ghost use Rattle.rhm_c.specs.Command.{build_in};
 ghost use Rattle.rhm_c.specs.Answer.{IsOnHandle};
@@ -11,7 +11,7 @@ use crate::placed_host::PlainHost;
 use granule_addr::BuildId;
 use std::alloc::Global;
 
-/// Reverses the newest operation that a build has open.
+/// Reverses the newest open operation of a build.
 pub(crate) fn undo(host: &mut PlainHost, build: BuildId) -> CallAnswer
     ensures { IsUndoneHere host.old build result host.new }
 {

@@ -1,4 +1,4 @@
-//! Calls, and their registers.
+//! RMI calls, and their encoding in the registers X0 to X6.
 ghost use Rattle.std.specs.Prelude.{◌≡◌};
 ghost use Rattle.rmi_abi.specs.Call as calls;
 
@@ -215,7 +215,7 @@ fn decode_last(r: Registers) -> Option<Call>
     }
 }
 
-/// Decodes a call from registers. Returns `None` if X0 is the function identifier of no command.
+/// Decodes an RMI call from the registers X0 to X6. Returns `None` if X0 is the function identifier of no command.
 pub fn decode_call(r: Registers) -> Option<Call>
     ensures { result ≡ calls.call_in r }
 {
@@ -243,7 +243,8 @@ fn registers(function: u64, x1: u64, x2: u64, x3: u64, x4: u64) -> Registers
     }
 }
 
-/// Encodes a call in registers. X0 has the function identifier, the operands follow from X1 on, and the rest is 0.
+/// Encodes an RMI call in the registers X0 to X6. X0 has the function identifier, the operands follow from X1 on, and
+/// the rest is 0.
 pub fn encode_call(call: Call) -> Registers
     ensures { result ≡ calls.registers_of call }
 {

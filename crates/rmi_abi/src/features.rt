@@ -1,10 +1,11 @@
-//! Feature registers.
+//! The values of an RMM's feature registers.
 ghost use Rattle.std.specs.Prelude.{◌≡◌};
 ghost use Rattle.rmi_abi.specs.Features as features;
 
 use crate::{Layout, Platform};
 
-/// The value of feature register `index`. RMM 1.0, RmiFeatureRegister0; a register of any other index is 0.
+/// Returns the value of RMI feature register `index` on a platform. RMM 1.0, RmiFeatureRegister0; a register of any
+/// other index is 0.
 #[tactic(auto, unfolding(crate::specs::Features::feature_register))]
 pub fn feature_register(platform: &Platform, index: u64) -> u64
     ensures { result ≡ features.feature_register platform.now index }

@@ -1,15 +1,15 @@
-//! The GIC fields of a run page. They are gicv3_hcr, followed by 16 list registers.
+//! The GIC fields in the run page of a REC. They are gicv3_hcr, followed by 16 list registers.
 ghost use Rattle.std.specs.Prelude.{◌≡◌, ◌<◌, length};
 ghost use Rattle.rmi_abi.specs.Gic as gic;
 
 use page_arena::word_in;
 
-/// Functions on the GIC fields of a run page. They read and check the fields that a host sets for an entry. RMM 1.0,
+/// Functions that read and check the GIC fields in a REC's run page. A host sets the fields for an entry. RMM 1.0,
 /// RmiRecEnter.
 pub struct GicFields;
 
 impl GicFields {
-    /// Returns gicv3_hcr of a run page.
+    /// Returns the field gicv3_hcr in a REC's run page.
     pub fn hcr(page: &[u8]) -> u64
         requires { length page.now ≡ 4096 }
         ensures { result ≡ gic.gicv3_hcr_in page.now }
@@ -17,7 +17,7 @@ impl GicFields {
         word_in(page, 96)
     }
 
-    /// Returns list register `k` of a run page.
+    /// Returns GICv3 list register `k` in a REC's run page.
     pub fn lr(page: &[u8], k: u8) -> u64
         requires page { length page.now ≡ 4096 }
         requires below { k < 16 }
@@ -26,16 +26,16 @@ impl GicFields {
         word_in(page, 97 + k as usize)
     }
 
-    /// Whether a host may set gicv3_hcr to this value.
-    pub fn is_hcr(hcr: u64) -> bool
+    /// Whether a host may set the field gicv3_hcr to the value `hcr`.
+    pub fn is_hcr_allowed(hcr: u64) -> bool
         ensures { result ≡ gic.is_gicv3_hcr hcr }
     {
         hcr % 2 == 0 && hcr / 0x100 % 0x40 == 0 && hcr / 0x8000 == 0
     }
 
-    /// Whether a host may set list register `k` to its value. The value is the one in the run page. `num_lrs` is the
-    /// number of the last list register.
-    pub fn is_lr(num_lrs: u8, page: &[u8], k: u8) -> bool
+    /// Whether a host may set GICv3 list register `k` to its value in the run page. `num_lrs` is the number of the last
+    /// list register.
+    pub fn is_lr_allowed(num_lrs: u8, page: &[u8], k: u8) -> bool
         requires page { length page.now ≡ 4096 }
         requires below { k < 16 }
         ensures { result ≡ gic.is_gicv3_lr num_lrs page.now k }

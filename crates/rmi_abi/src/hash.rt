@@ -1,4 +1,4 @@
-//! Hash algorithms.
+//! The hash algorithms for the measurements of realms.
 
 /// The hash algorithm of a realm's measurements. RMM 1.0, RmiHashAlgorithm.
 #[derive(Clone, Copy)]

@@ -1,4 +1,4 @@
-//! Theorems on all calls, and on the default settings.
+//! Theorems on the encoding of RMI calls, and on an RMM's default settings.
 ghost use Rattle.std.specs.Prelude.{◌≡◌, Some, true};
 ghost use Rattle.rmi_abi.specs.declared.call.Call.{Call};
 ghost use Rattle.rmi_abi.specs.declared.registers.Registers.{Registers};
@@ -7,18 +7,18 @@ ghost use Rattle.rmi_abi.specs.Settings.{is_platform, default_settings};
 
 use crate::RmmSettings;
 
-/// The registers of a call decode to that call.
+/// Decoding an encoded RMI call gives the same call.
 pub fn calls_come_back()
     ensures { (call : Call) → call_in (registers_of call) ≡ Some call }
 {}
 
-/// Encoding a decoded call gives the registers back. After the call's operands, they have zeros.
+/// Encoding a decoded RMI call gives its registers back, with zeros after the operands.
 pub fn registers_come_back()
     ensures { (r : Registers) (call : Call) → call_in r ≡ Some call
         → with_operands (operand_count call) r ≡ registers_of call }
 {}
 
-/// The default settings are in range, as `Platform` requires.
+/// The default settings of an RMM are in their ranges, as `Platform` requires.
 pub fn defaults_are_a_platform()
     ensures values { RmmSettings.DEFAULT ≡ default_settings }
     ensures in_range { is_platform RmmSettings.DEFAULT ≡ true }

@@ -1,5 +1,4 @@
-//! The Realm Management Interface of RMM 1.0, as values. The values are registers, calls, result words, parameter pages
-//! and settings.
+//! Values of RMM 1.0's Realm Management Interface: registers, calls, result words, parameters and settings.
 //!
 //! Nothing here has a state. A call is decoded from the registers X0 to X6, and encoded into them.
 #![tactic(auto)]

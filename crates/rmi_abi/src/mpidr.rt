@@ -1,8 +1,9 @@
-//! Affinities of RECs.
+//! The check of MPIDR values, and the REC numbers that they encode.
 ghost use Rattle.std.specs.Prelude.{◌≡◌};
 ghost use Rattle.rmi_abi.specs.Mpidr as affinities;
 
-/// Whether a number is an MPIDR. All its bits that are set must belong to the affinity fields. RMM 1.0, RmiRecMpidr.
+/// Whether a number is a valid MPIDR of a REC. All its bits that are set must belong to the affinity fields. RMM 1.0,
+/// RmiRecMpidr.
 pub fn is_mpidr(mpidr: u64) -> bool
     ensures { result ≡ affinities.is_mpidr mpidr }
 {

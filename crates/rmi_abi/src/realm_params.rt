@@ -1,10 +1,10 @@
-//! The parameters of a realm.
+//! The parameters with which a host creates a realm, read from a page.
 ghost use Rattle.std.specs.Prelude.{◌≡◌, ◌<◌, length};
 ghost use Rattle.rmi_abi.specs.RealmParams as params;
 
 use page_arena::word_in;
 
-/// The parameters that a host gives a realm. RMM 1.0, RmiRealmParams.
+/// The parameters with which a host creates a realm. RMM 1.0, RmiRealmParams.
 ///
 /// The starting level is the 64 bits of the page: a negative one is above 3.
 #[derive(Clone, Copy)]

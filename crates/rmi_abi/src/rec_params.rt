@@ -1,11 +1,10 @@
-//! The parameters of a REC.
+//! The parameters with which a host creates a REC, read from a page.
 ghost use Rattle.std.specs.Prelude.{◌≡◌, ◌<◌, length};
 ghost use Rattle.rmi_abi.specs.RecParams as params;
 
 use page_arena::word_in;
 
-/// Functions on the parameters of a REC. They read the page of parameters with which a host creates the REC. RMM 1.0,
-/// RmiRecParams.
+/// Functions that read the parameters with which a host creates a REC. RMM 1.0, RmiRecParams.
 ///
 /// Flags but RUNNABLE are ignored.
 pub struct RecParams;
@@ -32,7 +31,7 @@ impl RecParams {
         word_in(page, 64)
     }
 
-    /// The initial value of general-purpose register `k`.
+    /// Returns the initial value of general-purpose register `k` of a new REC.
     pub fn gpr(page: &[u8], k: u8) -> u64
         requires page { length page.now ≡ 4096 }
         requires below { k < 8 }
@@ -41,7 +40,7 @@ impl RecParams {
         word_in(page, 96 + k as usize)
     }
 
-    /// The number of auxiliary granules.
+    /// Returns the number of auxiliary granules in a REC's parameters.
     pub fn num_aux(page: &[u8]) -> u64
         requires { length page.now ≡ 4096 }
         ensures { result ≡ params.num_aux_in page.now }
@@ -49,7 +48,7 @@ impl RecParams {
         word_in(page, 256)
     }
 
-    /// The address of auxiliary granule `k`.
+    /// Returns the address of auxiliary granule `k` in a REC's parameters.
     pub fn aux(page: &[u8], k: u8) -> u64
         requires page { length page.now ≡ 4096 }
         requires below { k < 16 }

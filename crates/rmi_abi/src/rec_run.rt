@@ -1,14 +1,14 @@
-//! The run page of a REC. It has what a host gives at an entry, and what the host gets at an exit.
+//! The run page of a REC: the values for its entry and from its exit.
 ghost use Rattle.std.specs.Prelude.{◌≡◌, ◌<◌, length};
 ghost use Rattle.rmi_abi.specs.RecRun as runs;
 
 use page_arena::word_in;
 
-/// Functions on the flags of an entry. They read the flags that a host gives. RMM 1.0, RmiRecEnterFlags.
+/// Functions that decode the flags of RMI_REC_ENTER. A host gives the flags in a run page. RMM 1.0, RmiRecEnterFlags.
 pub struct EnterFlags;
 
 impl EnterFlags {
-    /// Returns the flags in a run page.
+    /// Returns the RMI_REC_ENTER flags in a REC's run page.
     pub fn read(page: &[u8]) -> u64
         requires { length page.now ≡ 4096 }
         ensures { result ≡ runs.flags_in page.now }
@@ -47,8 +47,8 @@ impl EnterFlags {
     }
 }
 
-/// Returns the entry value of general-purpose register `k`. A host gives the value in the run page. RMM 1.0,
-/// RmiRecEnter.
+/// Returns the value of general-purpose register `k` for the entry of a REC. A host gives the value in the run page.
+/// RMM 1.0, RmiRecEnter.
 pub fn entry_gpr(page: &[u8], k: u8) -> u64
     requires page { length page.now ≡ 4096 }
     requires below { k < 31 }
@@ -57,7 +57,7 @@ pub fn entry_gpr(page: &[u8], k: u8) -> u64
     word_in(page, 64 + k as usize)
 }
 
-/// The reason for an exit. RMM 1.0, RmiRecExitReason; a simulated guest causes no FIQ and no SError.
+/// The reason for an exit from a REC. RMM 1.0, RmiRecExitReason; a simulated guest causes no FIQ and no SError.
 #[derive(Clone, Copy)]
 pub enum ExitReason {
     Sync,
@@ -67,7 +67,7 @@ pub enum ExitReason {
     HostCall,
 }
 
-/// An exit from a REC. RMM 1.0, RmiRecExit; the words that are no field here are 0.
+/// The values that a host gets at an exit from a REC. RMM 1.0, RmiRecExit; the words that are no field here are 0.
 #[derive(Clone, Copy)]
 pub struct RecExit {
     pub reason: ExitReason,
@@ -99,7 +99,7 @@ impl ExitReason {
 }
 
 impl RecExit {
-    /// Returns an exit with the given reason, whose other fields are 0.
+    /// Returns a REC exit with the given reason, and 0 in all other fields.
     pub fn only(reason: ExitReason) -> RecExit
         ensures { result ≡ runs.only_reason reason }
     {
@@ -119,7 +119,7 @@ impl RecExit {
         }
     }
 
-    /// Returns a 64-bit word of a run page that holds this exit. `k` is the index of the word, from 256 on.
+    /// Returns 64-bit word `k` of a run page that holds the REC exit. `k` is the index of the word, from 256 on.
     pub fn word(&self, k: u16) -> u64
         ensures { result ≡ runs.exit_word self.now k }
     {

@@ -1,4 +1,4 @@
-//! The registers of a call, and of its answer.
+//! The registers of an RMI call, and those of its result.
 ghost use Rattle.std.specs.Prelude.{◌≡◌};
 ghost use Rattle.rmi_abi.specs.Answer as answers;
 
@@ -16,7 +16,7 @@ pub struct Registers {
     pub x6: u64,
 }
 
-/// The result word of a command, and its outputs X1 to X4.
+/// The result of an RMI command: its result word and the outputs X1 to X4.
 #[derive(Clone, Copy)]
 pub struct SmcResult {
     pub word: Word,
@@ -27,7 +27,7 @@ pub struct SmcResult {
 }
 
 impl SmcResult {
-    /// Returns an answer whose outputs are 0.
+    /// Returns the result with the given result word, and 0 in all outputs.
     pub fn only(word: Word) -> SmcResult
         ensures { result ≡ answers.only word }
     {
@@ -41,7 +41,8 @@ impl SmcResult {
     }
 }
 
-/// Returns the registers after a call. X0 to X4 have the answer, and X5 and X6 are unchanged.
+/// Returns the registers after an RMI call with the given result. X0 to X4 have the answer, and X5 and X6 are
+/// unchanged.
 pub fn answer_registers(regs: Registers, answer: SmcResult) -> Registers
     ensures { result ≡ answers.with_answer regs answer }
 {
@@ -56,7 +57,7 @@ pub fn answer_registers(regs: Registers, answer: SmcResult) -> Registers
     }
 }
 
-/// Returns the registers after a call of an unknown function. X0 is -1, NOT_SUPPORTED. SMCCC 1.2.
+/// Returns the registers after an SMC call of an unknown function. X0 is -1, NOT_SUPPORTED. SMCCC 1.2.
 pub fn unknown_registers(regs: Registers) -> Registers
     ensures { result ≡ answers.not_supported regs }
 {

@@ -1,4 +1,4 @@
-//! Settings: the choices that the standard leaves to an implementation.
+//! The settings of an RMM: choices that the RMM standard leaves to an implementation.
 ghost use Rattle.std.specs.Prelude.{◌≡◌, Some, None, if◌then◌else◌};
 ghost use Rattle.rmi_abi.specs.Settings as ranges;
 
@@ -11,10 +11,11 @@ pub enum Layout {
     Eac5,
 }
 
-/// The settings of an RMM. A choice that the standard leaves open has the default that is the likeliest.
+/// The settings of an RMM: its memory, its limits, and choices in its behavior. A choice that the standard leaves open
+/// has the default that is the likeliest.
 #[derive(Clone, Copy)]
 pub struct RmmSettings {
-    /// The address of the first granule.
+    /// The address of the first granule of the machine's memory.
     pub base: u64,
     /// The address of the first secure granule. There are `secure_count` secure granules, which cannot be delegated.
     pub secure_base: u64,
@@ -22,10 +23,10 @@ pub struct RmmSettings {
     /// The number of auxiliary granules of a REC.
     pub aux: u8,
     pub vmid_bits: u8,
-    /// The widest address space of a realm, in bits.
+    /// The maximum width of a realm's IPA space, in bits.
     pub s2sz: u8,
     pub max_recs_order: u8,
-    /// The smallest level number that a block can have.
+    /// The smallest RTT level number at which an entry can be a block.
     pub block_level: u8,
     /// The value of NUM_BPS in feature register 0. The next two fields are the values of NUM_WPS and GICV3_NUM_LRS.
     pub bps: u8,
@@ -34,7 +35,7 @@ pub struct RmmSettings {
     pub layout: Layout,
     /// Whether RTT_INIT_RIPAS stops at an UNASSIGNED entry whose RIPAS is DESTROYED.
     pub stops_at_destroyed: bool,
-    /// Whether a REC that is not runnable extends the measurement.
+    /// Whether the creation of a REC that is not runnable extends the realm's measurement.
     pub measures_all_recs: bool,
     /// Whether DATA_CREATE ignores flags above bit 0.
     pub ignores_data_flags: bool,
@@ -55,7 +56,7 @@ pub struct RmmSettings {
 }
 
 impl RmmSettings {
-    /// The defaults, with the first granule at 0x8000_0000.
+    /// The default settings of an RMM, with the first granule at 0x8000_0000.
     pub const DEFAULT: RmmSettings = RmmSettings {
         base: 0x8000_0000,
         secure_base: 0,
@@ -114,7 +115,7 @@ impl RmmSettings {
     }
 }
 
-/// Settings that are in range.
+/// RMM settings that are checked to be in range.
 #[derive(Clone, Copy)]
 pub struct Platform {
     settings: RmmSettings,

@@ -1,8 +1,9 @@
-//! Result words.
+//! The result words of RMI commands.
 ghost use Rattle.std.specs.Prelude.{◌≡◌};
 ghost use Rattle.rmi_abi.specs.Word as words;
 
-/// A result word. It has a status, and an index with RMI_ERROR_REALM or RMI_ERROR_RTT. RMM 1.0, RmiCommandReturnCode.
+/// The result word of an RMI command, returned in X0. It has a status, and an index with RMI_ERROR_REALM or
+/// RMI_ERROR_RTT. RMM 1.0, RmiCommandReturnCode.
 #[derive(Clone, Copy)]
 pub enum Word {
     Success,
@@ -10,14 +11,14 @@ pub enum Word {
     ErrorRealm(u8),
     ErrorRec,
     ErrorRtt(u8),
-    /// The word of a REC_ENTER that has not returned. Its REC is still running. The word is this RMM's own, and not one
-    /// of the standard.
+    /// The result word of a REC_ENTER call that has not returned yet. Its REC is still running. The word is this RMM's
+    /// own, and not one of the standard.
     Running,
 }
 
 impl Word {
-    /// Returns the value of X0 for a word. The status is in bits 7:0 and the index in bits 15:8; the value for
-    /// `Running` is -2.
+    /// Returns the value of X0 that encodes the result word. The status is in bits 7:0 and the index in bits 15:8; the
+    /// value for `Running` is -2.
     pub fn number(self) -> u64
         ensures { result ≡ words.number self }
     {
@@ -31,7 +32,7 @@ impl Word {
         }
     }
 
-    /// Decodes a word from a value of X0. Returns `None` if the value encodes no word.
+    /// Decodes an RMI result word from a value of X0. Returns `None` if the value encodes no word.
     pub fn from_number(number: u64) -> Option<Word>
         ensures { result ≡ words.word_of number }
     {

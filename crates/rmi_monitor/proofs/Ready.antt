@@ -17,7 +17,7 @@ use Rattle.realm_model.specs.World.{World, realm_of}
 use Rattle.realm_model.specs.History.{acts_of}
 use Rattle.realm_model.proofs.Leases.{leased}
 use Rattle.realm_model.proofs.Reachable.{reachable_worlds}
-use Rattle.realm_model.proofs.RealmNumbers.{numbers_are_few}
+use Rattle.realm_model.proofs.RealmNumbers.{rec_numbers_are_bounded}
 use Rattle.realm_model.proofs.RealmOf.{IsAt, IsAt-realm_of, IsHeld, IsHeld-realm_of}
 use Rattle.rmi_monitor.specs.View.{MonitorView, IsTaken, IsRec}
 use Rattle.realm_model.specs.declared.act.RealmAndRec.{RealmAndRec}
@@ -82,7 +82,7 @@ module _ (limits : Limits) (history : List Event) (world : World) (monitor : Mon
   next_number_at few None is at = tt
   next_number_at few (Some rd) is at = λ realm there.
       let row : rd.cell.descriptor ≡ Some realm = ap (λ (c : Cell). c.descriptor) (sym at) ∙ ap (λ (m : Machine). (cell_at m rd.number).descriptor) (sym mirror.machine) ∙ there in
-      let most = numbers_are_few limits history world build mirror.legal mirror.world_is rd realm is row in
+      let most = rec_numbers_are_bounded limits history world build mirror.legal mirror.world_is rd realm is row in
       omega arith
 
   pub number_ready : (act : Act) → HasFewEvents history build act → IsNumberReady monitor (rd_of build world) act

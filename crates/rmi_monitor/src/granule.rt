@@ -31,7 +31,7 @@ impl<S: PageStore> Monitor<S> {
         }
     }
 
-    /// Undelegates a DELEGATED granule, which becomes UNDELEGATED.
+    /// Makes a DELEGATED granule UNDELEGATED.
     ///
     /// RMM 1.0, RMI_GRANULE_UNDELEGATE. RMI_ERROR_INPUT comes if it is not DELEGATED.
     pub fn granule_undelegate(&mut self, granule: Gran) -> Result<(), Rmi>

@@ -1,4 +1,4 @@
-//! Checks of a command's inputs.
+//! Checks of the IPAs and table levels in the inputs of RMI commands.
 ghost use Rattle.std.specs.Prelude.{◌≡◌, ◌&&◌, true, false, Some, None, IfSome, IfNone, if◌then◌else◌};
 ghost use Rattle.granule_addr.specs.Ipa.{is_protected_at};
 ghost use Rattle.realm_model.specs.Rows.{is_table_place, is_page_run};

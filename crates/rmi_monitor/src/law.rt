@@ -9,19 +9,18 @@ ghost use Rattle.realm_model.specs.declared.act.RealmAndRec.{RealmAndRec};
 ghost use Rattle.rmi_monitor.specs.Blocks.{TakenIsStep, GivenBackIsStep};
 ghost use Rattle.rmi_monitor.specs.Mirror.{FreshIsMirror, AskedIsReady, PerformedIsStep, NewestIsAccepted, UnRecNamesItsRec};
 
-/// A new RMM agrees with the model. The RMM has just been built, and the history of the model is empty.
-pub fn a_fresh_monitor_mirrors_nothing()
+/// A new RMM agrees with the model whose history is empty.
+pub fn a_new_monitor_agrees_with_the_model()
     ensures { (limits : Limits) → FreshIsMirror limits }
 {}
 
-/// What a build may ask for can be performed. An operation that meets the requirements on a build's command also meets
-/// the precondition of `perform`. If it creates a REC, its build must have fewer than 65,535 events.
+/// Each operation that a build's command may perform meets the precondition of `perform`. If the operation creates a
+/// REC, its build must have fewer than 65,535 events.
 pub fn what_is_asked_can_be_performed()
     ensures { (limits : Limits) (history : List Event) (world : World) (monitor : MonitorView) (build : ℕ) (act : Act) (place : RealmAndRec) → AskedIsReady limits history world monitor build act place }
 {}
 
-/// The RMM and the model agree on commands. A command that the RMM performs is a step of the model, and the model
-/// refuses each command that the RMM refuses.
+/// Each command that the RMM performs is a step of the model. The model refuses each command that the RMM refuses.
 pub fn what_is_performed_is_a_step()
     ensures { (limits : Limits) (history : List Event) (world : World) (monitor : MonitorView) (build : ℕ) (act : Act) (place : RealmAndRec) → PerformedIsStep limits history world monitor build act place }
 {}
@@ -43,8 +42,7 @@ pub fn what_is_taken_is_a_step()
     ensures { (limits : Limits) (history : List Event) (world : World) (monitor : MonitorView) (build order first : ℕ) → TakenIsStep limits history world monitor build order first }
 {}
 
-/// A block can be given back, as a step of the model. This holds if the block's Take is a build's newest open
-/// operation.
+/// The reverse of a build's newest open Take is a step of the model. The RMM can give the block back.
 pub fn what_is_given_back_is_a_step()
     ensures { (limits : Limits) (history : List Event) (world : World) (monitor : MonitorView) (build order first : ℕ) → GivenBackIsStep limits history world monitor build order first }
 {}

@@ -1,4 +1,5 @@
-//! The lookup of a realm's tables. It includes a check that a command's IPA granules are protected.
+//! The lookup of a realm's translation tables by its RD. It includes a check that a command's IPA granules are
+//! protected.
 ghost use Rattle.std.specs.Prelude.{◌≡◌, ◌&&◌, true, false, IfOk, IfErr, IfSome, IfNone};
 ghost use Rattle.granule_addr.specs.Ipa.{is_protected_at};
 ghost use Rattle.realm_model.specs.Rows.{is_page_run};

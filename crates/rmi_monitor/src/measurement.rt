@@ -12,7 +12,8 @@ const RIPAS: u8 = 2;
 
 const REC: u8 = 3;
 
-/// Returns the measurement after an event. It is SHA-256 of the old measurement followed by the event's bytes.
+/// Returns a measurement extended by the bytes of an event. It is SHA-256 of the old measurement followed by the
+/// event's bytes.
 ///
 /// RMM 1.0, Realm measurement.
 #[tactic(auto, unfolding(realm_model::specs::Measurement::measurement_after))]
@@ -25,8 +26,8 @@ pub fn extend_measurement(old: &[u8; 32], event: &[u8]) -> [u8; 32]
     hasher.finalize()
 }
 
-/// Returns the bytes of a data event. They are the tag 1, the page's IPA granule, and the SHA-256 digest of the page.
-/// The IPA granule is four bytes, big endian.
+/// Returns the bytes by which a new data page extends a realm's measurement. They are the tag 1, the page's IPA
+/// granule, and the SHA-256 digest of the page. The IPA granule is four bytes, big endian.
 ///
 /// RMM 1.0, Realm measurement, RMI_DATA_CREATE; the bytes are this profile's own.
 #[tactic(auto, unfolding(realm_model::specs::Measurement::data_event))]
@@ -40,8 +41,8 @@ pub fn data_event(ipa: IpaGran, page: &[u8]) -> [u8; 37]
     event
 }
 
-/// Returns the bytes of a RIPAS event. They are the tag 2, the first IPA granule, and the number of IPA granules that
-/// become RAM. The last two are four bytes each, big endian.
+/// Returns the bytes by which RMI_RTT_INIT_RIPAS extends a realm's measurement. They are the tag 2, the first IPA
+/// granule, and the number of IPA granules that become RAM. The last two are four bytes each, big endian.
 ///
 /// RMM 1.0, Realm measurement, RMI_RTT_INIT_RIPAS; the bytes are this profile's own.
 #[tactic(auto, unfolding(realm_model::specs::Measurement::ripas_event))]
@@ -55,7 +56,8 @@ pub fn ripas_event(ipa: IpaGran, count: u16) -> [u8; 9]
     event
 }
 
-/// Returns the bytes of a REC event. They are the tag 3, and the number of the REC as four bytes, big endian.
+/// Returns the bytes by which a new REC extends a realm's measurement. They are the tag 3, and the number of the REC as
+/// four bytes, big endian.
 ///
 /// RMM 1.0, Realm measurement, RMI_REC_CREATE; the bytes are this profile's own.
 #[tactic(auto, unfolding(realm_model::specs::Measurement::rec_event))]

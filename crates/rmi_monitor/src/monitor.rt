@@ -1,4 +1,4 @@
-//! The RMM, its memory, and blocks of pages.
+//! The simulated RMM, and the taking and giving back of page blocks.
 ghost use Rattle.std.specs.Prelude.{◌≡◌, ◌<◌, ◌≤◌, ◌↔◌, ℕ, Bool, true, List, length, filter, replicate, sum, Some, None, IsTrue, IfOk, IfErr, IfSome, IfNone};
 ghost use Rattle.std.specs.Bool.{OnTrue, OnFalse};
 ghost use Rattle.page_arena.specs.Page.{page_at};
@@ -91,8 +91,8 @@ impl<S: PageStore> Monitor<S> {
         self.store.take(order)
     }
 
-    /// Takes the block that begins at a granule. Returns whether the block was taken. Returns `false`, and changes
-    /// nothing, if and only if the block is not aligned, not inside the machine, or not free.
+    /// Takes a block of 2^order granules that begins at a given granule. Returns whether the block was taken. Returns
+    /// `false`, and changes nothing, if and only if the block is not aligned, not inside the machine, or not free.
     pub fn take_at(&mut self, order: Order, first: Gran) -> bool
         ensures answer { IsTrue result ↔ IsFreeBlock self.old.free order first }
         ensures taken { OnTrue result (self.new ≡ with_block self.old order first) }

@@ -1,4 +1,4 @@
-//! Realm descriptors.
+//! Realm descriptors, which hold the attributes of realms.
 ghost use Rattle.std.specs.Prelude.{◌≡◌, ◌+◌, ◌<◌};
 ghost use Rattle.std.specs.FinMap.{empty};
 ghost use Rattle.realm_model.specs.Rows.{root_rows};
@@ -71,7 +71,7 @@ impl RealmDesc {
         self.state
     }
 
-    /// Activates the realm. The caller checks that it is NEW. RMM 1.0, RMI_REALM_ACTIVATE.
+    /// Sets the state of the realm to ACTIVE. The caller checks that it is NEW. RMM 1.0, RMI_REALM_ACTIVATE.
     pub fn activate(&mut self)
         ensures { self.new ≡ record self.old { state = Active } }
     {
@@ -85,7 +85,7 @@ impl RealmDesc {
         self.root
     }
 
-    /// The measurement of the realm so far. RMM 1.0, Realm measurement.
+    /// Returns the realm's initial measurement, as extended so far. RMM 1.0, Realm measurement.
     pub fn measurement(&self) -> &[u8; 32]
         ensures { result.now ≡ self.now.measurement }
     {
@@ -108,10 +108,10 @@ impl RealmDesc {
         self.next
     }
 
-    /// Returns the number of the realm's next REC. The stored number is incremented.
+    /// Returns the realm's next REC number, and increments the stored number.
     ///
     /// RMM 1.0, RMI_REC_CREATE.
-    pub fn next_rec(&mut self) -> RecNo
+    pub fn take_rec_number(&mut self) -> RecNo
         requires { self.old.next < 65535 }
         ensures number { result ≡ self.old.next }
         ensures raised { self.new ≡ record self.old { next = self.old.next + 1 } }

@@ -23,7 +23,7 @@ fn number_rec(realm: &mut RealmDesc) -> RecNo
     ensures number { result ≡ realm.old.next }
     ensures counted { realm.new ≡ with_rec_more realm.old }
 {
-    let number = realm.next_rec();
+    let number = realm.take_rec_number();
     realm.measure(&rec_event(number));
     number
 }

@@ -1,4 +1,4 @@
-//! Realm execution contexts.
+//! The attributes of realm execution contexts (RECs).
 ghost use Rattle.std.specs.Prelude.{◌≡◌, ◌≤◌, length};
 ghost use Rattle.realm_model.specs.Command.Check as checks;
 ghost use Rattle.realm_model.specs.declared.states.RecState.TheVariants.{Ready, Running};
@@ -78,7 +78,7 @@ impl Rec {
         matches!(self.state, RecState::Ready)
     }
 
-    /// Enters the REC. It becomes RUNNING. The caller checks that it is READY, and its realm ACTIVE. RMM 1.0,
+    /// Sets the state of the REC to RUNNING. The caller checks that the REC is READY, and its realm ACTIVE. RMM 1.0,
     /// RMI_REC_ENTER.
     pub fn enter(&mut self)
         ensures { self.new ≡ record self.old { state = Running } }
@@ -86,7 +86,7 @@ impl Rec {
         self.state = RecState::Running;
     }
 
-    /// Stops the REC. It becomes READY. The caller checks that it is RUNNING. RMM 1.0, REC exit.
+    /// Sets the state of the REC to READY. The caller checks that the REC is RUNNING. RMM 1.0, REC exit.
     pub fn exit(&mut self)
         ensures { self.new ≡ record self.old { state = Ready } }
     {

@@ -33,8 +33,8 @@ impl<S: PageStore> Monitor<S> {
         Ok(())
     }
 
-    /// Writes a byte to a realm's page for a RUNNING REC. The RIPAS of the page's IPA does not matter. The command is
-    /// this profile's own, for guest instructions.
+    /// Writes a byte to a realm's page, as the guest of a RUNNING REC. The RIPAS of the page's IPA does not matter. The
+    /// command is this profile's own, for guest instructions.
     ///
     /// `ipa` is the number of an IPA granule. RMI_ERROR_INPUT comes if the granule is no REC or the IPA is not
     /// protected, and RMI_ERROR_REC if the REC is not RUNNING. RMI_ERROR_RTT comes with the level at which the walk

@@ -58,8 +58,8 @@ impl<S: PageStore> Monitor<S> {
         Ok(())
     }
 
-    /// Sets to RAM the RIPAS of the `count` IPA granules from `ipa` on, all or none, and extends the realm's
-    /// measurement.
+    /// Sets the RIPAS of `count` IPA granules of a NEW realm to RAM. The granules are those from `ipa` on, and all or
+    /// none of them are set. The realm's measurement is extended.
     ///
     /// RMM 1.0, RMI_RTT_INIT_RIPAS. RMI_ERROR_INPUT comes if `rd` is no RD, `count` is not 1 to 512, one table of level
     /// 3 does not serve all of them, or `ipa` is not protected. RMI_ERROR_REALM comes if the realm is not NEW.

@@ -8,20 +8,21 @@ ghost use Rattle.std.specs.Process.{exit_status};
 ghost use Rattle.trace_program.specs.Stop.{trace_exit_status, IsTraceStatus};
 
 use checked_io::Told;
-use command_line::{Ended, Input, Output, Painting, Stop, arguments};
+use command_line::{Ended, Input, Output, Stop, TextKind, arguments};
 use std::process::ExitCode;
 use trace_program::{TraceError, TraceSubcommand, TraceVerdict, run};
 
-/// Returns how a subcommand's output is coloured on a terminal; `None` if the output is not coloured.
-fn painting(asked: &TraceSubcommand) -> Option<Painting> {
+/// Returns the kind of text by which a subcommand's output is coloured on a terminal. It is `None` if the output has no
+/// colour.
+fn painting(asked: &TraceSubcommand) -> Option<TextKind> {
     match asked {
         TraceSubcommand::Answer | TraceSubcommand::Names => None,
-        TraceSubcommand::Why => Some(Painting::Messages),
-        TraceSubcommand::Check(_) => Some(Painting::Difference),
+        TraceSubcommand::Why => Some(TextKind::Messages),
+        TraceSubcommand::Check(_) => Some(TextKind::Difference),
     }
 }
 
-/// Performs what the command line asks for.
+/// Parses the command line, and carries out its request.
 fn serve(rt: &HostRuntime) -> Result<Ended<TraceVerdict>, Stop<TraceError>> {
     let alloc = rt.alloc();
     let words = arguments::<_, TraceError>(rt)?;
@@ -36,8 +37,8 @@ fn serve(rt: &HostRuntime) -> Result<Ended<TraceVerdict>, Stop<TraceError>> {
     Ended::of_run(outcome, output.is_closed())
 }
 
-/// Returns the exit status. If an error stopped the program, the reason is printed to standard error; a wrong line is
-/// on standard output.
+/// Returns the program's exit status for the outcome of its run. If an error stopped the program, the reason is printed
+/// to standard error; a wrong line is on standard output.
 fn end(rt: &HostRuntime, outcome: Result<Ended<TraceVerdict>, Stop<TraceError>>) -> ExitCode
     ensures value { exit_status result ≡ trace_exit_status outcome }
     ensures stops { IfErr outcome (λ _. IsTraceStatus (exit_status result)) }

@@ -1,4 +1,4 @@
-//! Auxiliary granules of RECs.
+//! Changes to the auxiliary granules of RECs.
 ghost use Rattle.std.specs.Prelude.{◌≡◌, ◌<◌, ◌≤◌, None, IfSome};
 ghost use Rattle.rmm_model.specs.Granule.{realm_of};
 ghost use Rattle.rmm_model.specs.Machine.{granule_count};
@@ -36,7 +36,7 @@ fn aux_granule<S: PageStore>(granules: &Granules<S>, rec: Gran, k: u8) -> Option
 }
 
 // Replaces the attributes of auxiliary granule k of a REC, and zeros its page.
-fn set_one<S: PageStore>(granules: &mut Granules<S>, rec: Gran, kept: &RmmGranule, k: u8)
+fn set_aux_granule<S: PageStore>(granules: &mut Granules<S>, rec: Gran, kept: &RmmGranule, k: u8)
     requires inside { rec < granule_count granules.old }
     requires plain { realm_of kept.now.state ≡ None }
     requires below { k < 16 }
@@ -58,6 +58,6 @@ pub fn set_aux<S: PageStore>(granules: &mut Granules<S>, rec: Gran, kept: &RmmGr
     ensures count { granule_count granules.new ≡ granule_count granules.old }
 {
     for k in 0..count {
-        set_one(granules, rec, kept, k);
+        set_aux_granule(granules, rec, kept, k);
     }
 }

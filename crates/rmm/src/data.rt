@@ -1,4 +1,4 @@
-//! RMI_DATA_CREATE_UNKNOWN and RMI_DATA_DESTROY.
+//! The commands RMI_DATA_CREATE_UNKNOWN and RMI_DATA_DESTROY.
 ghost use Rattle.std.specs.Prelude.{◌≡◌, ◌^◌, ◌<◌, [], is_some, IfOk, Some};
 ghost use Rattle.rmm_model.specs.Check.{outcome, first_failing, refusal_in, error_rtt_top as with_top};
 ghost use Rattle.rmm_model.specs.Machine.{granule_count};

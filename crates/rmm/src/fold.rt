@@ -1,4 +1,4 @@
-//! RMI_RTT_FOLD.
+//! The command RMI_RTT_FOLD.
 ghost use Rattle.std.specs.Prelude.{◌≡◌, ◌<◌, ◌≤◌, IfOk, Some};
 ghost use Rattle.rmm_model.specs.Check.{outcome, first_failing, refusal_in};
 ghost use Rattle.rmm_model.specs.Machine.{granule_count};

@@ -1,4 +1,4 @@
-//! RMI_GRANULE_DELEGATE and RMI_GRANULE_UNDELEGATE.
+//! The commands RMI_GRANULE_DELEGATE and RMI_GRANULE_UNDELEGATE.
 ghost use Rattle.std.specs.Prelude.{◌≡◌, ◌<◌, None, IfOk};
 ghost use Rattle.rmm_model.specs.Check.{outcome, first_failing, refusal_in};
 ghost use Rattle.rmm_model.specs.Granule.{realm_of};

@@ -1,4 +1,4 @@
-//! Guests of RECs: their steps and results.
+//! The queued steps and the results of the guests of RECs.
 ghost use Rattle.std.specs.Prelude.{◌≡◌, ◌<◌, is_some, IfSome};
 ghost use Rattle.rmm_model.specs.Guest as guests;
 ghost use Rattle.rmm_model.specs.Machine.{granule_count, number_of};

@@ -1,4 +1,4 @@
-//! Loads, stores and fills by the host. The file also has readings of the states and words of granules.
+//! Loads, stores and fills of memory by the host. The file also has readings of the states and words of granules.
 ghost use Rattle.std.specs.Prelude.{◌≡◌, ◌<◌, length, is_some, IfSome};
 ghost use Rattle.std.specs.Option.{option_copied};
 ghost use Rattle.rmm_model.specs.Machine.{granule_count, number_of};

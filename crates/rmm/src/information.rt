@@ -1,4 +1,4 @@
-//! RMI_VERSION, RMI_FEATURES and RMI_REC_AUX_COUNT. These commands report on the RMM and change nothing.
+//! The commands RMI_VERSION, RMI_FEATURES and RMI_REC_AUX_COUNT. These commands report on the RMM and change nothing.
 ghost use Rattle.std.specs.Prelude.{◌≡◌};
 ghost use Rattle.rmm_model.specs.Check.{outcome};
 ghost use Rattle.rmm_model.specs.Command.Version.{version as versions};

@@ -1,4 +1,4 @@
-//! RMI_RTT_INIT_RIPAS.
+//! The command RMI_RTT_INIT_RIPAS.
 ghost use Rattle.std.specs.Prelude.{◌≡◌, ◌^◌, ◌<◌, ◌≤◌, IfOk, OnOk};
 ghost use Rattle.rmm_model.specs.Check.{outcome, first_failing, refusal_in};
 ghost use Rattle.rmm_model.specs.Command.RttInitRipas as command;

@@ -36,7 +36,8 @@ use rmm_granules::Granules;
 use rmm_model::{Queued, RmmGranuleState, StepWords};
 use std::marker::Model;
 
-/// The RMM of a platform. The platform's memory is in a store of pages. An RMM is seen as its machine.
+/// The simulated RMM of a platform, with the platform's memory. The platform's memory is in a store of pages. An RMM is
+/// seen as its machine.
 #[derive(Drop)]
 pub struct Rmm<S: PageStore> {
     granules: Granules<S>,
@@ -68,7 +69,8 @@ impl<S: PageStore> Rmm<S> {
         self.granules.settings()
     }
 
-    /// The granules of the RMM. Their attributes and pages include those that no call shows to a host.
+    /// Returns a reference to the granules of the RMM's platform. Their attributes and pages include those that no call
+    /// shows to a host.
     pub fn granules(&self) -> &Granules<S>
         ensures { result.now ≡ self.now }
     {
@@ -89,8 +91,8 @@ impl<S: PageStore> Rmm<S> {
         load(&self.granules, address)
     }
 
-    /// Loads the `count` bytes that start at an address; `None` if the host faults, or if the bytes are not all in one
-    /// granule.
+    /// Loads the `count` bytes that start at an address. Returns `None` if the host faults, or if the bytes are not all
+    /// in one granule.
     pub fn load_bytes(&self, address: u64, count: usize) -> Option<&[u8]>
         ensures bytes { option_copied result ≡ loaded_bytes self.now address count }
         ensures count { IfSome result (λ bytes. length bytes.now ≡ count) }
@@ -114,7 +116,7 @@ impl<S: PageStore> Rmm<S> {
         word(&self.granules, address, index)
     }
 
-    /// Stores eight bytes at an address; `false`, with nothing changed, if the host faults.
+    /// Stores eight bytes at an address. Returns `false`, with nothing changed, if the host faults.
     pub fn store(&mut self, address: u64, word: u64) -> bool
         ensures answer { result ≡ can_access self.old address }
         ensures machine { self.new ≡ after_store self.old address word }
@@ -122,8 +124,8 @@ impl<S: PageStore> Rmm<S> {
         store(&mut self.granules, address, word)
     }
 
-    /// Stores bytes that start at an address; `false`, with nothing changed, if the host faults, or if the bytes do not
-    /// fit in one granule.
+    /// Stores the given bytes from an address on. Returns `false`, with nothing changed, if the host faults, or if the
+    /// bytes do not fit in one granule.
     pub fn store_bytes(&mut self, address: u64, bytes: &[u8]) -> bool
         ensures answer { result ≡ can_access_bytes self.old address (length bytes.now) }
         ensures machine { self.new ≡ after_store_bytes self.old address bytes.now }
@@ -131,7 +133,8 @@ impl<S: PageStore> Rmm<S> {
         store_bytes(&mut self.granules, address, bytes)
     }
 
-    /// Writes one value to each byte of the page at an address; `false`, with nothing changed, if the host faults.
+    /// Writes one value to each byte of the page at an address. Returns `false`, with nothing changed, if the host
+    /// faults.
     pub fn fill(&mut self, address: u64, value: u8) -> bool
         ensures answer { result ≡ can_fill self.old address }
         ensures machine { self.new ≡ after_fill self.old address value }

@@ -1,4 +1,4 @@
-//! Operands, and the checks that they have to pass.
+//! Operands of RMI commands, and the checks that they have to pass.
 ghost use Rattle.std.specs.Prelude.{◌≡◌, ◌^◌, ◌<◌, ◌≤◌, [], true, IfOk, OnOk};
 ghost use Rattle.rmm_model.specs.Check.{first_failing, refusal_in, error_rtt, error_rtt_top as with_top};
 ghost use Rattle.rmm_model.specs.Machine.{granule_count, granule_at, number_of};

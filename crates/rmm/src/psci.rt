@@ -1,4 +1,4 @@
-//! RMI_PSCI_COMPLETE.
+//! The command RMI_PSCI_COMPLETE.
 ghost use Rattle.std.specs.Prelude.{◌≡◌, ◌<◌, ◌==◌, ◌∷◌, [], true, IfOk};
 ghost use Rattle.rmm_model.specs.declared.condition.Condition.TheVariants.{Alias, CallingAlign, CallingBound, CallingState};
 ghost use Rattle.rmm_model.specs.Check.{check, outcome, first_failing, refusal_in, error_input};

@@ -1,4 +1,4 @@
-//! RMI_RTT_READ_ENTRY.
+//! The command RMI_RTT_READ_ENTRY.
 ghost use Rattle.std.specs.Prelude.{◌≡◌, IfOk};
 ghost use Rattle.rmm_model.specs.Check.{outcome, first_failing, refusal_in};
 ghost use Rattle.rmm_model.specs.Command.RttReadEntry.{rtt_read_entry as reading};

@@ -1,4 +1,4 @@
-//! RMI_REALM_ACTIVATE.
+//! The command RMI_REALM_ACTIVATE.
 ghost use Rattle.std.specs.Prelude.{◌≡◌, ◌<◌, IfOk};
 ghost use Rattle.rmm_model.specs.Check.{outcome, first_failing, refusal_in, error_realm};
 ghost use Rattle.rmm_model.specs.Machine.{granule_count, number_of, with_realm};

@@ -1,4 +1,4 @@
-//! RMI_REALM_CREATE.
+//! The command RMI_REALM_CREATE.
 ghost use Rattle.std.specs.Prelude.{◌≡◌, ◌<◌, ◌≤◌, true, IfOk, OnOk};
 ghost use Rattle.rmm_model.specs.declared.condition.Condition.TheVariants.{ParamsAlign, ParamsBound, ParamsPas};
 ghost use Rattle.rmm_model.specs.Check.{outcome, first_failing, refusal_in};

@@ -1,4 +1,4 @@
-//! RECs as operands, and their attributes.
+//! The lookup of the REC at an address that a command names.
 ghost use Rattle.std.specs.Prelude.{◌≡◌, ◌<◌, IfOk};
 ghost use Rattle.rmm_model.specs.Check.{first_failing, refusal_in, error_rec};
 ghost use Rattle.rmm_model.specs.Machine.{granule_count, number_of};

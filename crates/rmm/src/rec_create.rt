@@ -1,4 +1,4 @@
-//! RMI_REC_CREATE.
+//! The command RMI_REC_CREATE.
 ghost use Rattle.std.specs.Prelude.{◌≡◌, ◌≢◌, ◌^◌, ◌<◌, ◌≤◌, nat_lt, length, IfOk, OnOk};
 ghost use Rattle.rmm_model.specs.Check.{outcome, first_failing, refusal_in};
 ghost use Rattle.rmm_model.specs.Machine.{granule_count, page_in, with_page};

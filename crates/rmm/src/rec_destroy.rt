@@ -1,4 +1,4 @@
-//! RMI_REC_DESTROY.
+//! The command RMI_REC_DESTROY.
 ghost use Rattle.std.specs.Prelude.{◌≡◌, ◌<◌, IfOk};
 ghost use Rattle.rmm_model.specs.Check.{outcome, first_failing, refusal_in};
 ghost use Rattle.rmm_model.specs.Machine.{granule_count, number_of};

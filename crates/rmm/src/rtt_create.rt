@@ -1,4 +1,4 @@
-//! RMI_RTT_CREATE.
+//! The command RMI_RTT_CREATE.
 ghost use Rattle.std.specs.Prelude.{◌≡◌, ◌^◌, ◌<◌, IfOk, None};
 ghost use Rattle.rmm_model.specs.Check.{outcome, first_failing, refusal_in};
 ghost use Rattle.rmm_model.specs.Entry.{descriptor_of, repeated_byte};

@@ -1,4 +1,4 @@
-//! RMI_RTT_SET_RIPAS.
+//! The command RMI_RTT_SET_RIPAS.
 ghost use Rattle.std.specs.Prelude.{◌≡◌, ◌^◌, ◌<◌, ◌≤◌, IfOk, OnOk};
 ghost use Rattle.rmm_model.specs.Check.{outcome, first_failing, refusal_in};
 ghost use Rattle.rmm_model.specs.Machine.{granule_count, number_of};

@@ -1,4 +1,4 @@
-//! Writes of entries to the tables at which walks end.
+//! Writes of RTT entries to the tables at which RTT walks end.
 ghost use Rattle.std.specs.Prelude.{◌≡◌, ◌<◌};
 ghost use Rattle.rmm_model.specs.Machine.{granule_count};
 ghost use Rattle.rmm_model.specs.Walk as walks;

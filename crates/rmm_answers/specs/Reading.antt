@@ -42,15 +42,15 @@ state_atom (Some state) = Name (state_name state)
 state_atom None = Name NONE
 
 -- granules whose pages have the RMM's own content
-abbrev pub is_own : RmmGranuleState → Bool
-is_own (Rd realm) = true
-is_own (Rec rec) = true
-is_own Rtt = true
-is_own _ = false
+abbrev pub holds_rmm_data : RmmGranuleState → Bool
+holds_rmm_data (Rd realm) = true
+holds_rmm_data (Rec rec) = true
+holds_rmm_data Rtt = true
+holds_rmm_data _ = false
 
 -- the sum of the bytes of the granule at an address
 abbrev pub granule_sum : Machine → ℕ → RmmGranuleState → ℕ
-granule_sum m address state = if is_own state || not (is_inside m address) then 0 else sum (page_in m (number_of m address))
+granule_sum m address state = if holds_rmm_data state || not (is_inside m address) then 0 else sum (page_in m (number_of m address))
 
 abbrev pub sum_atom : Machine → ℕ → Option RmmGranuleState → Atom
 sum_atom m address (Some state) = Decimal (granule_sum m address state)

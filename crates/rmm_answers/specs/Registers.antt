@@ -25,7 +25,7 @@ are_outputs_same place x0 names (w ∷ ws) ours =
     is_same_output (is_returned place x0 (first_name names)) w (first_of ours) && are_outputs_same place x0 (names_after names) ws (rest_of ours)
 
 -- The registers that are written of a command's answer are ours: X0, and the outputs that come with our X0.
-abbrev pub are_registers : ℕ → List TraceWord → List TraceWord → Bool
-are_registers place [] ours = true
-are_registers place (w ∷ ws) ours =
+abbrev pub registers_agree : ℕ → List TraceWord → List TraceWord → Bool
+registers_agree place [] ours = true
+registers_agree place (w ∷ ws) ours =
     is_same_register w (first_of ours) && are_outputs_same place (operand_at ours 0 0) (outputs_of place) ws (rest_of ours)

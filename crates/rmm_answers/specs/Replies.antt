@@ -16,7 +16,7 @@ use Rattle.rmm_answers.specs.declared.reply.Digest.TheVariants.{Sha256, Sha512}
 use Rattle.rmm_answers.specs.declared.reply.TraceReply.{TraceReply}
 use Rattle.rmm_answers.specs.Outputs.{command_place}
 use Rattle.rmm_answers.specs.Put.{◌▷◌, put_word}
-use Rattle.rmm_answers.specs.Registers.{are_registers}
+use Rattle.rmm_answers.specs.Registers.{registers_agree}
 use Rattle.rmm_answers.specs.Words.{first_place}
 
 -- an answer that is words, and refuses no call
@@ -59,7 +59,7 @@ reply_text reply = text_by reply.rim reply.words.items
 -- The answer that is written to a question is ours: that to a raw call by its registers.
 abbrev pub is_same_answer : List TraceWord → List TraceWord → List TraceWord → Bool
 is_same_answer question written ours =
-    if first_place question == SMC then are_registers (command_place (operand_at (rest_of question) 0 0)) written ours
+    if first_place question == SMC then registers_agree (command_place (operand_at (rest_of question) 0 0)) written ours
     else is_same UNSURE question written ours
 
 abbrev pub are_same : List TraceWord → Option (List TraceWord) → List TraceWord → Bool

@@ -1,4 +1,4 @@
-//! Functions that answer the questions of a trace.
+//! Functions that perform a trace's questions on an RMM, and write the answers.
 ghost use Rattle.std.specs.Prelude.{◌≡◌, ◌-◌, []};
 ghost use Rattle.rmm_trace.specs.Access.{operand_at};
 ghost use Rattle.rmm_trace.specs.Compare.{rest_of};
@@ -158,8 +158,7 @@ fn answer_repeat<S: PageStore>(reply: &mut TraceReply, rmm: &mut Rmm<S>, words: 
     answer_rounds(reply, rmm, rest(words), more);
 }
 
-/// Answers a question to an RMM. What the question asks is performed, and the answer is written to `reply`. A platform
-/// is no command here.
+/// Performs a trace's question on an RMM, and writes the answer to `reply`. A `platform` question is no command here.
 #[tactic(auto, unfolding(crate::specs::Answering::answered_on))]
 pub fn answer_on<S: PageStore>(rmm: &mut Rmm<S>, question: &[TraceWord], reply: &mut TraceReply)
     ensures { (reply.new, rmm.new) ≡ specs.answered_on question.now rmm.old }
@@ -188,8 +187,8 @@ fn call_in(question: &[TraceWord]) -> &[TraceWord]
     }
 }
 
-/// Returns the evaluated checks of a refused call. `reply` is the reply to that call. The machine is still the one at
-/// the call, since a refusal changes nothing.
+/// Evaluates the checks of an RMI call that an RMM has refused. `reply` is the reply to that call. The machine is still
+/// the one at the call, since a refusal changes nothing.
 #[tactic(auto, unfolding(crate::specs::Answering::refused_checks))]
 pub fn checks_on<S: PageStore>(
     rmm: &Rmm<S>,

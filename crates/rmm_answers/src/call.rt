@@ -1,4 +1,4 @@
-//! Answers to calls.
+//! Functions that write the answer to an RMI call in a trace.
 ghost use Rattle.std.specs.Prelude.{◌≡◌, ◌+◌, ◌<◌, ◌≤◌, length, Some};
 ghost use Rattle.rmm_model.specs.Allowed.{condition_number};
 ghost use Rattle.rmm_answers.specs.Call as calls;

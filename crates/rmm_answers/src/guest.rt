@@ -1,5 +1,5 @@
-//! Answers to questions about guests. The questions are about steps of guests, the ends of their runs, and the results
-//! of steps.
+//! Functions that answer a trace's questions about the guests of RECs. The questions are about steps of guests, the
+//! ends of their runs, and the results of steps.
 ghost use Rattle.std.specs.Prelude.{◌≡◌, ◌==◌, ◌+◌, ◌<◌, ◌≤◌, length, []};
 ghost use Rattle.std.specs.List.{position_from};
 ghost use Rattle.rmm_answers.specs.Guest as guests;
@@ -23,7 +23,7 @@ use rmm_trace::place::{
 };
 use rmm_trace::{Atom, Sentence, TraceWord, operand};
 
-/// The name of each kind of guest step. It is given by its place in the table of names.
+/// The names of all kinds of guest steps, as indices into the table of names.
 pub const STEPS: [usize; 15] = [
     WRITE,
     READ,

@@ -1,4 +1,4 @@
-//! The verdict on a written answer.
+//! Functions that judge whether an answer written in a trace is right, allowed or wrong.
 ghost use Rattle.std.specs.Prelude.{◌≡◌, ◌<◌};
 ghost use Rattle.std.specs.List.{list_any};
 ghost use Rattle.rmm_answers.specs.Judging as judging;
@@ -9,7 +9,8 @@ use rmm_checks::{CheckOutcome, EvaluatedCheck, EvaluatedChecks};
 use rmm_trace::place::{DASH, RMI_SUCCESS};
 use rmm_trace::{Atom, Sentence, TraceWord, read_words};
 
-/// The verdict on a written answer. The answer is the model's, an allowed refusal by another check, or neither.
+/// The verdict on an answer that is written in a trace. The answer is the model's, an allowed refusal by another check,
+/// or neither.
 #[derive(Clone, Copy)]
 pub enum Verdict {
     Same,
@@ -103,8 +104,9 @@ fn allows_name(checks: &EvaluatedChecks, place: usize, rest: &[TraceWord]) -> bo
     allows_written(checks, (place - RMI_SUCCESS) as u64, rest)
 }
 
-/// Whether a written answer is an allowed refusal by another check. The evaluated checks allow its word, and the
-/// deciding check has a different word. The word is written as the name of its status with an index, or as X0.
+/// Whether a trace's answer is an allowed refusal, but not that of the deciding check. The evaluated checks allow its
+/// word, and the deciding check has a different word. The word is written as the name of its status with an index, or
+/// as X0.
 pub fn is_allowed(written: &[TraceWord], checks: &EvaluatedChecks) -> bool
     ensures { result ≡ judging.is_refusal_allowed written.now checks.now }
 {
@@ -131,11 +133,12 @@ fn is_text_allowed(checks: Option<EvaluatedChecks>, written: &[u8]) -> bool
     }
 }
 
-/// Judges a written answer to a question. `reply` is the model's reply, and `machine` is the machine after `reply`.
+/// Compares an answer written in a trace with the model's reply, and returns the verdict. `reply` is the model's reply,
+/// and `machine` is the machine after `reply`.
 ///
 /// Both refuse the call if the answer is allowed, so both machines are those before it. A right word with another check
-/// or another output is wrong. Checks are evaluated only if the answer is not ours. The words of the answer are read into
-/// `words`, which a caller keeps: a sentence that is made for each answer costs more than the comparison.
+/// or another output is wrong. Checks are evaluated only if the answer is not ours. The words of the answer are read
+/// into `words`, which a caller keeps: a sentence that is made for each answer costs more than the comparison.
 #[tactic(auto, unfolding(crate::specs::Judging::judged))]
 pub fn judge(
     machine: &TraceMachine,

@@ -1,4 +1,4 @@
-//! Theorems about answers.
+//! Theorems about the tables of names for traces, and about refused calls.
 ghost use Rattle.std.specs.Prelude.{◌≡◌, ◌+◌, ◌++◌, true, codes};
 ghost use Rattle.rmi_abi.specs.declared.registers.Registers.{Registers};
 ghost use Rattle.rmm_checks.specs.Names.{name_of};
@@ -10,25 +10,26 @@ ghost use Rattle.rmm_answers.specs.Call.{is_refused};
 ghost use Rattle.rmm_answers.specs.Places.{has_name, are_answer_places_named, are_outputs_named};
 ghost use Rattle.rmm_answers.specs.Places.{are_fields_named, are_steps_named};
 
-/// Each constant of module `place` has the right name. It is the place of that name in the table of names.
+/// Proves that each constant of module `place` is the index of its name. The index is that in the table of names.
 pub fn answer_places_are_of_their_names()
     ensures { are_answer_places_named ≡ true }
 {}
 
-/// The tables of outputs, page fields and guest steps have the right names. The outputs are those of commands. Each
-/// field has the right offset too.
+/// Proves that the tables of outputs, page fields and guest steps have the right names. The outputs are those of
+/// commands. Each field has the right offset too.
 pub fn tables_are_of_their_names()
     ensures outputs { are_outputs_named ≡ true }
     ensures fields { are_fields_named ≡ true }
     ensures steps { are_steps_named ≡ true }
 {}
 
-/// The table of names has each check's name in parentheses.
+/// Proves that the table of names has each check's name, in parentheses.
 pub fn checks_are_of_their_names()
     ensures { (c : Condition) → has_name (179 + condition_number c) (codes "(" ++ (name_of c ++ codes ")")) ≡ true }
 {}
 
-/// A refused call leaves the machine unchanged. So the checks of the call are the same before and after it.
+/// Proves that a refused RMI call leaves the machine unchanged. So the checks of the call are the same before and after
+/// it.
 pub fn refusals_change_nothing()
     ensures { (r : Registers) (m : Machine) → is_refused (rmi r m).0.x0 ≡ true → (rmi r m).1 ≡ m }
 {}

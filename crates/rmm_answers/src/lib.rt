@@ -1,8 +1,8 @@
 //! The answers of an RMM to the questions of a trace.
 //!
 //! A question is words that `RmmTraceLine::parse` accepts. Each is performed on the machine of the trace: a call by
-//! registers, a load or a store of the host, a step of a guest, or a reading. The answer is words too, so it is compared
-//! with a written one word by word, and printed in one way.
+//! registers, a load or a store of the host, a step of a guest, or a reading. The answer is words too, so it is
+//! compared with a written one word by word, and printed in one way.
 //!
 //! | Module | It has |
 //! |---|---|

@@ -14,8 +14,8 @@ use rmm_trace::TraceWord;
 use std::alloc::{AllocError, Global};
 use std::marker::Model;
 
-/// The machine of a trace. It is the RMM that a `platform` question opened; before the first such question there is
-/// none.
+/// The RMM that answers the questions of a trace, if one is open. A `platform` question opens it; before the first such
+/// question there is none.
 #[derive(Drop)]
 pub struct TraceMachine {
     rmm: Option<Rmm<PlainStore>>,
@@ -72,9 +72,9 @@ impl TraceMachine {
         }
     }
 
-    /// Answers a question. What the question asks of the machine is performed, and the answer is written to `reply`. A
-    /// platform opens a fresh machine, and it alone takes memory: an error leaves the machine as it is. Before the
-    /// first platform any other question is no command.
+    /// Carries out a trace's question on the machine, and writes the answer to `reply`. A platform opens a fresh
+    /// machine, and it alone takes memory: an error leaves the machine as it is. Before the first platform any other
+    /// question is no command.
     #[tactic(auto, unfolding(crate::specs::Answering::answered))]
     pub fn answer(
         &mut self,
@@ -92,8 +92,8 @@ impl TraceMachine {
         Ok(())
     }
 
-    /// Returns the evaluated checks of a refused call. `reply` is the reply to that call. The machine is still the one
-    /// at the call, since a refusal changes nothing.
+    /// Evaluates the checks of an RMI call that the machine has refused. `reply` is the reply to that call. The machine
+    /// is still the one at the call, since a refusal changes nothing.
     pub fn checks(&self, question: &[TraceWord], reply: &TraceReply) -> Option<EvaluatedChecks>
         ensures { result ≡ option_and_then (specs.refused_checks question.now reply.now) self.now }
     {

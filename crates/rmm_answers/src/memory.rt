@@ -1,4 +1,4 @@
-//! Answers to memory accesses by the host.
+//! Functions that write the answers to a trace's memory accesses by the host.
 ghost use Rattle.std.specs.Prelude.{◌≡◌, ◌+◌, ◌<◌, length};
 ghost use Rattle.rmm_answers.specs.Memory as memory;
 ghost use Rattle.rmm_answers.specs.Put.{put_word};

@@ -1,4 +1,4 @@
-//! The named forms of raw calls and of their answers.
+//! Functions that rewrite raw SMC calls and their answers with names.
 ghost use Rattle.std.specs.Prelude.{◌≡◌, ◌+◌, ◌<◌, ◌≤◌, length, slice_index_or, option_map};
 ghost use Rattle.rmm_answers.specs.Naming as naming;
 
@@ -8,7 +8,7 @@ use crate::words::rest;
 use rmm_trace::place::{PLATFORM, PSCI_DENIED, PSCI_SUCCESS};
 use rmm_trace::{Atom, Sentence, TraceWord, atom_number, operand};
 
-/// The form of an operand. The operand is absent, a number in decimal or hexadecimal, or a PSCI status.
+/// The notation of an operand: none, decimal, hexadecimal, or a PSCI status.
 #[derive(Clone, Copy)]
 pub enum OperandForm {
     Absent,
@@ -19,8 +19,8 @@ pub enum OperandForm {
 
 use self::OperandForm::{Absent, Decimal, Hexadecimal, Psci};
 
-/// The forms of each command's operands X1 to X5. The index of a command is the place of its name in the table of
-/// names. RMM 1.0, RMI commands.
+/// The notation of each RMI command's operands X1 to X5. The index of a command is the place of its name in the table
+/// of names. RMM 1.0, RMI commands.
 pub const OPERANDS: [[OperandForm; 5]; 23] = [
     // rmi_version to rmi_granule_undelegate
     [Hexadecimal, Absent, Absent, Absent, Absent],
@@ -86,7 +86,7 @@ fn put_operand(call: &mut Sentence, form: OperandForm, number: u64)
     }
 }
 
-/// The operand forms of a command without operands.
+/// The operand notations of a command without operands: all absent.
 pub const NO_OPERANDS: [OperandForm; 5] = [Absent, Absent, Absent, Absent, Absent];
 
 // The operand forms in row `place`; `NO_OPERANDS` past the last row.
@@ -116,7 +116,7 @@ fn named_call(place: usize, words: &[TraceWord]) -> Sentence
     call
 }
 
-/// The named form of a raw call `smc FID X1 ..`; `None` for a function that is no command.
+/// Rewrites a raw call `smc FID X1 ..` as a call of a named command. `None` comes for a function that is no command.
 #[tactic(auto, unfolding(crate::specs::Naming::named_question))]
 pub fn named_question(question: &[TraceWord]) -> Option<Sentence>
     ensures { option_map (λ call. call.items) result ≡ naming.named_question question.now }
@@ -169,8 +169,8 @@ fn answer_by(place: usize, x0: u64, written: &[TraceWord]) -> Sentence
     answer
 }
 
-/// The named form of a raw answer `X0 X1 ..`; `None` if X0 is not written. `question` is the raw call that it answers.
-/// Outputs that are not written are left out.
+/// Rewrites a raw answer with names, or returns `None` if X0 is not written. A raw answer has the words `X0 X1 ..`, and
+/// `question` is the raw call that it answers. Outputs that are not written are left out.
 #[tactic(auto, unfolding(crate::specs::Naming::named_answer))]
 pub fn named_answer(question: &[TraceWord], written: &[TraceWord]) -> Option<Sentence>
     ensures { option_map (λ answer. answer.items) result ≡ naming.named_answer question.now written.now }

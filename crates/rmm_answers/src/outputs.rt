@@ -1,4 +1,4 @@
-//! Outputs of commands. The file has their names, and functions that append outputs to an answer.
+//! The names of RMI commands' outputs, and functions that append outputs to an answer.
 ghost use Rattle.std.specs.Prelude.{◌≡◌, ◌==◌, ◌+◌, ◌<◌, ◌≤◌, length, slice_index_or};
 ghost use Rattle.std.specs.List.{position_from};
 ghost use Rattle.rmm_answers.specs.Outputs as specs;

@@ -1,4 +1,5 @@
-//! Parameter pages, written field by field. RMM 1.0, RmiRealmParams, RmiRecParams and RmiRecEnter.
+//! Functions that write the host's parameter pages field by field. RMM 1.0, RmiRealmParams, RmiRecParams and
+//! RmiRecEnter.
 ghost use Rattle.std.specs.Prelude.{◌≡◌};
 ghost use Rattle.rmm_model.specs.Host.{can_fill};
 ghost use Rattle.rmm_trace.specs.Access.{operand_at};
@@ -13,7 +14,8 @@ use rmm_trace::place::{
 };
 use rmm_trace::{Atom, TraceWord, after_name, operand};
 
-/// The fields of RmiRealmParams. A field is the place of its name in the table of names, and its offset in the page.
+/// The names and offsets of the fields of RmiRealmParams. A field is the place of its name in the table of names, and
+/// its offset in the page.
 pub const REALM_FIELDS: [(usize, u64); 12] = [
     (FLAGS, 0x0),
     (S2SZ, 0x8),
@@ -29,8 +31,8 @@ pub const REALM_FIELDS: [(usize, u64); 12] = [
     (RTT_NUM_START, 0x818),
 ];
 
-/// The fields of RmiRecParams without NUM_AUX. A field is the place of its name in the table of names, and its offset
-/// in the page. NUM_AUX is the number of values of `aux`.
+/// The names and offsets of the fields of RmiRecParams, without NUM_AUX. A field is the place of its name in the table
+/// of names, and its offset in the page. NUM_AUX is the number of values of `aux`.
 pub const REC_FIELDS: [(usize, u64); 5] = [
     (FLAGS, 0x0),
     (MPIDR, 0x100),
@@ -39,7 +41,8 @@ pub const REC_FIELDS: [(usize, u64); 5] = [
     (AUX, 0x808),
 ];
 
-/// The fields of RmiRecEnter. A field is the place of its name in the table of names, and its offset in the page.
+/// The names and offsets of the fields of RmiRecEnter. A field is the place of its name in the table of names, and its
+/// offset in the page.
 pub const RUN_FIELDS: [(usize, u64); 4] = [
     (FLAGS, 0x0),
     (GPRS, 0x200),

@@ -1,4 +1,4 @@
-//! Platforms that traces open. The settings are read from a `platform` question, and the RMM of the platform is opened.
+//! Functions that open an RMM for a trace's `platform` question. The settings are read from the question.
 ghost use Rattle.std.specs.Prelude.{◌≡◌, ◌<◌, ◌≤◌, ◌==◌, IfOk, Some, replicate};
 ghost use Rattle.granule_addr.specs.Page.{zero_page};
 ghost use Rattle.rmm_granules.specs.Inside.{platform_machine};
@@ -115,15 +115,15 @@ fn open(alloc: Global, words: &[TraceWord]) -> Result<Option<Rmm<PlainStore>>, A
     }
 }
 
-/// Whether the first word of a question is `platform`. Such a question opens a fresh machine.
+/// Whether the first word of a trace's question is `platform`. Such a question opens a fresh machine.
 pub fn is_platform(question: &[TraceWord]) -> bool
     ensures { result ≡ (first_place question.now == PLATFORM) }
 {
     first_place(question) == PLATFORM
 }
 
-/// Opens a fresh RMM for a platform. None comes if this RMM has no such platform. A platform has 1 to 4,096 granules
-/// below 2^47.
+/// Opens a fresh RMM with the settings of a trace's `platform` question. None comes if this RMM has no such platform. A
+/// platform has 1 to 4,096 granules below 2^47.
 pub fn open_platform(
     alloc: Global,
     question: &[TraceWord],

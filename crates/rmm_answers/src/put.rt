@@ -1,4 +1,4 @@
-//! Functions that append words to an answer.
+//! Functions that append words to an answer in a trace.
 ghost use Rattle.std.specs.Prelude.{◌≡◌, ◌+◌, ◌<◌, ◌≤◌, length};
 ghost use Rattle.rmm_trace.specs.Answers.{listed};
 ghost use Rattle.rmm_answers.specs.Put as words;

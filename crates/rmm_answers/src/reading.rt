@@ -1,4 +1,5 @@
-//! Answers to readings of the machine's state. No firmware offers a host these readings.
+//! Functions that answer a trace's questions about the state of granules, realms and RECs. No firmware offers a host
+//! these readings.
 ghost use Rattle.std.specs.Prelude.{◌≡◌, ◌+◌, ◌<◌, ◌≤◌, length, take, []};
 ghost use Rattle.std.specs.List.{sum};
 ghost use Rattle.rmm_model.specs.Command.PsciComplete as completion;
@@ -51,8 +52,8 @@ pub(crate) fn state_atom(state: Option<RmmGranuleState>) -> Atom
 // ---- sums
 
 // Whether the page of a granule in this state holds the RMM's own data.
-fn is_own(state: RmmGranuleState) -> bool
-    ensures { result ≡ readings.is_own state }
+fn holds_rmm_data(state: RmmGranuleState) -> bool
+    ensures { result ≡ readings.holds_rmm_data state }
 {
     match state {
         RmmGranuleState::Rd(_) | RmmGranuleState::Rec(_) | RmmGranuleState::Rtt => true,
@@ -80,7 +81,7 @@ fn granule_sum<S: PageStore>(rmm: &Rmm<S>, address: u64, state: RmmGranuleState)
     ensures { result ≡ readings.granule_sum rmm.now address state }
 {
     let granules = rmm.granules();
-    if is_own(state) || !granules.is_inside(address) {
+    if holds_rmm_data(state) || !granules.is_inside(address) {
         return 0;
     }
     sum_of(granules.page(granules.number_of(address)))

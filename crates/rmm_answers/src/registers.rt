@@ -1,4 +1,5 @@
-//! The comparison of raw answers, register by register. A written answer is compared with the model's answer.
+//! Functions that compare a raw answer in a trace register by register. A written answer is compared with the model's
+//! answer.
 ghost use Rattle.std.specs.Prelude.{◌≡◌};
 ghost use Rattle.rmm_answers.specs.Registers as specs;
 
@@ -55,8 +56,8 @@ fn are_outputs_same(
 }
 
 // Whether the written registers of a command's answer agree with the model's.
-pub(crate) fn are_registers(place: usize, written: &[TraceWord], ours: &[TraceWord]) -> bool
-    ensures { result ≡ specs.are_registers place written.now ours.now }
+pub(crate) fn registers_agree(place: usize, written: &[TraceWord], ours: &[TraceWord]) -> bool
+    ensures { result ≡ specs.registers_agree place written.now ours.now }
 {
     let [first, after @ ..] = written else {
         return true;

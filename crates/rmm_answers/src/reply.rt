@@ -1,4 +1,4 @@
-//! The reply to a question, and its comparison with a written answer.
+//! The RMM's reply to a trace's question, and its comparison with a written answer.
 ghost use Rattle.std.specs.Prelude.{◌≡◌, ◌++◌, OnErr, OnOk};
 ghost use Rattle.std.specs.Str.{bytes_eq};
 ghost use Rattle.rmm_answers.specs.Replies as replies;
@@ -6,25 +6,26 @@ ghost use Rattle.rmm_answers.specs.Replies as replies;
 use crate::outputs::command_place;
 use crate::place::{COMMAND, NO};
 use crate::put::put;
-use crate::registers::are_registers;
+use crate::registers::registers_agree;
 use crate::words::{first_place, rest};
 use rmm_trace::place::SMC;
 use rmm_trace::{Atom, Sentence, TraceWord, is_same, operand, read_into, sha256_text, sha512_text};
 use std::alloc::AllocError;
 
-/// The digest in a realm's initial measurement.
+/// A realm's initial measurement, as a SHA-256 or SHA-512 digest.
 #[derive(Clone, Copy)]
 pub enum Digest {
     Sha256([u8; 32]),
     Sha512([u8; 64]),
 }
 
-/// The answer to a question: words, or a measurement. The answer to a platform is neither.
+/// The reply to a trace's question: words, or a measurement. The reply to a `platform` question is neither.
 #[derive(Drop)]
 pub struct TraceReply {
     pub words: Sentence,
     pub rim: Option<Digest>,
-    /// The round in which a call was refused. It is 0 for a call without `repeat`, and `None` if no call was refused.
+    /// The round in which a repeated call was refused, counted from 0. It is 0 for a call without `repeat`, and `None`
+    /// if no call was refused.
     pub refused: Option<u64>,
 }
 
@@ -39,7 +40,7 @@ impl Digest {
         }
     }
 
-    /// Appends the digits of the digest. After an Err none of them is there.
+    /// Appends the hexadecimal digits of a digest to a text. After an Err none of them is there.
     pub fn push_digits(&self, text: &mut Vec<u8>) -> Result<(), AllocError>
         ensures ok { OnOk result (text.new.items ≡ text.old.items ++ replies.digest_text self.now) }
         ensures err { OnErr result (text.new.items ≡ text.old.items) }
@@ -57,7 +58,7 @@ fn is_same_answer(question: &[TraceWord], written: &[TraceWord], ours: &[TraceWo
     ensures { result ≡ replies.is_same_answer question.now written.now ours.now }
 {
     if first_place(question) == SMC {
-        are_registers(command_place(operand(rest(question), 0, 0)), written, ours)
+        registers_agree(command_place(operand(rest(question), 0, 0)), written, ours)
     } else {
         is_same(question, written, ours)
     }
@@ -91,7 +92,7 @@ impl TraceReply {
         }
     }
 
-    /// Clears the answer.
+    /// Resets the reply to an empty reply.
     pub fn clear(&mut self)
         ensures { self.new ≡ replies.no_answer }
     {
@@ -100,7 +101,7 @@ impl TraceReply {
         self.refused = None;
     }
 
-    /// Sets the answer to `no command`. It is the answer to a line that is not a command.
+    /// Sets the reply to the words `no command`. It is the reply to a line that is not a command.
     #[tactic(auto, unfolding(crate::specs::Replies::no_command))]
     pub fn no_command(&mut self)
         ensures { self.new ≡ replies.no_command }
@@ -110,14 +111,14 @@ impl TraceReply {
         put(&mut self.words, Atom::Name(COMMAND));
     }
 
-    /// Whether the answer is empty. The line is then printed without an answer.
+    /// Whether the reply has neither words nor a measurement. The line is then printed without an answer.
     pub fn is_empty(&self) -> bool
         ensures { result ≡ replies.is_unanswered self.now }
     {
         self.words.is_empty() && self.rim.is_none()
     }
 
-    /// Whether a written answer to a question agrees with this reply. The words of the written answer are read into
+    /// Whether an answer written in a trace agrees with this reply. The words of the written answer are read into
     /// `words`.
     #[tactic(auto, unfolding(crate::specs::Replies::is_written))]
     pub fn is_written(&self, question: &[TraceWord], written: &[u8], words: &mut Sentence) -> bool

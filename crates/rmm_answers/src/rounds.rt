@@ -1,4 +1,5 @@
-//! The rounds of a repeated call or fill. They end at the first round that does not succeed.
+//! Functions that perform the rounds of a repeated call or fill in a trace. The rounds end at the first that does not
+//! succeed.
 ghost use Rattle.std.specs.Prelude.{◌≡◌};
 ghost use Rattle.rmm_answers.specs.Rounds as rounds;
 

@@ -1,4 +1,4 @@
-//! The C form of the attributes of realms and RECs.
+//! C structs for the attributes of realms and RECs.
 ghost use Rattle.std.specs.Prelude.{◌≡◌};
 ghost use Rattle.rmm_model.specs.Command.PsciComplete as completion;
 ghost use Rattle.rmm_c.specs.Reading as shown;
@@ -6,7 +6,7 @@ ghost use Rattle.rmm_c.specs.Reading as shown;
 use rmi_abi::HashAlgorithm;
 use rmm_model::{PsciRequest, RmmGranuleState, RmmRealm, RmmRealmState, RmmRec, RmmRecState};
 
-/// The attributes of a realm. RMM 1.0, Realm attributes.
+/// The attributes of a realm, as a C struct. RMM 1.0, Realm attributes.
 ///
 /// `state` is 0 for NEW, 1 for ACTIVE and 2 for SYSTEM_OFF, `hash_algo` is 0 for SHA-256 and 1 for SHA-512. `next_rec`
 /// counts the RECs that the realm was given, `rec_count` those that it has.
@@ -25,7 +25,7 @@ pub struct RealmAttributes {
     pub rim: [u8; 64],
 }
 
-/// The attributes of a REC. RMM 1.0, REC attributes.
+/// The attributes of a REC, as a C struct. RMM 1.0, REC attributes.
 ///
 /// `state` is 0 for READY and 1 for RUNNING. `ripas_base`, `ripas_top` and `ripas_value` are what is left of the change
 /// of RIPAS that it asked for. What is a fact is 1 if it holds, and 0 if not: C may not have written it before.

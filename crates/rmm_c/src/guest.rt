@@ -1,4 +1,4 @@
-//! Guests of RECs: their steps, the end of their run, and their results.
+//! Functions that give steps to RECs' guests, end their runs, and read their results.
 ghost use Rattle.std.specs.Prelude.{◌≡◌, option_map};
 ghost use Rattle.rmm_c.specs.Guest.{words_of, queued_code, on_guest, result_shown, interrupt_word, after_interrupt};
 ghost use Rattle.rmm_c.specs.Reading.{Reads};
@@ -8,7 +8,7 @@ use crate::{PlainRmm, RmmHandle};
 use rmm_model::{Queued, StepWords};
 use std::alloc::Global;
 
-/// A step of a guest: its kind, and its operands.
+/// A step of a REC's simulated guest: its kind and its operands.
 #[repr(C)]
 #[derive(Drop)]
 pub struct RawStep {
@@ -56,7 +56,7 @@ fn code(queued: Queued) -> u64
     }
 }
 
-/// Gives a step to the guest of a REC. Returns 0; or 1 if the guest has 16 steps, and 2 if no REC is at the address,
+/// Queues a step for the guest of a REC. Returns 0; or 1 if the guest has 16 steps, and 2 if no REC is at the address,
 /// and then nothing changes.
 #[unsafe(no_mangle)]
 pub extern "C" fn rmm_guest(alloc: Global, handle: &mut RmmHandle, rec: u64, step: &RawStep) -> u64
@@ -80,7 +80,7 @@ fn interrupt(plain: &mut PlainRmm, rec: u64) -> Option<u64>
     Some(word.number())
 }
 
-/// Ends the run of a REC. The result word of its RMI_REC_ENTER is written to `word`. Returns false, and changes
+/// Interrupts a running REC, and writes the result word of its RMI_REC_ENTER to `word`. Returns false, and changes
 /// nothing, if the REC does not run.
 #[unsafe(no_mangle)]
 pub extern "C" fn rmm_interrupt(
@@ -115,8 +115,8 @@ fn result_of(plain: &PlainRmm, rec: u64, number: u64) -> Option<GuestStepResult>
     })
 }
 
-/// Writes result `number` of a guest to `outcome`. Results are counted from 0 since the last entry of the guest's REC.
-/// Returns false, and writes nothing, if there is no such result.
+/// Writes the result of a guest's step to `outcome`. `number` counts the results from 0 since the last entry of the
+/// guest's REC. Returns false, and writes nothing, if there is no such result.
 #[unsafe(no_mangle)]
 pub extern "C" fn rmm_result(
     alloc: Global,

@@ -1,4 +1,4 @@
-//! Handles of RMMs, for C programs.
+//! Handles through which a C program keeps an RMM.
 ghost use Rattle.std.specs.Prelude.{◌≡◌, Some, None, IfSome, IfNone, is_some};
 
 use crate::{HeldRmm, PlainRmm};
@@ -6,8 +6,8 @@ use box_parts::BoxParts;
 use std::alloc::Global;
 use std::mem::replace;
 
-/// A C program's handle of an RMM. The program keeps an RMM through it. A closed handle has no RMM. A handle whose
-/// bytes are all 0 is closed.
+/// A handle through which a C program keeps an RMM. A closed handle has no RMM. A handle whose bytes are all 0 is
+/// closed.
 #[repr(C)]
 #[derive(Drop)]
 pub struct RmmHandle {

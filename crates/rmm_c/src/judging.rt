@@ -1,4 +1,4 @@
-//! Judgements of calls. They are the check that decides a call, and the result words that an RMM may return.
+//! Functions that find a call's deciding check and the results that an RMM may return.
 ghost use Rattle.std.specs.Prelude.{◌≡◌};
 ghost use Rattle.std.specs.List.{list_any};
 ghost use Rattle.rmi_abi.specs.Call.{call_in};
@@ -81,8 +81,8 @@ fn is_allowed(plain: &PlainRmm, registers: Registers, x0: u64) -> bool
     }
 }
 
-/// Returns the number of the check that decides a call. The call has these registers, and the machine is in its current
-/// state. The call is not performed.
+/// Returns the number of the failure condition by which an RMI call is refused. The call has these registers, and the
+/// machine is in its current state. The call is not performed.
 ///
 /// The number is 0 if no check fails, for a function that is no command, and on a closed handle. The numbers are those
 /// of the failure conditions in `rmm_model::Condition`, from 1 on.

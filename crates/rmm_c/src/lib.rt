@@ -1,5 +1,5 @@
-//! The functions of `include/rmm.h`. Through them C programs use an RMM that takes its calls in registers. The contract
-//! of a function states its result.
+//! The functions through which C programs use an RMM, declared in `include/rmm.h`. The RMM takes its calls in
+//! registers. The contract of a function states its result.
 //!
 //! C keeps a handle, and the handle owns an RMM on the heap. `rmm_open` and `rmm_line` alone take memory. No call has a
 //! precondition but those of its pointers, which `include/rmm.h` has at each function.

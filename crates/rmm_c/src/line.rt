@@ -1,4 +1,4 @@
-//! Trace lines, run on an RMM handle.
+//! A function that performs a line of a trace on a handle's RMM.
 ghost use Rattle.std.specs.Prelude.{◌≡◌, ◌≢◌, None, Some, IfOk, OnOk, OnErr, option_map};
 ghost use Rattle.rmm_answers.specs.Answering.{answered};
 ghost use Rattle.rmm_answers.specs.Replies.{reply_text};
@@ -130,10 +130,11 @@ fn put_text(text: &[u8], buffer: &mut [u8])
     buffer[kept] = 0;
 }
 
-/// Performs a line of a trace. The text that `rmitrace answer` puts after ` = ` is written to `answer`.
+/// Performs a line of a trace on an RMM, and writes the answer to `answer`. The answer is the text that
+/// `rmitrace answer` puts after ` = `.
 ///
-/// A zero ends the text, and a text without enough room is cut before it. Returns the length of the whole text, which is
-/// 0 for a comment and for a platform. A platform gives the handle a fresh RMM, also a closed one.
+/// A zero ends the text, and a text without enough room is cut before it. Returns the length of the whole text, which
+/// is 0 for a comment and for a platform. A platform gives the handle a fresh RMM, also a closed one.
 ///
 /// 2^64 - 1 comes if allocation failed: then nothing is written, and the line was performed or nothing has changed.
 #[unsafe(no_mangle)]

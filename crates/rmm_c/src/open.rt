@@ -1,4 +1,4 @@
-//! The opening and closing of handles.
+//! Functions that open and close a C program's handle of an RMM.
 ghost use Rattle.std.specs.Prelude.{◌≡◌, ◌≢◌, ◌≤◌, ◌↔◌, true, false, None, Some, is_some};
 ghost use Rattle.rmm_c.specs.Settings.{is_machine, opened_machine};
 

@@ -1,4 +1,4 @@
-//! An RMM over a plain store of pages.
+//! An RMM that keeps the pages of its granules in a `PlainStore`.
 ghost use Rattle.std.specs.Prelude.{◌≡◌, replicate, IfSome};
 ghost use Rattle.granule_addr.specs.Page.{zero_page};
 ghost use Rattle.rmm_granules.specs.Inside.{platform_machine};
@@ -10,7 +10,7 @@ use rmm_granules::Granules;
 use std::alloc::Global;
 use std::marker::Model;
 
-/// An RMM over a plain store of pages. It is seen as its machine.
+/// An RMM that keeps the pages of its granules in a `PlainStore`. It is seen as its machine.
 #[derive(Drop)]
 pub struct PlainRmm {
     pub(crate) rmm: Rmm<PlainStore>,
@@ -28,7 +28,7 @@ impl Model for PlainRmm {
 }
 
 impl PlainRmm {
-    /// Opens an RMM over `count` UNDELEGATED granules. Their bytes are 0. `None` comes if there is no memory, or if
+    /// Creates an RMM with `count` UNDELEGATED granules. Their bytes are 0. `None` comes if there is no memory, or if
     /// `count` is out of range.
     pub(crate) fn open(alloc: Global, platform: Platform, count: u16) -> Option<PlainRmm>
         ensures { IfSome result (λ plain.

@@ -1,4 +1,4 @@
-//! Readings of a machine's state. No firmware offers a host these readings.
+//! Functions of the C interface that read the state of an RMM. No firmware offers a host these readings.
 ghost use Rattle.std.specs.Prelude.{◌≡◌};
 ghost use Rattle.rmm.specs.Reading.{word_shown};
 ghost use Rattle.rmm_c.specs.Reading as shown;

@@ -1,11 +1,11 @@
-//! The C form of a platform's settings.
+//! The C struct for a platform's settings.
 ghost use Rattle.std.specs.Prelude.{◌≡◌, true};
 ghost use Rattle.rmm_c.specs.Settings as settings;
 
 use rmi_abi::{Layout, Platform, RmmSettings};
 
-/// The settings of a platform. They are the number of its granules, and the settings of its RMM. `layout` is 0 for that
-/// of RMM 1.0-rel0, and 1 for that of 1.0-eac5.
+/// The settings of a platform, as a C struct. They are the number of its granules, and the settings of its RMM.
+/// `layout` is 0 for that of RMM 1.0-rel0, and 1 for that of 1.0-eac5.
 #[repr(C)]
 #[derive(Drop)]
 pub struct PlatformSettings {

@@ -1,4 +1,4 @@
-//! Calls made in registers.
+//! A function that performs an RMI call with operands and results in registers.
 ghost use Rattle.std.specs.Prelude.{◌≡◌};
 ghost use Rattle.rmm_c.specs.Smc.{call_of, smc_registers, on_smc};
 
@@ -6,7 +6,7 @@ use crate::RmmHandle;
 use rmi_abi::{Registers, unknown_registers};
 use std::alloc::Global;
 
-/// The registers X0 to X6 of a call. SMCCC 1.2.
+/// The registers X0 to X6 of an SMC call. SMCCC 1.2.
 #[repr(C)]
 #[derive(Drop)]
 pub struct SmcRegisters {
@@ -51,7 +51,7 @@ impl SmcRegisters {
     }
 }
 
-/// Performs a call. `registers` has X0 to X6 before the call, and X0 to X4 after it.
+/// Performs an SMC call on the RMM of a handle. `registers` has X0 to X6 before the call, and X0 to X4 after it.
 ///
 /// A closed handle is firmware without an RMM: X0 is -1, NOT_SUPPORTED.
 #[unsafe(no_mangle)]

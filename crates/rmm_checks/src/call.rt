@@ -1,4 +1,4 @@
-//! The checks of a call.
+//! The checks of an RMI call, evaluated on a machine.
 ghost use Rattle.std.specs.Prelude.{◌≡◌};
 ghost use Rattle.rmm_model.specs.Allowed.{allowed_words, or_success};
 ghost use Rattle.rmm_model.specs.Call.{command_of};
@@ -25,7 +25,7 @@ use page_arena::PageStore;
 use rmi_abi::Call;
 use rmm_granules::Granules;
 
-/// Evaluates the checks of a call on a machine. Each check comes with its outcome, in the order of the command's
+/// Evaluates the checks of an RMI call on a machine. Each check comes with its outcome, in the order of the command's
 /// definition.
 ///
 /// The first that was made and failed is the one that decides. An RMM may answer with the word of each that was made

@@ -1,4 +1,4 @@
-//! Entries at which walks end, and the checks on them.
+//! Checks on the table entries at which walks end.
 ghost use Rattle.std.specs.Prelude.{◌≡◌, ◌+◌, ◌≤◌, ◌==◌, Bool, not, nat_le, true, false, [], ◌∷◌, length, is_some};
 ghost use Rattle.rmi_abi.specs.declared.registers.SmcResult.{SmcResult as Registers};
 ghost use Rattle.rmm_model.specs.declared.condition.Condition.TheVariants.{RttWalk as WalkEnds, RtteState};
@@ -48,7 +48,7 @@ fn is_at(reached: u8, level: u64) -> bool
 }
 
 // The level if it is at most 3, and 0 otherwise.
-pub fn low_level(level: u64) -> u8
+pub fn level_or_zero(level: u64) -> u8
     ensures value { nat_le level 3 ≡ true → result ≡ level }
     ensures low { result ≤ 3 }
 {

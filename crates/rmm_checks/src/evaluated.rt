@@ -1,4 +1,4 @@
-//! The checks of a call with their outcomes.
+//! The checks of an RMI call, with their outcomes.
 ghost use Rattle.std.specs.Prelude.{◌≡◌, ◌+◌, ◌<◌, [], ◌∷◌, length};
 ghost use Rattle.rmm_model.specs.Allowed.{condition_number};
 ghost use Rattle.rmm_model.specs.Check.{check, error_input, error_realm, error_rec, error_rtt};
@@ -9,16 +9,18 @@ use rmi_abi::{SmcResult, Word};
 use rmm_model::Condition;
 use std::marker::Model;
 
-/// The outcome of a check. A check is made if each check that it comes after was made and passed.
+/// The outcome of a check of an RMI call: not made, passed or failed. A check is made if each check that it comes after
+/// was made and passed.
 #[derive(Clone, Copy)]
 pub enum CheckOutcome {
     NotMade,
     Passed,
-    /// A failed check. It has the answer that the command gives if this check decides.
+    /// The outcome of a failed check, with an answer of the command. The command gives that answer if this check
+    /// decides.
     Failed(SmcResult),
 }
 
-/// A check of a call: its failure condition, and its outcome.
+/// A check of an RMI call: its failure condition, and its outcome.
 #[derive(Clone, Copy)]
 pub struct EvaluatedCheck {
     pub condition: Condition,
@@ -34,7 +36,7 @@ impl Default for EvaluatedCheck {
     }
 }
 
-/// The checks of a call, each with its outcome. They are in the order of the checks in the command's definition.
+/// The checks of an RMI call, each with its outcome. They are in the order of the checks in the command's definition.
 #[derive(Drop)]
 pub struct EvaluatedChecks {
     rows: ArrayVec<EvaluatedCheck, 18>,
@@ -50,7 +52,7 @@ impl Model for EvaluatedChecks {
 }
 
 impl CheckOutcome {
-    /// Whether the check was made and passed.
+    /// Returns whether the check was made and passed.
     pub fn is_pass(&self) -> bool
         ensures { result ≡ is_pass self.now }
     {
@@ -91,7 +93,7 @@ impl EvaluatedChecks {
         }
     }
 
-    /// The checks as a slice. They are in the order in which they were added.
+    /// Returns the checks as a slice. They are in the order in which they were added.
     pub fn rows(&self) -> &[EvaluatedCheck]
         ensures { result.now ≡ self.now }
     {

@@ -15,7 +15,7 @@ use rmm_granules::{Granules, is_block_too_high, is_homogeneous, table_below};
 use rmm_model::{Condition, RmmRttEntry};
 
 // The level if it is 1 to 3, and 1 otherwise.
-fn lower_level(level: u64) -> u8
+fn level_or_one(level: u64) -> u8
     ensures value { nat_le 1 level ≡ true → nat_le level 3 ≡ true → result ≡ level }
     ensures some { 1 ≤ result }
 {
@@ -74,7 +74,7 @@ pub fn rtt_fold<S: PageStore>(
         table.is_some(),
         answer,
     );
-    let own = lower_level(level);
+    let own = level_or_one(level);
     let same = is_homogeneous_below(granules, reached.entry, own);
     checks.rtt(Condition::RttHomo, &[Condition::RtteState], !same, own);
     let high = is_too_high_below(granules, reached.entry, own);

@@ -24,7 +24,7 @@ fn is_version(requested: u64) -> bool
 }
 
 // RMI_ERROR_INPUT with the lowest and the highest supported version.
-fn refused_versions() -> SmcResult
+fn version_error() -> SmcResult
     ensures { result ≡ versions.versions ErrorInput }
 {
     SmcResult {
@@ -45,7 +45,7 @@ pub fn version<S: PageStore>(granules: &Granules<S>, requested: u64) -> Evaluate
         Condition::Version,
         &[],
         !is_version(requested),
-        refused_versions(),
+        version_error(),
     );
     checks
 }

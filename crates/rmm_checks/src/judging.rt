@@ -1,4 +1,4 @@
-//! The answers that the evaluated checks of a call allow.
+//! Decides which answers to an RMI call its evaluated checks allow.
 ghost use Rattle.std.specs.Prelude.{◌≡◌, None};
 ghost use Rattle.std.specs.List.{list_any};
 ghost use Rattle.rmm_checks.specs.Evaluated as specs;
@@ -8,14 +8,14 @@ use rmi_abi::Word;
 use rmm_model::FailedCondition;
 
 impl CheckOutcome {
-    /// Whether the check was made.
+    /// Returns whether the check was made.
     pub fn is_made(&self) -> bool
         ensures { result ≡ specs.was_made self.now }
     {
         !matches!(self, CheckOutcome::NotMade)
     }
 
-    /// Whether the check was made and failed.
+    /// Returns whether the check was made and failed.
     pub fn is_failure(&self) -> bool
         ensures { result ≡ specs.is_failure self.now }
     {
@@ -74,15 +74,14 @@ fn has_word(rows: &[EvaluatedCheck], word: Word) -> bool
 }
 
 impl EvaluatedChecks {
-    /// The refusal by the deciding check; `None` if there is no such check. The deciding check is the first that was
-    /// made and failed.
+    /// Returns the failure condition and the answer of the first failed check, if any. That check decides.
     pub fn deciding(&self) -> Option<FailedCondition>
         ensures { result ≡ specs.first_failed self.now }
     {
         first_failed(self.rows())
     }
 
-    /// Whether an RMM may answer the call with a given word.
+    /// Returns whether an RMM may answer the call with a given result word.
     #[tactic(auto, using(crate::proofs::Words::allowed_failed, crate::proofs::Words::allowed_success))]
     pub fn allows(&self, word: Word) -> bool
         ensures { result ≡ specs.is_allowed self.now word }

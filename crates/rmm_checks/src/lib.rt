@@ -1,4 +1,4 @@
-//! The checks of a call on a machine, each with its outcome. RMM 1.0, failure conditions of RMI commands.
+//! The checks of RMI calls, each evaluated on a machine. RMM 1.0, failure conditions of RMI commands.
 //!
 //! A check is made if each check that it comes after was made and passed. The RMM ends at the first check that fails.
 //! Here all of them are evaluated, to judge the answer of another RMM. Nothing changes the machine, and no call takes

@@ -84,7 +84,7 @@ const CONDITIONS: [Condition; 76] = [
     Condition::Status,
 ];
 
-/// The name of a condition, as RMM 1.0 and traces write it.
+/// Returns the name of a failure condition, as written in RMM 1.0 and traces.
 pub fn condition_name(condition: Condition) -> &'static str
     ensures { result.now ≡ names.name_of condition }
 {
@@ -180,7 +180,7 @@ fn find_named(text: &str, conditions: &[Condition]) -> Option<Condition>
     None
 }
 
-/// The condition with the name `text`; `None` if no condition has it.
+/// Returns the failure condition with the name `text`; `None` if no condition has it.
 #[tactic(auto, unfolding(crate::specs::Names::condition_named))]
 pub fn condition_named(text: &str) -> Option<Condition>
     ensures { result ≡ names.condition_named text.now }

@@ -1,4 +1,4 @@
-//! Operands that are addresses of granules, and the checks on them.
+//! Checks on operands that are addresses of granules.
 ghost use Rattle.std.specs.Prelude.{◌≡◌, ◌+◌, ◌<◌, ◌≤◌, length, IfSome, IfNone};
 ghost use Rattle.rmm_model.specs.Machine as machine;
 ghost use Rattle.rmm_model.specs.Machine.{granule_count, granule_at, number_of};

@@ -1,4 +1,4 @@
-//! RDs and IPAs as operands, and the checks of RMI_REALM_ACTIVATE.
+//! Checks on RD and IPA operands, and the checks of RMI_REALM_ACTIVATE.
 ghost use Rattle.std.specs.Prelude.{◌≡◌, ◌+◌, ◌<◌, ◌≤◌, ◌&&◌, nat_le, length, IfSome};
 ghost use Rattle.rmm_model.specs.Granule.{realm_of};
 ghost use Rattle.rmm_model.specs.Level as levels;

@@ -1,4 +1,4 @@
-//! RECs as operands, and the checks of RMI_REC_DESTROY.
+//! Checks on REC operands, and the checks of RMI_REC_DESTROY.
 ghost use Rattle.std.specs.Prelude.{◌≡◌, ◌+◌, ◌≤◌, length};
 ghost use Rattle.rmm_model.specs.Granule.{rec_of as rec_in};
 ghost use Rattle.rmm_model.specs.Machine as machine;

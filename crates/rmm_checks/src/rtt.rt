@@ -5,7 +5,7 @@ ghost use Rattle.rmm_model.specs.Command.RttDestroy.{rtt_destroy as destroying};
 ghost use Rattle.rmm_checks.specs.Evaluated.{evaluated};
 
 use crate::EvaluatedChecks;
-use crate::entry::{add_entry, is_live_below, low_level, rtt_top};
+use crate::entry::{add_entry, is_live_below, level_or_zero, rtt_top};
 use crate::operand::add_delegated;
 use crate::realm::{add_ipa, add_rd, start_level_at};
 use crate::walking::reach;
@@ -70,7 +70,7 @@ pub fn rtt_destroy<S: PageStore>(
         answer,
     );
     let live = is_live_below(granules, reached.entry);
-    let own = low_level(level);
+    let own = level_or_zero(level);
     let refused = rtt_top(own, reached.top);
     checks.add(Condition::RttLive, &[Condition::RtteState], live, refused);
     checks

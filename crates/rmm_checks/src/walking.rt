@@ -1,4 +1,4 @@
-//! Walks down the tables of a realm.
+//! Walks of the translation tables of a realm.
 ghost use Rattle.std.specs.Prelude.{◌≡◌, ◌^◌, ◌<◌, true, is_some, IfSome};
 ghost use Rattle.rmm_model.specs.Machine.{granule_count};
 ghost use Rattle.rmm_model.specs.Walk as walks;

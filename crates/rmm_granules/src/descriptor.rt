@@ -1,4 +1,4 @@
-//! Descriptors of unprotected mappings. RMM 1.0, RMI_RTT_MAP_UNPROTECTED.
+//! The check of a descriptor for an unprotected mapping. RMM 1.0, RMI_RTT_MAP_UNPROTECTED.
 ghost use Rattle.std.specs.Prelude.{◌≡◌};
 ghost use Rattle.rmm_model.specs.Command.RttMapUnprotected as mapping;
 
@@ -12,7 +12,8 @@ fn is_shareability(settings: &RmmSettings, desc: u64) -> bool
     sh == 0 || (settings.takes_shareability && sh != 1)
 }
 
-/// Whether a host may choose the attributes of a descriptor. The attributes are all bits outside the address field.
+/// Whether a descriptor of an unprotected mapping has only attributes that a host may choose. The attributes are all
+/// bits outside the address field.
 pub fn has_attributes(settings: &RmmSettings, desc: u64) -> bool
     ensures { result ≡ mapping.has_attributes settings.now desc }
 {

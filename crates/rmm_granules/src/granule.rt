@@ -11,7 +11,7 @@ use granule_addr::Gran;
 use page_arena::PageStore;
 use rmm_model::RmmRealm;
 
-/// The granule `k` after `first`. Its number is `k` above that of `first`.
+/// Returns the granule that is `k` granules after `first`. Its number is `k` above that of `first`.
 pub fn granule_after(first: Gran, k: u16) -> Gran
     requires { first + k < 4096 }
     ensures { result ≡ first + k }
@@ -19,7 +19,7 @@ pub fn granule_after(first: Gran, k: u16) -> Gran
     Gran::from_number(first.number() + k)
 }
 
-/// The granule in which an address lies; `None` if the address lies in no granule of the machine.
+/// Returns the granule that contains an address, or `None` if the machine has none.
 #[tactic(auto, unfolding(rmm_model::specs::Walk::granule_named))]
 pub fn granule_named<S: PageStore>(granules: &Granules<S>, address: u64) -> Option<Gran>
     ensures value { result ≡ walks.granule_named granules.now address }
@@ -32,7 +32,8 @@ pub fn granule_named<S: PageStore>(granules: &Granules<S>, address: u64) -> Opti
     }
 }
 
-/// The realm of an RD. A number that is no granule of the machine has none.
+/// Returns the attributes of the realm whose RD is granule `rd`, if any. A number that is no granule of the machine has
+/// none.
 pub fn realm_in<S: PageStore>(granules: &Granules<S>, rd: Gran) -> Option<RmmRealm>
     ensures value { result ≡ realm_of (granule_at granules.now rd).state }
     ensures inside { IfSome result (λ _. rd < granule_count granules.now) }
@@ -45,7 +46,7 @@ pub fn realm_in<S: PageStore>(granules: &Granules<S>, rd: Gran) -> Option<RmmRea
     }
 }
 
-/// Whether two granules have the same owner: the same RD, or none.
+/// Whether two owners of granules are the same RD, or both none.
 pub fn is_same_owner(a: Option<Gran>, b: Option<Gran>) -> bool
     ensures { result ≡ completing.is_same_owner a b }
 {

@@ -27,8 +27,8 @@ use std::marker::Model;
 // The number of 16-bit VMIDs.
 const VMIDS: u32 = 0x1_0000;
 
-/// The granules of a platform. Each has attributes and a page of a store. The set of VMIDs that realms have is kept
-/// too.
+/// The granules of a platform, with their attributes, their pages and the used VMIDs. Each has attributes and a page of
+/// a store. The set of VMIDs that realms have is kept too.
 #[derive(Drop)]
 pub struct Granules<S: PageStore> {
     platform: Platform,
@@ -76,8 +76,8 @@ fn rows(alloc: Global, count: u16, vmids: u32) -> Result<(Vec<RmmGranule>, Vec<b
 }
 
 impl<S: PageStore> Granules<S> {
-    /// Opens the granules of a platform over a store of pages. All are UNDELEGATED, and there are as many as the store
-    /// has pages. An error returns the store as it was.
+    /// Creates the granules of a platform, with their pages in a store. All are UNDELEGATED, and there are as many as
+    /// the store has pages. An error returns the store as it was.
     pub fn open(
         alloc: Global,
         platform: Platform,
@@ -108,7 +108,7 @@ impl<S: PageStore> Granules<S> {
         self.platform.settings()
     }
 
-    /// The platform. Its settings are in range.
+    /// The platform that the granules belong to. Its settings are in range.
     pub fn platform(&self) -> &Platform
         ensures { result.now ≡ self.now.settings }
     {
@@ -134,7 +134,7 @@ impl<S: PageStore> Granules<S> {
         address >= base && (address - base) / 4096 < self.granules.len() as u64
     }
 
-    /// The granule that an address lies in.
+    /// Returns the number of the granule that contains an address.
     #[tactic(auto, unfolding(rmm_model::specs::Machine::is_inside, rmm_model::specs::Machine::number_of))]
     pub fn number_of(&self, address: u64) -> Gran
         requires { IsTrue (machine.is_inside self.now address) }
@@ -145,7 +145,7 @@ impl<S: PageStore> Granules<S> {
         Gran::from_number(number as u16)
     }
 
-    /// Whether an address lies in memory of the secure world.
+    /// Whether an address lies in the platform's range of Secure memory.
     #[tactic(auto, unfolding(rmm_model::specs::Machine::is_secure))]
     pub fn is_secure(&self, address: u64) -> bool
         ensures { result ≡ machine.is_secure self.now address }
@@ -183,7 +183,8 @@ impl<S: PageStore> Granules<S> {
         kept.state
     }
 
-    /// The realm of an RD. Its starting tables lie in the machine.
+    /// Returns the realm whose RD is the granule, or `None` for another granule. Its starting tables lie in the
+    /// machine.
     pub fn realm(&self, granule: Gran) -> Option<RmmRealm>
         requires { granule < granule_count self.now }
         ensures value { result ≡ realm_of (granule_at self.now granule).state }
@@ -192,7 +193,7 @@ impl<S: PageStore> Granules<S> {
         self.granules[granule.number() as usize].state.realm()
     }
 
-    /// The attributes of a REC.
+    /// Returns the attributes of the REC in a granule, or `None` for another granule.
     pub fn rec(&self, granule: Gran) -> Option<RmmRec>
         requires { granule < granule_count self.now }
         ensures { result ≡ rec_of (granule_at self.now granule).state }
@@ -200,7 +201,7 @@ impl<S: PageStore> Granules<S> {
         self.granules[granule.number() as usize].state.rec()
     }
 
-    /// The RD of the realm that owns a granule.
+    /// Returns the RD of the realm that owns a granule, if any.
     pub fn owner(&self, granule: Gran) -> Option<Gran>
         requires { granule < granule_count self.now }
         ensures { result ≡ (granule_at self.now granule).owner }
@@ -217,7 +218,7 @@ impl<S: PageStore> Granules<S> {
         self.granules[granule.number() as usize] = kept;
     }
 
-    /// Edits the realm of an RD in place. A granule that is none stays as it is.
+    /// Changes the attributes of an RD's realm in place. A granule that is no RD stays as it is.
     #[inline(always)]
     pub fn edit_realm(&mut self, rd: Gran, edit: RealmEdit)
         ensures machine { self.new
@@ -276,7 +277,9 @@ impl<S: PageStore> Granules<S> {
         self.store.write(granule, offset, bytes);
     }
 
-    /// Fills a granule's page with 512 words. Word k, counted from 0, is `kind + (first + k * step) % 2^48`.
+    /// Fills a granule's page with 512 words that rise by `step` modulo 2^48.
+    ///
+    /// Word k, counted from 0, is `kind + (first + k * step) % 2^48`.
     pub fn write_rising(&mut self, granule: Gran, kind: u64, first: u64, step: u64)
         requires inside { granule < granule_count self.old }
         requires kind { kind ≤ 2 ^ 60 }
@@ -320,7 +323,7 @@ impl<S: PageStore> Granules<S> {
 
     // ---- VMIDs
 
-    /// Whether a realm has the VMID.
+    /// Whether some realm uses a VMID.
     pub fn is_vmid_used(&self, vmid: u16) -> bool
         ensures { result ≡ machine.is_vmid_used self.now vmid }
     {

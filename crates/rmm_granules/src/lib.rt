@@ -1,4 +1,5 @@
-//! The granules of a platform. They have attributes, and pages in a store. RMM 1.0, RMI.
+//! The granules of a platform: their attributes, their pages, and readings for failure conditions. The pages are in a
+//! store. RMM 1.0, RMI.
 //!
 //! `Granules` is seen as a machine. Each call of it reads or writes one granule or VMID, and the contract says which in
 //! the words of `rmm_model`. So nothing above sees a store, its flags or its bytes. Memory is taken by `open` alone.

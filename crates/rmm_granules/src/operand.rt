@@ -1,8 +1,8 @@
-//! Operands that are addresses of granules.
+//! The failure conditions on operands that are addresses of granules.
 use rmm_model::Condition;
 
-/// The failure conditions on a granule's address. They are misalignment, an address out of bounds, and a wrong state or
-/// physical address space of the granule.
+/// The failure conditions on an operand that is a granule's address. They are misalignment, an address out of bounds,
+/// and a wrong state or physical address space of the granule.
 #[derive(Clone, Copy)]
 pub struct OperandConditions {
     pub align: Condition,
@@ -11,78 +11,79 @@ pub struct OperandConditions {
 }
 
 impl OperandConditions {
-    /// The conditions on the granule of RMI_GRANULE_DELEGATE and RMI_GRANULE_UNDELEGATE.
+    /// The failure conditions on the operand of RMI_GRANULE_DELEGATE and RMI_GRANULE_UNDELEGATE.
     pub const GRANULE: OperandConditions = OperandConditions {
         align: Condition::GranAlign,
         bound: Condition::GranBound,
         state: Condition::GranState,
     };
 
-    /// The conditions on an RD.
+    /// The failure conditions on the address of an RD.
     pub const RD: OperandConditions = OperandConditions {
         align: Condition::RdAlign,
         bound: Condition::RdBound,
         state: Condition::RdState,
     };
 
-    /// The conditions on the host's page of parameters. The parameters are those of a realm or a REC.
+    /// The failure conditions on the address of the host's page of parameters. The parameters are those of a realm or a
+    /// REC.
     pub const PARAMS: OperandConditions = OperandConditions {
         align: Condition::ParamsAlign,
         bound: Condition::ParamsBound,
         state: Condition::ParamsPas,
     };
 
-    /// The conditions on the granule of a new table.
+    /// The failure conditions on the address of a new translation table's granule.
     pub const RTT: OperandConditions = OperandConditions {
         align: Condition::RttAlign,
         bound: Condition::RttBound,
         state: Condition::RttState,
     };
 
-    /// The conditions on the granule of a new page of data.
+    /// The failure conditions on the address of the granule for new data.
     pub const DATA: OperandConditions = OperandConditions {
         align: Condition::DataAlign,
         bound: Condition::DataBound,
         state: Condition::DataState,
     };
 
-    /// The conditions on the host's page that RMI_DATA_CREATE copies.
+    /// The failure conditions on the address of the page that RMI_DATA_CREATE copies.
     pub const SOURCE: OperandConditions = OperandConditions {
         align: Condition::SrcAlign,
         bound: Condition::SrcBound,
         state: Condition::SrcPas,
     };
 
-    /// The conditions on the granule of a new REC.
+    /// The failure conditions on the address of a new REC's granule.
     pub const NEW_REC: OperandConditions = OperandConditions {
         align: Condition::RecAlign,
         bound: Condition::RecBound,
         state: Condition::RecState,
     };
 
-    /// The conditions on a REC that exists already.
+    /// The failure conditions on the address of an existing REC.
     pub const REC: OperandConditions = OperandConditions {
         align: Condition::RecAlign,
         bound: Condition::RecBound,
         state: Condition::RecGranState,
     };
 
-    /// The conditions on the run page of RMI_REC_ENTER.
+    /// The failure conditions on the address of the run page of RMI_REC_ENTER.
     pub const RUN: OperandConditions = OperandConditions {
         align: Condition::RunAlign,
         bound: Condition::RunBound,
         state: Condition::RunPas,
     };
 
-    /// The conditions on the calling REC of RMI_PSCI_COMPLETE. The command completes the request of this REC.
+    /// The failure conditions on the calling REC of RMI_PSCI_COMPLETE. The command completes the request of this REC.
     pub const CALLING: OperandConditions = OperandConditions {
         align: Condition::CallingAlign,
         bound: Condition::CallingBound,
         state: Condition::CallingState,
     };
 
-    /// The conditions on the target REC of RMI_PSCI_COMPLETE. This REC is the target of the request that the command
-    /// completes.
+    /// The failure conditions on the target REC of RMI_PSCI_COMPLETE. This REC is the target of the request that the
+    /// command completes.
     pub const TARGET: OperandConditions = OperandConditions {
         align: Condition::TargetAlign,
         bound: Condition::TargetBound,

@@ -9,7 +9,7 @@ pub const PSCI_SUCCESS: u64 = 0;
 
 const PSCI_DENIED: u64 = 0xFFFF_FFFF_FFFF_FFFD;
 
-/// Whether a request waits for the host.
+/// Whether a PSCI request waits for the host to complete it.
 pub fn is_pending(request: PsciRequest) -> bool
     ensures { result ≡ command.is_pending request }
 {
@@ -20,7 +20,7 @@ pub fn is_pending(request: PsciRequest) -> bool
     }
 }
 
-/// The MPIDR that a request names; 0 if it names none.
+/// Returns the target MPIDR of a PSCI request; 0 if the request has no target.
 pub fn target_of(request: PsciRequest) -> u64
     ensures { result ≡ command.target_of request }
 {
@@ -38,7 +38,7 @@ fn can_be_denied(request: PsciRequest) -> bool
     matches!(request, PsciRequest::CpuOn { .. })
 }
 
-/// Whether the host may complete a request with a status. The status has to be success, or DENIED for a CPU_ON.
+/// Whether the host may complete a PSCI request with a status. The status has to be success, or DENIED for a CPU_ON.
 pub fn is_status(request: PsciRequest, status: u64) -> bool
     ensures { result ≡ command.is_status request status }
 {

@@ -1,4 +1,4 @@
-//! Realms: their states and starting tables.
+//! Functions that read a realm's state and its starting tables.
 ghost use Rattle.std.specs.Prelude.{◌≡◌, ◌+◌, ◌<◌};
 ghost use Rattle.rmm_model.specs.Machine.{granule_count};
 ghost use Rattle.rmm_model.specs.Realm.{IsServed};
@@ -10,7 +10,7 @@ use granule_addr::Gran;
 use page_arena::PageStore;
 use rmm_model::{RmmRealm, RmmRealmState, has_live};
 
-/// The state of a realm; NEW if there is none.
+/// Returns the state of a realm; NEW if there is no realm.
 pub fn state_of(realm: Option<RmmRealm>) -> RmmRealmState
     ensures { result ≡ entering.state_of realm }
 {
@@ -20,7 +20,7 @@ pub fn state_of(realm: Option<RmmRealm>) -> RmmRealmState
     }
 }
 
-/// Starting table `k` of a realm.
+/// Returns the granule of a realm's starting table `k`.
 pub fn start_table<S: PageStore>(granules: &Granules<S>, realm: &RmmRealm, k: u8) -> Gran
     requires served { IsServed (granule_count granules.now) realm.now }
     requires below { k < realm.now.table_count }

@@ -31,7 +31,7 @@ pub fn is_supported(settings: &RmmSettings, p: &RealmParams) -> bool
         && (!settings.checks_params || fits_features(settings, p))
 }
 
-/// Whether `count` tables at a level can be starting tables. They are those of an address space of `s2sz` bits.
+/// Whether a realm can have `count` starting tables at a level. Its address space has `s2sz` bits.
 #[tactic(auto, unfolding(rmm_model::specs::Realm::is_start))]
 pub fn is_start(s2sz: u8, level: u64, count: u32) -> bool
     requires { s2sz ≤ 48 }
@@ -45,7 +45,7 @@ pub fn is_start(s2sz: u8, level: u64, count: u32) -> bool
         && count as u64 == start_count(s2sz, level as u8)
 }
 
-/// Whether `rd` is the address of one of the starting tables.
+/// Whether `rd` is the address of one of a new realm's starting tables.
 pub fn is_start_table(p: &RealmParams, rd: u64) -> bool
     ensures { result ≡ command.is_start_table p.now rd }
 {
@@ -80,7 +80,7 @@ fn are_delegated<S: PageStore>(granules: &Granules<S>, first: Gran, count: u16) 
     true
 }
 
-/// Whether each starting table is a DELEGATED granule of the machine.
+/// Whether each starting table of a new realm is a DELEGATED granule.
 #[tactic(auto, unfolding(rmm_model::specs::Command::RealmCreate::can_start))]
 pub fn can_start<S: PageStore>(granules: &Granules<S>, p: &RealmParams) -> bool
     ensures value { result ≡ command.can_start granules.now p.now }

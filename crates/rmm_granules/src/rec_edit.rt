@@ -16,11 +16,11 @@ pub enum RecEdit {
     Enter(u64),
     /// Sets the REC to READY after an exit.
     Leave(LastExit),
-    /// Moves the guest past its first step.
+    /// Removes the first step from the guest's queue.
     PassStep,
     /// Sets the number of steps in the guest's queue.
     Steps(u8),
-    /// Counts one more result of the guest.
+    /// Adds one to the number of the guest's results.
     AddResult,
     Ripas(RipasRequest),
     Psci(PsciRequest),

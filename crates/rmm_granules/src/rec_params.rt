@@ -1,4 +1,4 @@
-//! Auxiliary granules that the parameters of a new REC name. RMM 1.0, RMI_REC_CREATE.
+//! The checks of a new REC's auxiliary granules. RMM 1.0, RMI_REC_CREATE.
 ghost use Rattle.std.specs.Prelude.{◌≡◌, ◌<◌, ◌≤◌, length};
 ghost use Rattle.rmm_model.specs.Machine.{is_aligned, is_inside};
 ghost use Rattle.rmm_model.specs.Command.RecCreate as command;

@@ -1,4 +1,4 @@
-//! Entries whose RIPAS a command changes.
+//! The RTT entries whose RIPAS a command may change.
 ghost use Rattle.std.specs.Prelude.{◌≡◌};
 ghost use Rattle.rmm_model.specs.Command.RttInitRipas as making;
 ghost use Rattle.rmm_model.specs.Command.RttSetRipas as setting;
@@ -6,8 +6,8 @@ ghost use Rattle.rmm_model.specs.Command.RttSetRipas as setting;
 use rmi_abi::RmmSettings;
 use rmm_model::{Changeable, RipasRequest};
 
-/// The entries that RMI_RTT_INIT_RIPAS changes. They are all UNASSIGNED entries; if `stops_at_destroyed` is set, only
-/// those whose RIPAS is not DESTROYED.
+/// Returns which RTT entries RMI_RTT_INIT_RIPAS changes. They are all UNASSIGNED entries; if `stops_at_destroyed` is
+/// set, only those whose RIPAS is not DESTROYED.
 pub fn init_changeable(settings: &RmmSettings) -> Changeable
     ensures { result ≡ making.init_changeable settings.now }
 {
@@ -17,7 +17,7 @@ pub fn init_changeable(settings: &RmmSettings) -> Changeable
     }
 }
 
-/// The entries that RMI_RTT_SET_RIPAS changes for a request.
+/// Returns which RTT entries RMI_RTT_SET_RIPAS changes for a REC's request.
 pub fn set_changeable(request: &RipasRequest) -> Changeable
     ensures { result ≡ setting.set_changeable request.now }
 {

@@ -1,4 +1,4 @@
-//! Checks of what the host requests in a run page. RMM 1.0, RMI_REC_ENTER.
+//! Checks of the host's flags and GIC fields in a run page. RMM 1.0, RMI_REC_ENTER.
 ghost use Rattle.std.specs.Prelude.{◌≡◌, length};
 ghost use Rattle.rmi_abi.specs.Gic.{is_gicv3_lr};
 ghost use Rattle.rmm_model.specs.Command.RecCreate.{all_from};
@@ -7,8 +7,8 @@ ghost use Rattle.rmm_model.specs.Command.RecEnter as entering;
 use rmi_abi::{EnterFlags, GicFields, RmmSettings};
 use rmm_model::{LastExit, RmmRec};
 
-/// Whether flags name an emulated access without an emulatable abort. By the flags the host emulates an access, but the
-/// last exit was not an emulatable abort.
+/// Whether the host claims an emulated access, although the last exit was no emulatable abort. `flags` are the host's
+/// flags in the run page.
 pub fn is_no_mmio(rec: &RmmRec, flags: u64) -> bool
     ensures { result ≡ entering.is_no_mmio rec.now flags }
 {
@@ -21,19 +21,20 @@ fn are_lrs(num_lrs: u8, page: &[u8]) -> bool
     ensures { result ≡ all_from (is_gicv3_lr num_lrs page.now) 0 16 }
 {
     for k in 0..16u8 {
-        if !GicFields::is_lr(num_lrs, page, k) {
+        if !GicFields::is_lr_allowed(num_lrs, page, k) {
             return false;
         }
     }
     true
 }
 
-/// Whether the GIC fields of a run page are refused. They are if settings require their check, and one of them has a
+/// Whether the RMM refuses the GIC fields of a run page. It does if settings require their check, and one of them has a
 /// value that a host may not set.
 #[tactic(auto, unfolding(rmm_model::specs::Command::RecEnter::is_gic_wrong))]
 pub fn refuses_gic(settings: &RmmSettings, page: &[u8]) -> bool
     requires { length page.now ≡ 4096 }
     ensures { result ≡ entering.is_gic_wrong settings.now page.now }
 {
-    settings.checks_gic && !(GicFields::is_hcr(GicFields::hcr(page)) && are_lrs(settings.lrs, page))
+    settings.checks_gic
+        && !(GicFields::is_hcr_allowed(GicFields::hcr(page)) && are_lrs(settings.lrs, page))
 }

@@ -1,4 +1,4 @@
-//! Tables that are folded into an entry. RMM 1.0, RMI_RTT_FOLD.
+//! Checks of a translation table that is to be folded into an entry. RMM 1.0, RMI_RTT_FOLD.
 ghost use Rattle.std.specs.Prelude.{◌≡◌, ◌^◌, ◌<◌, ◌≤◌, length};
 ghost use Rattle.rmm_model.specs.Entry.{descriptor_of};
 ghost use Rattle.rmm_model.specs.Table.{entry_in_page};
@@ -8,7 +8,7 @@ use page_arena::word_in;
 use rmi_abi::RmmSettings;
 use rmm_model::{RmmRttEntry, entry_from_word, entry_offset, has_parts};
 
-/// The first entry in the page of a table.
+/// Returns the first entry of a translation table.
 #[tactic(auto, unfolding(rmm_model::specs::Table::entry_in_page))]
 pub fn first_entry(page: &[u8]) -> RmmRttEntry
     requires { length page.now ≡ 4096 }
@@ -26,7 +26,7 @@ fn is_aligned_above(entry: RmmRttEntry, level: u8) -> bool
     !entry.is_mapping() || entry_offset(level - 1, entry.descriptor() / 4096 * 4096) == 0
 }
 
-/// Whether one entry of the level above can replace a table.
+/// Whether a translation table can be folded into one entry of the level above.
 #[tactic(auto, unfolding(rmm_model::specs::Command::RttFold::is_homogeneous))]
 pub fn is_homogeneous(page: &[u8], level: u8) -> bool
     requires page { length page.now ≡ 4096 }
@@ -37,7 +37,7 @@ pub fn is_homogeneous(page: &[u8], level: u8) -> bool
     !first.is_table() && is_aligned_above(first, level) && has_parts(page, first, level)
 }
 
-/// Whether folding a table would make a block too high. The level of the block is then one that has no blocks.
+/// Whether folding a table would make a block at a level that allows no blocks.
 pub fn is_block_too_high(settings: &RmmSettings, page: &[u8], level: u8) -> bool
     requires { length page.now ≡ 4096 }
     ensures { result ≡ command.is_block_too_high settings.now page.now level }

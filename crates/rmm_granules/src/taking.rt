@@ -1,4 +1,4 @@
-//! Pages taken from a store.
+//! A function that takes every free page of a store.
 ghost use Rattle.std.specs.Prelude.{◌≡◌, ℕ, ◌<◌, false, length};
 ghost use Rattle.page_arena.specs.Page.{is_free};
 

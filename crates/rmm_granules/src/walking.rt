@@ -1,4 +1,4 @@
-//! Walks down a realm's tables, and the entries where they end. RMM 1.0, RTT walk.
+//! Walks of a realm's translation tables, and readings of the entries at their ends. RMM 1.0, RTT walk.
 ghost use Rattle.std.specs.Prelude.{◌≡◌, ◌^◌, ◌<◌, ◌≤◌, IfSome};
 ghost use Rattle.rmm_model.specs.Entry.{descriptor_of};
 ghost use Rattle.rmm_model.specs.Machine.{granule_count};
@@ -10,10 +10,10 @@ use granule_addr::Gran;
 use page_arena::{PageStore, word_in};
 use rmm_model::{
     RmmRealm, RmmRttEntry, RttWalk, entry_from_word, entry_index, entry_number, entry_size,
-    first_live, start_offset,
+    first_live, start_table_index,
 };
 
-/// The entry that covers an address. It is in the table at which a walk ended.
+/// Returns the translation table entry that covers an IPA. It is in the table at which a walk ended.
 #[tactic(auto, unfolding(rmm_model::specs::Walk::entry_at, rmm_model::specs::Table::entry_in_page))]
 pub fn entry_at<S: PageStore>(granules: &Granules<S>, found: &RttWalk, ipa: u64) -> RmmRttEntry
     requires { found.now.table < granule_count granules.now }
@@ -24,7 +24,7 @@ pub fn entry_at<S: PageStore>(granules: &Granules<S>, found: &RttWalk, ipa: u64)
     entry_from_word(word_in(granules.page(found.table), index as usize))
 }
 
-/// The table that an entry leads to.
+/// Returns the granule of the table that a TABLE entry leads to, if any.
 pub fn table_below<S: PageStore>(granules: &Granules<S>, entry: RmmRttEntry) -> Option<Gran>
     ensures value { result ≡ walks.table_below granules.now entry }
     ensures inside { IfSome result (λ table. table < granule_count granules.now) }
@@ -35,7 +35,7 @@ pub fn table_below<S: PageStore>(granules: &Granules<S>, entry: RmmRttEntry) -> 
     }
 }
 
-/// The page that an ASSIGNED entry leads to.
+/// Returns the granule at the address of an ASSIGNED entry, if any.
 pub fn memory_below<S: PageStore>(granules: &Granules<S>, entry: RmmRttEntry) -> Option<Gran>
     ensures value { result ≡ walks.memory_below granules.now entry }
     ensures inside { IfSome result (λ page. page < granule_count granules.now) }
@@ -55,7 +55,7 @@ fn start_of(realm: &RmmRealm, ipa: u64, count: u16) -> RttWalk
     ensures value { result ≡ walks.start_of realm.now ipa }
     ensures inside { result.table < count }
 {
-    let table = realm.first_table.number() as u64 + start_offset(realm.start_level, ipa);
+    let table = realm.first_table.number() as u64 + start_table_index(realm.start_level, ipa);
     RttWalk {
         table: Gran::from_number(table as u16),
         level: realm.start_level,
@@ -89,8 +89,8 @@ pub fn walk<S: PageStore>(granules: &Granules<S>, realm: &RmmRealm, ipa: u64, to
     RttWalk { table, level }
 }
 
-/// The address of the next live entry of a table, from `ipa` on. The table is that at which a walk ended. RMM 1.0,
-/// RttSkipNonLiveEntries.
+/// Returns the address of the first live entry of a table from `ipa` on. The table is that at which a walk ended. RMM
+/// 1.0, RttSkipNonLiveEntries.
 ///
 /// The result is the end of the table if there is none. If the entry of the address is live itself, the result is the
 /// address, or where that entry begins, as settings say.

@@ -16,7 +16,7 @@ use Rattle.rmm_model.specs.declared.realm.RttWalk.{RttWalk}
 use Rattle.rmm_model.specs.Call.{performed}
 use Rattle.rmm_model.specs.Entry.{entry_of, entry_word}
 use Rattle.rmm_model.specs.Granule.{of_no_realm}
-use Rattle.rmm_model.specs.Level.{entry_size, entry_index, start_offset}
+use Rattle.rmm_model.specs.Level.{entry_size, entry_index, start_table_index}
 use Rattle.rmm_model.specs.Machine.{Machine, granule_at, granule_count, page_in, is_inside, number_of, with_granule}
 use Rattle.rmm_model.specs.Realm.{IsServed, is_protected, is_start}
 use Rattle.rmm_model.specs.Table.{entry_in_page}
@@ -46,7 +46,7 @@ start_empty realm n ipa few covers protected =
 module _ (m n : Machine) (realm : RmmRealm) (ipa : ℕ) (fit : IsServed (length m.granules) realm)
     (pages : (i : ℕ) → i < realm.table_count → page_in n (realm.first_table + i) ≡ start_page realm i) (protected : is_protected realm ipa ≡ true) where
   first_entry : entry_at n (start_of realm ipa) ipa ≡ Unassigned Empty
-  unfolding entry_at start_of start_offset
+  unfolding entry_at start_of start_table_index
   first_entry =
       let level : ℕ = realm.start_level in
       let k : ℕ = ipa / entry_size realm.start_level / 512 in

@@ -8,7 +8,7 @@ use Rattle.rmm_model.specs.declared.granule.RmmGranuleState.TheVariants.{Rd, Rec
 use Rattle.rmm_model.specs.declared.realm.RmmRealm.{RmmRealm}
 use Rattle.rmm_model.specs.declared.realm.RttWalk.{RttWalk}
 use Rattle.rmm_model.specs.Granule.{realm_of}
-use Rattle.rmm_model.specs.Level.{entry_size, entry_index, start_offset}
+use Rattle.rmm_model.specs.Level.{entry_size, entry_index, start_table_index}
 use Rattle.rmm_model.specs.Machine.{Machine, granule_at, page_in}
 use Rattle.rmm_model.specs.Table.{entry_in_page}
 use Rattle.rmm_model.specs.Walk.{entry_at, table_below, walk_from, start_of, walk}
@@ -65,7 +65,7 @@ wider (suc (suc (suc l))) few from i x low high index = absurd (omega arith)
 module _ (m : Machine) (realm : RmmRealm) (x : ℕ) where
   reaches : (levels table first : ℕ) → Serves m realm levels table first → realm.start_level + levels ≤ 3 → first ≤ x → x < first + 512 * entry_size (realm.start_level + levels)
       → (walk_from m x levels (start_of realm x) ≡ record { table = table; level = realm.start_level + levels }) × (first ≡ base_of (realm.start_level + levels) x)
-  unfolding Serves walk_from start_of start_offset entry_at
+  unfolding Serves walk_from start_of start_table_index entry_at
   reaches zero table first (k, few, is, from) most low high =
       let none : realm.start_level + 0 ≡ realm.start_level = omega arith in
       let there : x / entry_size realm.start_level / 512 ≡ k =

@@ -10,7 +10,7 @@ use Rattle.rmm_model.specs.declared.granule.RmmGranuleState.TheVariants.{Rd, Rtt
 use Rattle.rmm_model.specs.declared.realm.RmmRealm.{RmmRealm}
 use Rattle.rmm_model.specs.declared.realm.RttWalk.{RttWalk}
 use Rattle.rmm_model.specs.Granule.{of_realm}
-use Rattle.rmm_model.specs.Level.{entry_size, entry_index, start_offset}
+use Rattle.rmm_model.specs.Level.{entry_size, entry_index, start_table_index}
 use Rattle.rmm_model.specs.Machine.{Machine, granule_at, page_in}
 use Rattle.rmm_model.specs.Table.{entry_in_page}
 use Rattle.rmm_model.specs.Walk.{entry_at, table_below, walk_from, start_of, walk}
@@ -78,10 +78,10 @@ module _ (m : Machine) (linked : IsLinked m) (halves : HasHalves m) (rd ipa : �
 
   module _ (is : (granule_at m rd).state ≡ Rd realm) (within : ipa < 2 ^ realm.s2sz) where
     pub start_seat : IsSeat (start_of realm ipa)
-    unfolding start_of start_offset
+    unfolding start_of start_table_index
     start_seat =
         let fit = served m rd realm linked is in
-        let there = halves.is.start rd (start_offset realm.start_level ipa) realm is (start_inside realm.start_level ipa realm.s2sz realm.table_count within fit.served) in
+        let there = halves.is.start rd (start_table_index realm.start_level ipa) realm is (start_inside realm.start_level ipa realm.s2sz realm.table_count within fit.served) in
         record { is = start_is m linked rd ipa realm is within; depth = there.0; seat = there.1 }
 
     pub walk_seat : (level : ℕ) → IsSeat (walk m realm ipa level)

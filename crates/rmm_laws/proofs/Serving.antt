@@ -8,7 +8,7 @@ use Rattle.rmm_model.specs.declared.granule.RmmGranuleState.TheVariants.{Rd}
 use Rattle.rmm_model.specs.declared.realm.RmmRealm.{RmmRealm}
 use Rattle.rmm_model.specs.declared.realm.RttWalk.{RttWalk}
 use Rattle.rmm_model.specs.Entry.{is_table}
-use Rattle.rmm_model.specs.Level.{entry_size, entry_index, start_offset}
+use Rattle.rmm_model.specs.Level.{entry_size, entry_index, start_table_index}
 use Rattle.rmm_model.specs.Machine.{Machine, granule_at}
 use Rattle.rmm_model.specs.Walk.{entry_at, table_below, walk_from, start_of, walk}
 use Rattle.rmm_laws.specs.Role.{IsLinked, LeadsInside}
@@ -101,14 +101,14 @@ module _ (m : Machine) (linked : IsLinked m) (rd ipa : ℕ) (realm : RmmRealm) w
   from (suc levels) place at = on levels place (table_below m (entry_at m place ipa)) refl at (λ child there. from levels (record { table = child; level = place.level + 1 }) there)
 
   start_serves : (granule_at m rd).state ≡ Rd realm → ipa < 2 ^ realm.s2sz → IsServing (start_of realm ipa)
-  unfolding Serves start_of start_offset
+  unfolding Serves start_of start_table_index
   start_serves is within =
       let fit = served m rd realm linked is in
       record {
         is = start_is m linked rd ipa realm is within;
         levels = 0;
         depth = omega arith;
-        serves = (start_offset realm.start_level ipa, start_inside realm.start_level ipa realm.s2sz realm.table_count within fit.served, refl, refl);
+        serves = (start_table_index realm.start_level ipa, start_inside realm.start_level ipa realm.s2sz realm.table_count within fit.served, refl, refl);
       }
 
   -- the end of a walk

@@ -9,7 +9,7 @@ use Rattle.rmm_model.specs.declared.granule.RmmGranuleState.TheVariants.{Rd, Rtt
 use Rattle.rmm_model.specs.declared.realm.RmmRealm.{RmmRealm}
 use Rattle.rmm_model.specs.declared.realm.RttWalk.{RttWalk}
 use Rattle.rmm_model.specs.Entry.{is_table}
-use Rattle.rmm_model.specs.Level.{entry_size, entry_index, start_offset}
+use Rattle.rmm_model.specs.Level.{entry_size, entry_index, start_table_index}
 use Rattle.rmm_model.specs.Machine.{Machine, granule_at, page_in}
 use Rattle.rmm_model.specs.Table.{entry_in_page}
 use Rattle.rmm_model.specs.Walk.{entry_at, table_below, walk_from, start_of, walk}
@@ -160,7 +160,7 @@ module _ (m n : Machine) (proper : IsProper m) (settings : n.settings ≡ m.sett
     start_other : x < 2 ^ realm.s2sz → (start_of realm x).table ≢ g
     unfolding uses start_of
     start_other inside same =
-        let k : ℕ = start_offset realm.start_level x in
+        let k : ℕ = start_table_index realm.start_level x in
         let fit = served m rd realm proper.linked is in
         let lt = start_inside realm.start_level x realm.s2sz realm.table_count inside fit.served in
         let gives : uses m proper.linked.level rd k 0 ≡ Some (used Rtt (Some rd) realm.start_level (realm.first_table + k)) =

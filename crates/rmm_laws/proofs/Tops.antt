@@ -8,7 +8,7 @@ use Rattle.rmm_model.specs.declared.granule.RmmGranuleState.TheVariants.{Rd}
 use Rattle.rmm_model.specs.declared.realm.RmmRealm.{RmmRealm}
 use Rattle.rmm_model.specs.declared.realm.RttWalk.{RttWalk}
 use Rattle.rmm_model.specs.Entry.{is_live}
-use Rattle.rmm_model.specs.Level.{entry_size, entry_index, start_offset}
+use Rattle.rmm_model.specs.Level.{entry_size, entry_index, start_table_index}
 use Rattle.rmm_model.specs.Machine.{Machine, granule_at, page_in}
 use Rattle.rmm_model.specs.Table.{entry_in_page, first_live, first_live_from}
 use Rattle.rmm_model.specs.Walk.{entry_at, table_below, walk_from, start_of, walk, top_at, top}
@@ -179,7 +179,7 @@ module _ (m : Machine) (linked : IsLinked m) (rd ipa level : ℕ) (realm : RmmRe
   -- the walk of an address that the same table serves, if its entry there leads to no table
   pub same_end : (x : ℕ) → x / entry_size (walk m realm ipa level).level / 512 ≡ ipa / entry_size (walk m realm ipa level).level / 512 → table_below m (entry_at m (walk m realm ipa level) x) ≡ None
       → walk m realm x 3 ≡ walk m realm ipa level
-  unfolding walk start_of start_offset entry_index
+  unfolding walk start_of start_table_index entry_index
   same_end x same none =
       let start : RttWalk = start_of realm ipa in
       let deep : realm.start_level ≤ found_here.level = down m ipa x (level - realm.start_level) start in

@@ -13,7 +13,7 @@ use Rattle.rmm_model.specs.declared.granule.RmmGranuleState.TheVariants.{Rd, Rtt
 use Rattle.rmm_model.specs.declared.realm.RmmRealm.{RmmRealm}
 use Rattle.rmm_model.specs.declared.realm.RttWalk.{RttWalk}
 use Rattle.rmm_model.specs.Granule.{realm_of}
-use Rattle.rmm_model.specs.Level.{entry_size, entry_index, start_offset}
+use Rattle.rmm_model.specs.Level.{entry_size, entry_index, start_table_index}
 use Rattle.rmm_model.specs.Machine.{Machine, granule_at, page_in}
 use Rattle.rmm_model.specs.Realm.{IsServed}
 use Rattle.rmm_model.specs.Table.{entry_in_page}
@@ -29,8 +29,8 @@ pub entry_size-positive : (level : ℕ) → 0 < entry_size level
 unfolding entry_size
 entry_size-positive level = grind (arith, nat_tests)
 
-pub start_inside : (level ipa width count : ℕ) → ipa < 2 ^ width → 2 ^ width ≤ count * (512 * entry_size level) → start_offset level ipa < count
-unfolding start_offset
+pub start_inside : (level ipa width count : ℕ) → ipa < 2 ^ width → 2 ^ width ≤ count * (512 * entry_size level) → start_table_index level ipa < count
+unfolding start_table_index
 start_inside level ipa width count within served =
     let size : ℕ = entry_size level in
     let below : ipa < count * 512 * size = grind arith in
@@ -104,7 +104,7 @@ module _ (m : Machine) (proper : IsLinked m) where
     unfolding uses start_of
     start_is realm is within =
         let served : IsServed (length m.granules) realm = subst (λ (s : RmmGranuleState). IfSome (realm_of s) (IsServed (length m.granules))) is (proper.sound.tables.each rd) in
-        let i : ℕ = start_offset realm.start_level ipa in
+        let i : ℕ = start_table_index realm.start_level ipa in
         let inside : i < realm.table_count = start_inside realm.start_level ipa realm.s2sz realm.table_count within served.served in
         let gives : uses m level_of rd i 0 ≡ Some (used Rtt (Some rd) realm.start_level (realm.first_table + i)) =
         ap (λ (s : RmmGranuleState). state_uses m s (granule_at m rd).owner (level_of rd) (page_in m rd) rd i 0) is

@@ -65,7 +65,7 @@ ghost use Rattle.rmm_laws.specs.State.{IsRealmIn, IsRealmMadeOf, KeepsStates, Ke
 ghost use Rattle.rmm_laws.specs.Step.{HasNextStep, HasRemoval, CanBeTornDown};
 ghost use Rattle.rmm_laws.specs.Walk.{IsTableOf, Serves, EndsWell, IsPassed, IsAtLive, IsNextTop, LeadsToTable, walked_to};
 
-/// A refused call in registers changes nothing. Neither does a refused store or fill by the host. Nor do steps that no
+/// A refused call to the RMM changes nothing. Neither does a refused store or fill by the host. Nor do steps that no
 /// REC takes, and accesses of guests that are not done. An interrupt that is answered `None`, as of each REC that does
 /// not run, changes nothing. Only a call that enters a REC is answered with the word of a REC that runs on. That REC is
 /// RUNNING then, and was not before. A REC that is entered with RMI_SUCCESS does not run after the call.
@@ -83,10 +83,10 @@ pub fn refusals_change_nothing()
         → IsNotDone (step_outcome m realm rec flags step) → after_step m realm rec step (step_outcome m realm rec flags step) ≡ m }
 {}
 
-/// An RMM may return only refusals for a refused call. The word that is returned is one that an RMM may return. If a
-/// call is not refused, RMI_SUCCESS alone is allowed, also of an RMI_REC_ENTER that is answered with the word of a REC
-/// that runs on.
-pub fn allowed_is_refused()
+/// Each result word that an RMM may return for a refused call is a refusal. The word that the model returns is one of
+/// these words. If a call is not refused, RMI_SUCCESS alone is allowed, also of an RMI_REC_ENTER that is answered with
+/// the word of a REC that runs on.
+pub fn only_refusals_are_allowed()
     ensures done { (call : Call) (m : Machine) → is_refusal (performed call m).0.word ≡ false → allowed_words (command_of call m) ≡ Success ∷ [] }
     ensures own { (call : Call) (m : Machine) → is_refusal (performed call m).0.word ≡ true → IsOneOf (performed call m).0.word (allowed_words (command_of call m)) }
     ensures others { (call : Call) (m : Machine) (word : Word) → is_refusal (performed call m).0.word ≡ true → IsOneOf word (allowed_words (command_of call m)) → is_refusal word ≡ true }
@@ -115,14 +115,14 @@ pub fn granules_have_one_role()
 
 /// A walk ends at a table of the realm that covers the address. The walk is to the starting level or a deeper level.
 /// The table is of the level that the walk goes to, or its entry is no TABLE.
-pub fn walks_end()
+pub fn walks_end_at_covering_table()
     ensures { (m : Machine) (rd ipa level : ℕ) (realm : RmmRealm) (proper : IsProper m) → (granule_at m rd).state ≡ Rd realm → ipa < 2 ^ realm.s2sz → realm.start_level ≤ level
         → EndsWell m proper.linked.level rd realm ipa level (walk m realm ipa level) }
 {}
 
-/// A walk ends at an entry of the same half as its address. The halves of a realm are its protected and its unprotected
-/// addresses. So an ASSIGNED entry is at protected addresses alone, and an ASSIGNED_NS entry at unprotected ones. A
-/// mapping is at a level at which there are pages or blocks, and its memory begins at a multiple of their size.
+/// ASSIGNED entries are at protected addresses only, and ASSIGNED_NS entries at unprotected ones. These are the two
+/// halves of a realm's addresses. UNASSIGNED and UNASSIGNED_NS entries are apart in the same way. A mapping is at a
+/// level at which there are pages or blocks, and its memory begins at a multiple of their size.
 pub fn halves_are_apart()
     ensures half { (m : Machine) (rd ipa level : ℕ) (realm : RmmRealm) → IsProper m → (granule_at m rd).state ≡ Rd realm → ipa < 2 ^ realm.s2sz → IsOfHalf realm ipa (entry_at m (walk m realm ipa level) ipa) }
     ensures placed { (m : Machine) (rd ipa level : ℕ) (realm : RmmRealm) → IsProper m → (granule_at m rd).state ≡ Rd realm → ipa < 2 ^ realm.s2sz
@@ -160,9 +160,9 @@ pub fn granules_come_back()
     ensures named { (m : Machine) (rd ipa : ℕ) → (performed (DataDestroy rd ipa) m).0.word ≡ Success → IsAssignedTo m rd ipa (performed (DataDestroy rd ipa) m).0.x1 }
 {}
 
-/// No entry is live between an address and its `top`. The top is that of a walk of the address. It is at the next live
-/// entry of the table, or at the table's end. RTT_DESTROY, DATA_DESTROY and RTT_UNMAP_UNPROTECTED return such a top of
-/// the machine after them, and it is after the address.
+/// No live entry is between an address and the `top` that its walk gives. The top is at the next live entry of the
+/// table, or at the table's end. RTT_DESTROY, DATA_DESTROY and RTT_UNMAP_UNPROTECTED return such a top of the machine
+/// after them, and it is after the address.
 pub fn tops_are_complete()
     ensures skipped { (m : Machine) (rd ipa level x : ℕ) (realm : RmmRealm) → IsProper m → (granule_at m rd).state ≡ Rd realm → ipa < 2 ^ realm.s2sz → realm.start_level ≤ level → level ≤ 3
         → ipa ≤ x → x < top m (walk m realm ipa level) ipa → IsPassed m realm (walk m realm ipa level) x }
@@ -176,13 +176,13 @@ pub fn tops_are_complete()
         → IsNextTop n (realm_at m rd) (walk n (realm_at m rd) ipa level) ipa answer.x1 }
 {}
 
-/// Steps of a teardown succeed. RMI_REC_DESTROY succeeds for a REC that does not run, and RMI_DATA_DESTROY for a page.
-/// So do RMI_RTT_UNMAP_UNPROTECTED of a mapping, and RMI_RTT_DESTROY of a table without live entries. RMI_REALM_DESTROY
-/// succeeds for a realm without RECs and live entries, and RMI_GRANULE_UNDELEGATE for a DELEGATED granule, which is
-/// UNDELEGATED and zero then. After RMI_GRANULE_DELEGATE a granule is DELEGATED and zero. If a granule is DELEGATED, a
-/// step succeeds while an entry of a realm is live. If no REC of it runs either, one succeeds until the realm is
-/// destroyed. What a realm had until its RMI_REALM_DESTROY is its RD and its starting tables, which are DELEGATED and
-/// zero.
+/// The RMI commands that tear a realm down succeed under the conditions listed here. RMI_REC_DESTROY succeeds for a REC
+/// that does not run, and RMI_DATA_DESTROY for a page. So do RMI_RTT_UNMAP_UNPROTECTED of a mapping, and
+/// RMI_RTT_DESTROY of a table without live entries. RMI_REALM_DESTROY succeeds for a realm without RECs and live
+/// entries, and RMI_GRANULE_UNDELEGATE for a DELEGATED granule, which is UNDELEGATED and zero then. After
+/// RMI_GRANULE_DELEGATE a granule is DELEGATED and zero. If a granule is DELEGATED, a step of a teardown succeeds while
+/// an entry of a realm is live. If no REC of it runs either, one succeeds until the realm is destroyed. What a realm
+/// had until its RMI_REALM_DESTROY is its RD and its starting tables, which are DELEGATED and zero.
 pub fn teardown_steps_succeed()
     ensures recs { (m : Machine) (rec : ℕ) → is_rec_named m rec ≡ true → is_running (rec_at m rec).state ≡ false → (performed (RecDestroy rec) m).0.word ≡ Success }
     ensures pages { (m : Machine) (rd ipa address : ℕ) (ripas : RmmRipas) → IsProper m → rd_named m rd ≡ Some (number_of m rd) → ipa % 4096 ≡ 0 → is_protected (realm_at m rd) ipa ≡ true
@@ -211,10 +211,10 @@ pub fn teardown_steps_succeed()
         → (granule ≡ number_of m rd) ⊎ (((realm_at m rd).first_table ≤ granule) × (granule < (realm_at m rd).first_table + (realm_at m rd).table_count)) }
 {}
 
-/// Realms can be torn down. If no REC of a realm runs, and some granule is DELEGATED, there are calls that all succeed.
-/// After them each granule that the realm has now is UNDELEGATED and zero, and its VMID is free. Those of other realms
-/// are as they were. They are the calls of a teardown alone. The DELEGATED granule is for the table of a block that has
-/// to be unfolded.
+/// Some sequence of calls destroys a realm and undelegates its granules. There is one if no REC of the realm runs, and
+/// some granule is DELEGATED. All its calls succeed, and they are the calls of a teardown alone. After them each
+/// granule that the realm has now is UNDELEGATED and zero, and the realm's VMID is free. The granules of other realms
+/// are as they were. The DELEGATED granule is for the table of a block that has to be unfolded.
 pub fn realms_can_be_torn_down()
     ensures { (m : Machine) (rd spare : ℕ) → IsProper m → rd_named m rd ≡ Some (number_of m rd) → (granule_at m spare).state ≡ Delegated
         → ((granule : ℕ) (rec : RmmRec) → granule_at m granule ≡ of_realm (number_of m rd) (Rec rec) → is_running rec.state ≡ false) → CanBeTornDown m rd }
@@ -405,11 +405,11 @@ pub fn other_realms_stay()
     ensures settings { (r : Registers) (m : Machine) → IsProper m → ((rmi r m).1.settings ≡ m.settings) × (length (rmi r m).1.granules ≡ length m.granules) }
 {}
 
-/// `IsProper` detects certain wrong definitions of the commands. The machines that result from them do not satisfy it.
-/// By one such definition, RTT_DESTROY leaves the entry of the table. By another, a call maps a page that is mapped
-/// already. REC_DESTROY leaves the count of its realm. REALM_DESTROY leaves a granule of the realm. A granule becomes
-/// DELEGATED and is not wiped.
-pub fn mistakes_are_refused()
+/// The invariant `IsProper` rules out certain wrong definitions of RMI commands. The machines that result from them do
+/// not satisfy it. By one such definition, RTT_DESTROY leaves the entry of the table. By another, a call maps a page
+/// that is mapped already. REC_DESTROY leaves the count of its realm. REALM_DESTROY leaves a granule of the realm. A
+/// granule becomes DELEGATED and is not wiped.
+pub fn wrong_definitions_are_detected()
     ensures entry_left { (m : Machine) (rd table i g : ℕ) → IsProper m → IsTableOf m rd table → i < 512 → table_below m (entry_in_page (page_in m table) i) ≡ Some g → IsProper (with_blank m g Delegated) → ⊥ }
     ensures named_twice { (m : Machine) (proper : IsProper m) (rd s x i p y j q address other : ℕ) (a b : RmmRipas) → IsTableOf m rd x → IsTableOf m s y → i < 512 → j < 512
         → entry_in_page (page_in m x) i ≡ Assigned a address → entry_in_page (page_in m y) j ≡ Assigned b other → p < page_count (proper.linked.level x) → q < page_count (proper.linked.level y)

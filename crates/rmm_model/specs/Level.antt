@@ -10,5 +10,5 @@ unfoldable pub entry_index : ℕ → ℕ → ℕ
 entry_index level ipa = ipa / entry_size level % 512
 
 -- the index of the starting table that covers an address
-unfoldable pub start_offset : ℕ → ℕ → ℕ
-start_offset level ipa = ipa / entry_size level / 512
+unfoldable pub start_table_index : ℕ → ℕ → ℕ
+start_table_index level ipa = ipa / entry_size level / 512

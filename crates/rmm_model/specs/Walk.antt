@@ -6,7 +6,7 @@ use Rattle.rmm_model.specs.declared.entry.RmmRttEntry.TheVariants.{Assigned, Tab
 use Rattle.rmm_model.specs.declared.realm.RmmRealm.{RmmRealm}
 use Rattle.rmm_model.specs.declared.realm.RttWalk.{RttWalk}
 use Rattle.rmm_model.specs.Entry.{entry_word}
-use Rattle.rmm_model.specs.Level.{entry_size, entry_index, start_offset}
+use Rattle.rmm_model.specs.Level.{entry_size, entry_index, start_table_index}
 use Rattle.rmm_model.specs.Machine.{Machine, page_in, is_inside, number_of, with_word}
 use Rattle.rmm_model.specs.Table.{entry_in_page, first_live_from}
 
@@ -42,7 +42,7 @@ walk_from m ipa (suc levels) found =
 
 -- the starting table that serves an address
 unfoldable pub start_of : RmmRealm → ℕ → RttWalk
-start_of realm ipa = record { table = realm.first_table + start_offset realm.start_level ipa; level = realm.start_level }
+start_of realm ipa = record { table = realm.first_table + start_table_index realm.start_level ipa; level = realm.start_level }
 
 -- The end of the walk of an address towards a level.
 unfoldable pub walk : Machine → RmmRealm → ℕ → ℕ → RttWalk

@@ -4,7 +4,8 @@ ghost use Rattle.rmm_model.specs.Access as accesses;
 
 use page_arena::word_in;
 
-/// The size of an access. Arm Architecture Reference Manual, SAS of ISS encoding for an exception from a Data Abort.
+/// The size of a guest's memory access. Arm Architecture Reference Manual, SAS of ISS encoding for an exception from a
+/// Data Abort.
 #[derive(Clone, Copy)]
 pub enum AccessSize {
     Byte,
@@ -14,7 +15,7 @@ pub enum AccessSize {
 }
 
 impl AccessSize {
-    /// Returns the access size of `bytes` bytes. It is `Byte` if no access has that size.
+    /// Returns the access size for a number of bytes. It is `Byte` if no access has that size.
     pub fn of(bytes: u64) -> AccessSize
         ensures { result ≡ accesses.access_size bytes }
     {
@@ -26,7 +27,7 @@ impl AccessSize {
         }
     }
 
-    /// Returns the SAS field of a data abort. The field is in its bit position in ESR_EL2.
+    /// Returns the access size as the SAS field of a data abort syndrome. The field is in its bit position in ESR_EL2.
     pub fn syndrome(self) -> u64
         ensures value { result ≡ accesses.syndrome self }
         ensures below { result ≤ 0xC0_0000 }

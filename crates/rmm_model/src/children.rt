@@ -1,10 +1,12 @@
-//! The children of a table entry, as words. They are the 512 entries of a table that replaces the entry.
+//! The child entries of a translation table entry, as encoded words. They are the 512 entries of a table that replaces
+//! the entry.
 ghost use Rattle.std.specs.Prelude.{◌≡◌, ℕ, ◌^◌, ◌<◌, ◌≤◌};
 
 use crate::RmmRttEntry;
 use crate::entry::ADDRESSES;
 
-/// The words of an entry's children. All are of one kind, and their descriptors rise by a fixed step.
+/// The words that encode the children of a table entry. All are of one kind, and their descriptors rise by a fixed
+/// step.
 #[derive(Clone, Copy)]
 pub struct ChildWords {
     kind: u64,
@@ -31,7 +33,7 @@ impl ChildWords {
         }
     }
 
-    /// The word of child `index`.
+    /// Returns the word that encodes child entry `index`.
     pub fn word(&self, index: u16) -> u64
         requires { index < 512 }
         ensures { result ≡ child_word self.now index }

@@ -1,4 +1,4 @@
-//! Digests of messages that are fed in pieces.
+//! Functions that feed words and zero bytes to a hash.
 ghost use Rattle.std.specs.Prelude.{◌≡◌, ℕ, List, ◌++◌, ◌≤◌};
 ghost use Rattle.std.specs.Int.{to_le_bytes, w64};
 ghost use Rattle.rmm_model.specs.Bytes.{zeros};

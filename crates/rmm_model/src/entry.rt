@@ -4,7 +4,7 @@ ghost use Rattle.rmm_model.specs.Entry as entries;
 
 use crate::entry_size;
 
-/// The RIPAS of an address. RMM 1.0, RmmRipas.
+/// The RIPAS of an address: EMPTY, RAM or DESTROYED. RMM 1.0, RmmRipas.
 #[derive(Clone, Copy)]
 pub enum RmmRipas {
     Empty,
@@ -25,8 +25,8 @@ pub enum RmmRttEntry {
     AssignedNs(u64),
 }
 
-/// The entries whose RIPAS a command changes. UNASSIGNED entries are always among them, unless their RIPAS is
-/// DESTROYED.
+/// The kinds of translation table entries whose RIPAS a command changes. UNASSIGNED entries are always among them,
+/// unless their RIPAS is DESTROYED.
 #[derive(Clone, Copy)]
 pub struct Changeable {
     /// Whether the command changes ASSIGNED entries.
@@ -45,7 +45,7 @@ pub(crate) const LEAST_LIVE: u64 = 4 * KIND;
 
 pub(crate) const ADDRESSES: u64 = 0x1_0000_0000_0000;
 
-/// The entry that a word encodes. Each word encodes some entry.
+/// Returns the translation table entry that a word encodes. Each word encodes some entry.
 #[tactic(auto, unfolding(crate::specs::Entry::entry_of))]
 pub fn entry_from_word(word: u64) -> RmmRttEntry
     ensures value { result ≡ entries.entry_of word }
@@ -92,8 +92,8 @@ impl RmmRipas {
 }
 
 impl RmmRttEntry {
-    /// Returns the entry's word without the descriptor. This part encodes the kind and the RIPAS, and the descriptor is
-    /// added to it. Bits 63:56 have the kind and the RIPAS of the entry. The bytes of an entry that is not live are all
+    /// Returns the word that encodes the entry's kind and RIPAS, without the descriptor. The descriptor is added to
+    /// this word. Bits 63:56 have the kind and the RIPAS of the entry. The bytes of an entry that is not live are all
     /// the same, so that a page of such entries is written as one byte.
     pub fn kind_word(self) -> u64
         ensures value { result ≡ entries.kind_word self }
@@ -185,7 +185,7 @@ impl RmmRttEntry {
         }
     }
 
-    /// Whether the entry is among the `changeable` entries.
+    /// Whether a command that changes the `changeable` entries changes this entry's RIPAS.
     pub fn can_change(self, changeable: Changeable) -> bool
         ensures { result ≡ entries.can_change changeable self }
     {
@@ -234,8 +234,8 @@ impl RmmRttEntry {
         }
     }
 
-    /// Returns the step by which the descriptors of this entry's children rise. The children are in a table at the
-    /// given level. Only the descriptors of a mapping's children rise.
+    /// Returns the step between the descriptors of this entry's successive children. The children are in a table at the
+    /// given level. The step is 0 if the entry is not a mapping.
     pub fn child_step(self, level: u8) -> u64
         ensures value { result ≡ entries.child_step self level }
         ensures most { result ≤ 2 ^ 39 }
@@ -247,7 +247,7 @@ impl RmmRttEntry {
         }
     }
 
-    /// Returns the byte that fills a table of this entry's children. It is `None` for a live entry.
+    /// Returns the byte that fills the page of a new table below the entry. It is `None` for a live entry.
     pub fn repeated_byte(self) -> Option<u8>
         ensures { result ≡ entries.repeated_byte self }
     {

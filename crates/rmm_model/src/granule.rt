@@ -57,7 +57,7 @@ impl RmmGranuleState {
         }
     }
 
-    /// The attributes of the REC, if the granule is one.
+    /// Returns the attributes of the REC, if the granule is a REC.
     pub fn rec(&self) -> Option<RmmRec>
         ensures { result ≡ rec_of self.now }
     {

@@ -30,15 +30,16 @@ pub fn entry_size(level: u8) -> u64
     1 << entry_shift(level)
 }
 
-/// Returns the number of the entry that covers an address. All entries of the level are numbered, and the entry of
-/// address 0 has number 0.
+/// Returns the number of the level's entry that covers an address. All entries of the level are numbered, and the entry
+/// of address 0 has number 0.
 pub fn entry_number(level: u8, address: u64) -> u64
     ensures { result ≡ address / levels.entry_size level }
 {
     address >> entry_shift(level)
 }
 
-/// Returns the offset of an address within an entry. The entry is the one at the level that covers the address.
+/// Returns the offset of an address in the range that an entry covers. The entry is the one at the level that covers
+/// the address.
 #[tactic(auto, unfolding(crate::specs::Level::entry_size))]
 pub fn entry_offset(level: u8, address: u64) -> u64
     ensures value { result ≡ address % levels.entry_size level }
@@ -52,7 +53,7 @@ pub fn entry_offset(level: u8, address: u64) -> u64
     }
 }
 
-/// Returns the index of the entry that covers an address. The index is among the 512 entries of the entry's table.
+/// Returns the index, within its table, of the entry that covers an address. The table has 512 entries.
 #[tactic(auto, unfolding(crate::specs::Level::entry_index))]
 pub fn entry_index(level: u8, ipa: u64) -> u16
     ensures value { result ≡ levels.entry_index level ipa }
@@ -62,9 +63,9 @@ pub fn entry_index(level: u8, ipa: u64) -> u16
 }
 
 /// The index of the starting table that covers an address.
-#[tactic(auto, unfolding(crate::specs::Level::start_offset))]
-pub fn start_offset(level: u8, ipa: u64) -> u64
-    ensures { result ≡ levels.start_offset level ipa }
+#[tactic(auto, unfolding(crate::specs::Level::start_table_index))]
+pub fn start_table_index(level: u8, ipa: u64) -> u64
+    ensures { result ≡ levels.start_table_index level ipa }
 {
     entry_number(level, ipa) / 512
 }

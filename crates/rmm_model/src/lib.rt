@@ -28,7 +28,7 @@ pub use children::ChildWords;
 pub use condition::Condition;
 pub use entry::{Changeable, RmmRipas, RmmRttEntry, entry_from_word};
 pub use granule::{RmmGranule, RmmGranuleState};
-pub use level::{entry_index, entry_number, entry_offset, entry_size, start_offset};
+pub use level::{entry_index, entry_number, entry_offset, entry_size, start_table_index};
 pub use measure::{Extension, extend, initial, page_digest, rec_digest};
 pub use realm::{RmmRealm, RmmRealmState, RttWalk, start_count};
 pub use rec::{LastExit, PsciRequest, RipasRequest, RmmRec, RmmRecState, aux_address};

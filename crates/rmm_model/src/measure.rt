@@ -1,4 +1,4 @@
-//! Initial measurements, and their extensions.
+//! Initial measurements of realms, and their extensions.
 ghost use Rattle.std.specs.Prelude.{◌≡◌, ℕ, List, ◌++◌, length};
 ghost use Rattle.rmm_model.specs.Bytes as bytes;
 ghost use Rattle.rmm_model.specs.Measure as measures;
@@ -7,17 +7,18 @@ use crate::digest::{feed_word, feed_zeros};
 use rmi_abi::{HashAlgorithm, RealmParams};
 use sha2::{Digest, Sha256, Sha512};
 
-/// An event that extends a measurement. RMM 1.0, RmmMeasurementDescriptorData, RmmMeasurementDescriptorRec and
-/// RmmMeasurementDescriptorRipas.
+/// An event that extends a realm's initial measurement. RMM 1.0, RmmMeasurementDescriptorData,
+/// RmmMeasurementDescriptorRec and RmmMeasurementDescriptorRipas.
 #[derive(Clone, Copy)]
 pub enum Extension {
-    /// A page of data. The flags are those of RMI_DATA_CREATE. The digest is zeros if the content is not measured.
+    /// A page of data that is added to the realm. The flags are those of RMI_DATA_CREATE. The digest is zeros if the
+    /// content is not measured.
     Data {
         ipa: u64,
         flags: u64,
         digest: [u8; 64],
     },
-    /// A REC: the digest of its parameters.
+    /// A REC, with the digest of its parameters.
     Rec {
         digest: [u8; 64],
     },
@@ -115,7 +116,7 @@ fn hash_descriptor<D: Digest>(rim: &[u8; 64], extension: &Extension) -> D::Outpu
     hasher.finalize()
 }
 
-/// The measurement after an extension.
+/// Returns a realm's measurement after an extension.
 #[tactic(auto, unfolding(crate::specs::Measure::extended, crate::specs::Measure::digest))]
 pub fn extend(hash: HashAlgorithm, rim: &[u8; 64], extension: &Extension) -> [u8; 64]
     ensures { result ≡ measures.extended hash rim.now extension.now }

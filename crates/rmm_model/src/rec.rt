@@ -50,7 +50,7 @@ pub enum LastExit {
     RipasChange,
     /// An emulatable data abort at an unprotected address. The host can emulate the access.
     EmulatableAbort,
-    /// Any other abort at an unprotected address.
+    /// A non-emulatable abort at an unprotected address.
     UnprotectedAbort,
     /// A write to a system register.
     SystemRegister,
@@ -75,7 +75,7 @@ pub struct RmmRec {
 }
 
 impl RipasRequest {
-    /// No request.
+    /// The absence of a RIPAS request.
     pub const NONE: RipasRequest = RipasRequest {
         base: 0,
         top: 0,
@@ -85,7 +85,7 @@ impl RipasRequest {
 }
 
 impl RmmRec {
-    /// Creates a REC.
+    /// Creates the attributes of a READY REC without requests, results and steps.
     pub fn new(is_runnable: bool, mpidr: u64) -> RmmRec
         ensures { result ≡ recs.new_rec is_runnable mpidr }
     {

@@ -98,7 +98,7 @@ pub struct StepWords {
 }
 
 impl StepWords {
-    /// Returns the step that the words encode. It is `Spin` if the kind is unknown.
+    /// Returns the guest step that the words encode. It is `Spin` if the kind is unknown.
     pub fn step(&self) -> GuestStep
         ensures { result ≡ guests.step_of self.now }
     {
@@ -146,7 +146,7 @@ impl StepWords {
         }
     }
 
-    /// Reads the words of a step from a REC's page. They are at position `place` in the ring of steps.
+    /// Reads the words that encode a guest step from a REC's page. They are at position `place` in the ring of steps.
     #[tactic(auto, unfolding(crate::specs::Guest::words_at))]
     pub fn read(page: &[u8], place: u8) -> StepWords
         requires page { length page.now ≡ 4096 }
@@ -165,7 +165,7 @@ impl StepWords {
 }
 
 impl StepResult {
-    /// The number of the result's kind.
+    /// Returns the number of the step result's kind.
     pub fn code(&self) -> u64
         ensures { result ≡ guests.result_code self.now }
     {

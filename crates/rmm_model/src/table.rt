@@ -59,8 +59,8 @@ pub fn has_live(page: &[u8]) -> bool
     false
 }
 
-/// Finds a table's first entry whose RIPAS a command does not change. The search begins at `from`. Returns the index of
-/// the entry, or `end` if there is none before `end`.
+/// Finds the first entry of a table whose RIPAS a command does not change. The search begins at `from`. Returns the
+/// index of the entry, or `end` if there is none before `end`.
 pub fn first_fixed(page: &[u8], changeable: Changeable, from: u16, end: u16) -> u16
     requires page { length page.now ≡ 4096 }
     requires from { from ≤ end }
@@ -77,8 +77,8 @@ pub fn first_fixed(page: &[u8], changeable: Changeable, from: u16, end: u16) -> 
     end
 }
 
-/// Whether a table consists of the children of `whole`. The table is at the given level, and `whole` is an entry above
-/// it.
+/// Whether the entries of a table are exactly the children of entry `whole`. The table is at the given level, and
+/// `whole` is an entry above it.
 pub fn has_parts(page: &[u8], whole: RmmRttEntry, level: u8) -> bool
     requires page { length page.now ≡ 4096 }
     requires whole { descriptor_of whole < 2 ^ 48 }

@@ -91,9 +91,9 @@ parts [] = []
 parts (w ∷ ws) = if ends_part w ws then (w ∷ []) ∷ parts ws else onto_first w (parts ws)
 
 -- a status with its index, and gprs go on with zeros
-abbrev pub is_open : Atom → Bool
-is_open (Name place) = place == GPRS || is_name_among RMI_SUCCESS 5 place
-is_open _ = false
+abbrev pub missing_values_are_zeros : Atom → Bool
+missing_values_are_zeros (Name place) = place == GPRS || is_name_among RMI_SUCCESS 5 place
+missing_values_are_zeros _ = false
 
 abbrev pub is_same_name : Bool → TraceWord → TraceWord → Bool
 is_same_name are_checks_compared written ours =
@@ -101,7 +101,7 @@ is_same_name are_checks_compared written ours =
 
 abbrev pub is_same_part : Bool → List TraceWord → List TraceWord → Bool
 is_same_part are_checks_compared (a ∷ xs) (b ∷ ys) =
-    is_same_name are_checks_compared a b && (length xs == length ys || is_open a.value) && are_values xs ys
+    is_same_name are_checks_compared a b && (length xs == length ys || missing_values_are_zeros a.value) && are_values xs ys
 is_same_part are_checks_compared _ _ = false
 
 abbrev pub has_part : Bool → List TraceWord → List TraceWord → Bool

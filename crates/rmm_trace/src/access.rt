@@ -1,4 +1,4 @@
-//! The contents of questions. They are the registers of calls, and the values of groups.
+//! Reads the registers of calls and other values from the questions of a trace.
 ghost use Rattle.std.specs.Prelude.{◌≡◌};
 ghost use Rattle.rmm_trace.specs.Access.{number_or_zero, number_at, operand_at, after_name, call_registers};
 
@@ -54,8 +54,8 @@ pub(crate) fn number_at(word: TraceWord, round: u64) -> u64
     number_or_zero(Some(word.value)).wrapping_add(number_or_zero(word.step).wrapping_mul(round))
 }
 
-/// Returns the number of the word at an index. It is the number in a round of a `repeat`, and 0 if there is no such
-/// word.
+/// Returns the value of an operand in a round of a `repeat`. The operand is the word at the index `place`. The value is
+/// 0 if there is no such word.
 pub fn operand(words: &[TraceWord], place: usize, round: u64) -> u64
     ensures { result ≡ operand_at words.now place round }
 {

@@ -1,4 +1,4 @@
-//! The words and parts that answers are made of.
+//! Makes the words of a trace's answers from X0 and output values.
 ghost use Rattle.std.specs.Prelude.{◌≡◌, ◌<◌, ◌≤◌, ◌++◌, [], ◌∷◌, length};
 ghost use Rattle.rmm_trace.specs.Answers.{plain, status_of, index_of, output_atom, with_comma, listed};
 
@@ -11,7 +11,7 @@ use crate::word::{Atom, TraceWord};
 /// The value of X0 if the guest of an entered REC keeps running.
 pub const RUNS_ON: u64 = 0xFFFF_FFFF_FFFF_FFFE;
 
-/// Creates a word that consists of an atom alone. It has no mask, no step and no comma.
+/// Creates a trace word from a name or a number alone. It has no mask, no step and no comma.
 pub fn plain(value: Atom) -> TraceWord
     ensures { result ≡ plain value }
 {
@@ -23,7 +23,7 @@ pub fn plain(value: Atom) -> TraceWord
     }
 }
 
-/// Returns the atom for a result in X0. It is the name of the result's status, or X0 in hexadecimal if no name fits.
+/// Returns the name of the status in X0, as an atom. If no name fits, the atom is X0 in hexadecimal.
 pub fn status_of(x0: u64) -> Atom
     ensures { result ≡ status_of x0 }
 {
@@ -36,8 +36,8 @@ pub fn status_of(x0: u64) -> Atom
     Atom::Name(RMI_SUCCESS + (x0 % 256) as usize)
 }
 
-/// Returns the index of a result in X0. It is `None` if X0 is no result, or if the index is 0 and the status is not
-/// RMI_ERROR_RTT.
+/// Returns the index in the RMI result that X0 holds. It is `None` if X0 is no result, or if the index is 0 and the
+/// status is not RMI_ERROR_RTT.
 pub fn index_of(x0: u64) -> Option<Atom>
     ensures { result ≡ index_of x0 }
 {
@@ -50,8 +50,8 @@ pub fn index_of(x0: u64) -> Option<Atom>
     Some(Atom::Decimal(x0 / 256))
 }
 
-/// Returns the atom for the value of an output. Levels and counts are in decimal. Known states, RIPAS and exit reasons
-/// are names, and other values are in hexadecimal.
+/// Returns the name or number that an answer shows for an output value. Levels and counts are in decimal. Known states,
+/// RIPAS and exit reasons are names, and other values are in hexadecimal.
 pub fn output_atom(name: usize, value: u64) -> Atom
     ensures { result ≡ output_atom name value }
 {
@@ -71,7 +71,7 @@ pub fn output_atom(name: usize, value: u64) -> Atom
 }
 
 // Puts a comma after the last word.
-fn list_last(answer: &mut Sentence)
+fn put_comma_after_last(answer: &mut Sentence)
     requires { length answer.old.items ≤ 64 }
     ensures items { answer.new.items ≡ with_comma answer.old.items }
     ensures len { length answer.new.items ≡ length answer.old.items }
@@ -85,13 +85,13 @@ fn list_last(answer: &mut Sentence)
     });
 }
 
-/// Appends a word to an answer. If the word begins another part, a comma comes before it.
+/// Appends a word to the answer of a trace line. If the word begins another part, a comma comes before it.
 pub fn push_word(answer: &mut Sentence, word: TraceWord, is_part: bool)
     requires { length answer.old.items < 64 }
     ensures { answer.new.items ≡ listed is_part answer.old.items ++ word ∷ [] }
 {
     if is_part {
-        list_last(answer);
+        put_comma_after_last(answer);
     }
     answer.push(word);
 }

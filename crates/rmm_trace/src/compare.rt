@@ -3,7 +3,7 @@
 ghost use Rattle.std.specs.Prelude.{◌≡◌, ◌<◌, ◌∷◌, length};
 ghost use Rattle.std.specs.List.{list_any};
 ghost use Rattle.rmm_trace.specs.Compare.{is_name_among, ordinal, atom_number, mask_of, is_same_number, is_same_atom};
-ghost use Rattle.rmm_trace.specs.Compare.{is_dash, is_same_value, is_check, starts_check, ends_part, is_open};
+ghost use Rattle.rmm_trace.specs.Compare.{is_dash, is_same_value, is_check, starts_check, ends_part, missing_values_are_zeros};
 ghost use Rattle.rmm_trace.specs.Compare.{first_of, rest_of, are_values, parts, is_same_name, is_same_part, has_part};
 ghost use Rattle.rmm_trace.specs.Compare.{are_parts, are_first, is_pair, check_in, is_unsure, place_of, command_in};
 ghost use Rattle.rmm_trace.specs.Compare.{is_register, is_same_register, is_same_by, is_same};
@@ -108,14 +108,15 @@ fn is_same_value(written: TraceWord, ours: TraceWord) -> bool
     is_dash(written.value) || is_same_atom(mask_of(written.mask), written.value, ours.value)
 }
 
-/// Whether a word can be written for a register. Such a word represents a number or is `-`, and has no comma after it.
+/// Returns whether a word of a trace can be the written value of a register. Such a word represents a number or is `-`,
+/// and has no comma after it.
 pub fn is_register(word: TraceWord) -> bool
     ensures { result ≡ is_register word }
 {
     !word.is_listed && (is_dash(word.value) || atom_number(word.value).is_some())
 }
 
-/// Whether the value written for a register agrees with the model's.
+/// Returns whether the register value in a trace agrees with the model's value.
 pub fn is_same_register(written: TraceWord, ours: TraceWord) -> bool
     ensures { result ≡ is_same_register written ours }
 {
@@ -205,8 +206,8 @@ fn split_part(words: &[TraceWord]) -> (&[TraceWord], &[TraceWord])
 }
 
 // Whether missing values count as zeros in a part that begins with this atom: a status, or `gprs`.
-fn is_open(atom: Atom) -> bool
-    ensures { result ≡ is_open atom }
+fn missing_values_are_zeros(atom: Atom) -> bool
+    ensures { result ≡ missing_values_are_zeros atom }
 {
     match atom {
         Atom::Name(place) => place == GPRS || is_name_among(RMI_SUCCESS, 5, place),
@@ -237,7 +238,7 @@ fn is_same_part(are_checks_compared: bool, written: &[TraceWord], ours: &[TraceW
     if !is_same_name(are_checks_compared, *a, *b) {
         return false;
     }
-    if left.len() != right.len() && !is_open(a.value) {
+    if left.len() != right.len() && !missing_values_are_zeros(a.value) {
         return false;
     }
     are_values(left, right)
@@ -412,7 +413,7 @@ fn is_same_with(
     is_same_by(command, !has_unsure, written, ours)
 }
 
-/// Whether the written answer to a question agrees with the model's. A raw call is no question here.
+/// Returns whether a trace's answer to a question agrees with the model's answer. A raw call is no question here.
 ///
 /// Calls, interrupts and fills are compared by their parts, and others word by word. A name of a check that is unsure
 /// is not compared.

@@ -1,10 +1,10 @@
-//! The split of a text at a mark. The mark is the first byte of a given value.
+//! The split of a text at the first byte of a given value.
 ghost use Rattle.std.specs.Prelude.{◌≡◌};
 ghost use Rattle.std.specs.Option.{option_copied};
 ghost use Rattle.rmm_trace.specs.Cuts.{before_mark, after_mark};
 
-/// Splits a text at the first byte `mark`. Returns the text before that byte, and the text after it. If there is no
-/// such byte, returns the whole text and `None`.
+/// Splits a text at the first byte that is equal to `mark`. Returns the text before that byte, and the text after it.
+/// If there is no such byte, returns the whole text and `None`.
 pub fn cut_at(text: &[u8], mark: u8) -> (&[u8], Option<&[u8]>)
     ensures before { result.0.now ≡ before_mark mark text.now }
     ensures after { option_copied result.1 ≡ after_mark mark text.now }

@@ -1,4 +1,4 @@
-//! The text of measurements.
+//! The hexadecimal text of SHA-256 and SHA-512 measurements.
 ghost use Rattle.std.specs.Prelude.{◌≡◌};
 ghost use Rattle.hex.specs.Hex.{encode_lower};
 

@@ -1,5 +1,5 @@
-//! The grammar of questions. This file has the types for the table of word groups, and the check that words form a
-//! question.
+//! The grammar of the questions in a trace. This file has the types for the table of word groups, and the check that
+//! words form a question.
 ghost use Rattle.std.specs.Prelude.{◌≡◌, Some};
 ghost use Rattle.std.specs.Option.{option_copied};
 ghost use Rattle.rmm_trace.specs.Grammar.{is_number_of, is_of_kind, kind_at, row_of};
@@ -7,7 +7,7 @@ ghost use Rattle.rmm_trace.specs.Grammar.{if_place, enter, opened, next, is_comp
 
 use crate::word::{Atom, TraceWord};
 
-/// The values that are allowed at a position in a group.
+/// The values allowed at one position in a group of words.
 ///
 /// A number is in the range, a multiple of the unit, and a divisor of the multiple if that is not 0. A name is one of
 /// so many, from the first on.
@@ -21,10 +21,11 @@ pub struct ValueKind {
     pub name_count: usize,
 }
 
-/// A group of words. It has a name, the number and the kinds of its values, and the groups that may follow.
+/// A group of words in the grammar of a trace's questions. It has a name, the number and the kinds of its values, and
+/// the groups that may follow.
 #[derive(Clone, Copy)]
 pub struct Group {
-    /// The contexts in which the group may come. Each context has one bit.
+    /// The contexts of the grammar in which the group may occur. Each context has one bit.
     pub contexts: u64,
     pub name: usize,
     pub least: usize,
@@ -33,17 +34,18 @@ pub struct Group {
     pub second: ValueKind,
     pub third: ValueKind,
     pub others: ValueKind,
-    /// The context of the groups that may follow. It is 0 if none may.
+    /// The context of the group that follows, or 0 if none may follow.
     pub opens: u64,
-    /// Whether a question may end with the group.
+    /// Whether a question of a trace may end with the group.
     pub is_last: bool,
-    /// The group's own bit.
+    /// The bit of this group in `excludes` and in `Place::seen`.
     pub bit: u64,
-    /// The bits of the groups that may not come before this group.
+    /// The bits of the groups that may not precede this group.
     pub excludes: u64,
 }
 
-/// A place in a question. It has the group that is being read, and the number of the group's values so far.
+/// The state of the grammar check after some words of a trace's question. It has the group that is being read, and the
+/// number of the group's values so far.
 #[derive(Clone, Copy)]
 pub struct Place {
     pub group: Group,
@@ -53,7 +55,7 @@ pub struct Place {
     pub seen: u64,
 }
 
-/// The context inside a `repeat`. Operands may have a step there.
+/// The grammar context of the groups inside a `repeat` of a trace. Operands may have a step there.
 pub const REPEATED: u64 = 2;
 
 fn is_number_of(kind: &ValueKind, number: u64) -> bool
@@ -68,7 +70,7 @@ fn is_number_of(kind: &ValueKind, number: u64) -> bool
     number == 0 || kind.multiple % number == 0
 }
 
-/// Whether an atom is a value of a kind.
+/// Returns whether a name or number is a value of the given kind.
 pub fn is_of_kind(kind: &ValueKind, atom: Atom) -> bool
     ensures { result ≡ is_of_kind kind.now atom }
 {
@@ -161,7 +163,8 @@ impl Place {
     }
 }
 
-/// Whether words complete a question from the place `start` on. One place is kept, and changed by each word.
+/// Returns whether words complete a question, starting from a place in the grammar. One place is kept, and changed by
+/// each word.
 pub fn accepts(groups: &[Group], start: Place, words: &[TraceWord]) -> bool
     ensures { result ≡ accepts groups.now (Some start) words.now }
 {

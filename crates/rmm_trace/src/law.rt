@@ -10,18 +10,18 @@ ghost use Rattle.rmm_trace.specs.Lines.{bare_text, answer_in, is_question, quest
 ghost use Rattle.rmm_trace.specs.Places.{are_places_named};
 ghost use Rattle.rmm_trace.specs.Sentences.{sentence_text, words_in, IsSentence};
 
-/// Words that are printed are read back as themselves.
+/// Proves that the printed text of a sentence is read back as its words.
 pub fn printed_words_are_read_back()
     ensures { (ws : List TraceWord) → IsSentence ws
         → words_in 64 (slice_split (λ b. b == 32) (sentence_text ws)) ≡ Some ws }
 {}
 
-/// Sentences that are written alike are the same.
+/// Proves that different sentences have different texts.
 pub fn sentences_are_injective()
     ensures { (vs ws : List TraceWord) → IsSentence vs → IsSentence ws → sentence_text vs ≡ sentence_text ws → vs ≡ ws }
 {}
 
-/// Printed questions are read back. A line that is a question's text is read as that question.
+/// Proves that the printed text of a trace's question is read as that question.
 pub fn printed_questions_are_read_back()
     ensures { (groups : List Group) (start : Place) (ws : List TraceWord)
         → IsSentence ws → is_question groups start ws ≡ true
@@ -29,8 +29,8 @@ pub fn printed_questions_are_read_back()
         → line_in groups start (sentence_text ws) ≡ question_of (record { items = ws }) }
 {}
 
-/// Answered questions are read back. A line that consists of a question's text, ` = ` and an answer's text is read as
-/// that question.
+/// Proves that a line with a question and an answer is read as that question. The line consists of the question's text,
+/// ` = ` and the answer's text.
 pub fn answered_questions_are_read_back()
     ensures { (groups : List Group) (start : Place) (ws vs : List TraceWord)
         → IsSentence ws → IsSentence vs → is_question groups start ws ≡ true
@@ -39,24 +39,24 @@ pub fn answered_questions_are_read_back()
         ≡ question_of (record { items = ws }) }
 {}
 
-/// Printed answers are read back. Each is read from a line that consists of a question's text, ` = ` and the answer's
-/// text.
+/// Proves that the answer of a printed line is read back unchanged. The line consists of a question's text, ` = ` and
+/// the answer's text.
 pub fn printed_answers_are_read_back()
     ensures { (ws vs : List TraceWord) → IsSentence vs
         → answer_in (bare_text (sentence_text ws ++ (codes " = " ++ sentence_text vs))) ≡ Some (sentence_text vs) }
 {}
 
-/// Measurements that are written alike are the same.
+/// Proves that different measurements have different texts.
 pub fn measurement_texts_are_injective()
     ensures { (a b : List ℕ) → IsBytes a → IsBytes b → encode_lower a ≡ encode_lower b → a ≡ b }
 {}
 
-/// Each constant for a name is the name's index. The index is that in the table of names.
+/// Proves that each constant in `place` is the index of its name. The index is that in the table of names.
 pub fn places_are_of_their_names()
     ensures { are_places_named ≡ true }
 {}
 
-/// Each command is in the tables. They have its name, its function identifier and its operands.
+/// Proves that each command is in the tables of names, function identifiers and operands.
 pub fn commands_have_their_rows()
     ensures { are_commands_named ≡ true }
 {}

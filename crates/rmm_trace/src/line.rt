@@ -13,13 +13,13 @@ use crate::sentence::{Sentence, read_into};
 use crate::table::{GROUPS, START};
 use crate::word::TraceWord;
 
-/// The greatest length of a question's line, in bytes.
+/// The maximum length of a trace line with a question, in bytes.
 pub const MOST_LINE: usize = 65_536;
 
-/// The kind of a line.
+/// The kind of a trace line: remark, question or neither.
 #[derive(Clone, Copy)]
 pub enum LineKind {
-    /// A comment, or an empty line.
+    /// A line that is empty or a comment.
     Remark,
     Question,
     /// A line that is neither a remark nor a question.
@@ -88,7 +88,7 @@ fn cut_sign(text: &[u8]) -> (&[u8], Option<&[u8]>)
     (text, None)
 }
 
-/// Splits a line into its question and its answer. The answer is the text after ` = `, if the line has one.
+/// Splits a line of a trace into its question and its answer. The answer is the text after ` = `, if the line has one.
 pub fn cut_line(line: &[u8]) -> (&[u8], Option<&[u8]>)
     ensures question { result.0.now ≡ before_answer (bare_text line.now) }
     ensures answer { option_copied result.1 ≡ answer_in (bare_text line.now) }
@@ -104,7 +104,7 @@ fn is_question(groups: &[Group], start: Place, words: &[TraceWord]) -> bool
 }
 
 impl RmmTraceLine {
-    /// Creates a line that is a remark without words.
+    /// Creates a line of kind `Remark` without words.
     pub fn new() -> RmmTraceLine
         ensures { result ≡ without_words Remark }
     {
@@ -150,7 +150,8 @@ impl RmmTraceLine {
         }
     }
 
-    /// Parses a line into `self`. Returns the text of the line's answer, if any. The function takes no memory.
+    /// Parses a line of a trace into `self`. Returns the text of the line's answer, if any. The function takes no
+    /// memory.
     ///
     /// A line of more than `MOST_LINE` bytes is no question.
     pub fn parse<'a>(&mut self, line: &'a [u8]) -> Option<&'a [u8]>

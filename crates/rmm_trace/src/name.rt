@@ -299,7 +299,7 @@ fn text_at<'a>(texts: &[&'a str], place: usize) -> &'a str
     }
 }
 
-/// The index of the name with this text, if there is one. Names of checks and of results are after the others, and
+/// Returns the index of the name with a given text, if any. Names of checks and of results are after the others, and
 /// begin otherwise.
 pub fn find_name(text: &[u8]) -> Option<usize>
     ensures { result ≡ position_from (bytes_eq text.now) 0 names }

@@ -1,4 +1,5 @@
-//! Indices in the table of all names, as constants. The theorem `places_are_of_their_names` says whose they are.
+//! Constants for the indices of names in the table of names. The theorem `places_are_of_their_names` says whose they
+//! are.
 pub const RMI_VERSION: usize = 0;
 
 pub const RMI_FEATURES: usize = 1;

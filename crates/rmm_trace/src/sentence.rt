@@ -11,7 +11,7 @@ use std::fmt;
 /// The largest number of words in a sentence.
 pub const MOST_WORDS: usize = 64;
 
-/// The words of a sentence.
+/// A sentence of a trace: a list of at most `MOST_WORDS` words.
 pub type Sentence = ArrayVec<TraceWord, MOST_WORDS>;
 
 /// Reads the words of a text into an empty sentence. Returns whether the text is a sentence. The function takes no
@@ -37,7 +37,7 @@ pub fn read_into(text: &[u8], words: &mut Sentence) -> bool
     true
 }
 
-/// The words of a text, if the text is a sentence. It takes no memory.
+/// Returns the words of a text, if the text is a sentence. The function takes no memory.
 pub fn read_words(text: &[u8]) -> Option<Sentence>
     ensures { option_map (λ v. v.items) result ≡ words_in 64 (slice_split (λ b. b == 32) text.now) }
 {

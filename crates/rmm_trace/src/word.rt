@@ -1,4 +1,4 @@
-//! Words of a line. A word is a name or a number, with an optional mask, step and comma.
+//! Words of a trace line. A word is a name or a number, with an optional mask, step and comma.
 ghost use Rattle.std.specs.Prelude.{◌≡◌};
 ghost use Rattle.std.specs.Option.{option_copied};
 ghost use Rattle.rmm_trace.specs.Words.{number_in, atom_in, tail_in, comma_in, word_in};
@@ -8,17 +8,17 @@ use crate::name::{find_name, name_text};
 use crate::number::plain_value;
 use std::fmt;
 
-/// A name or a number.
+/// A name or a number in a word of a trace.
 #[derive(Clone, Copy)]
 pub enum Atom {
-    /// The name at an index in the table of names.
+    /// A name, given by its index in the table of names.
     Name(usize),
     Decimal(u64),
-    /// A number after `0x`.
+    /// A hexadecimal number, which is written after `0x`.
     Hexadecimal(u64),
 }
 
-/// A word of a line. It has a value, with an optional mask after `/`, step after `+`, and comma.
+/// A word of a trace line. It has a value, with an optional mask after `/`, step after `+`, and comma.
 #[derive(Clone, Copy)]
 pub struct TraceWord {
     pub value: Atom,
@@ -81,7 +81,7 @@ fn read_comma(text: Option<&[u8]>) -> Option<bool>
     }
 }
 
-/// The word that a text spells, if it spells one.
+/// Returns the word that a text spells, if any.
 pub(crate) fn read_word(text: &[u8]) -> Option<TraceWord>
     ensures { result ≡ word_in text.now }
 {

@@ -196,14 +196,14 @@ module _ (pages mid : List (List ℕ)) (flags : List Bool) (sized : IsSized mid 
         (λ granule other no_rtt. beside granule (λ q. no_rtt (subst (λ (k : ℕ). IsIn granules k InRtt (Some rd)) (sym q) table_in)) other);
   }
 
-pub unmapped : (pages mid new_pages : List (List ℕ)) (flags mid_flags : List Bool) (granules new_granules : List Granule) (rd : ℕ) (root : Root)
+pub ripas_after_unmap : (pages mid new_pages : List (List ℕ)) (flags mid_flags : List Bool) (granules new_granules : List Granule) (rd : ℕ) (root : Root)
     (level ipa table index page : ℕ) (entry row : Row) (ripas : Ripas)
     → IsSized mid mid_flags → IsBacked pages flags granules → HasTables pages granules rd root
     → IsInside root.width level ipa → level ≡ 3 → table_at (entries_of pages) root level ipa ≡ Some table → table < length pages → index ≡ entry_index level ipa
     → entry ≡ entries_of pages table (entry_index level ipa) → Some page ≡ data_of entry → IsIn granules page InData (Some rd) → ripas ≡ unmapped_ripas entry.ripas → row ≡ unassigned ripas
     → mid ≡ set pages page zero_page → new_pages ≡ with_word mid table index (entry_word row) → new_granules ≡ set granules page (record { state = Delegated; realm = None })
     → Unmapped pages new_pages granules new_granules rd root ipa
-unmapped pages mid new_pages flags mid_flags granules new_granules rd root level ipa table index page entry row ripas sized backed tables inside last
+ripas_after_unmap pages mid new_pages flags mid_flags granules new_granules rd root level ipa table index page entry row ripas sized backed tables inside last
     at within index_is is leads lies ripas_is row_is mid_is pages_are granules_are =
     let index_last : index ≡ entry_index 3 ipa = index_is ∙ ap (λ (l : ℕ). entry_index l ipa) last in
     let written : new_pages ≡ with_word mid table (entry_index 3 ipa) (entry_word (unassigned ripas)) = pages_are ∙ (λ i. with_word mid table (index_last i) (entry_word (row_is i))) in

@@ -7,8 +7,8 @@ use granule_addr::Gran;
 use realm_model::{EntryState, Ripas};
 use std::marker::Model;
 
-/// An entry of a translation table. UNASSIGNED entries lead to nothing, ASSIGNED ones to a page of data, and TABLE ones
-/// to a table. TABLE entries have no RIPAS of their own. RMM 1.0, RTT entry.
+/// An entry of a realm's translation table (RTT). UNASSIGNED entries lead to nothing, ASSIGNED ones to a page of data,
+/// and TABLE ones to a table. TABLE entries have no RIPAS of their own. RMM 1.0, RTT entry.
 #[derive(Clone, Copy, PartialEq, Eq)]
 pub struct Entry {
     pub state: EntryState,
@@ -34,7 +34,7 @@ impl Model for Entry {
 }
 
 impl Entry {
-    /// Creates an entry that leads to nothing.
+    /// Creates an UNASSIGNED entry, which leads to nothing, with the given RIPAS.
     pub fn unassigned(ripas: Ripas) -> Entry
         ensures { result ≡ rows.unassigned ripas }
     {
@@ -45,7 +45,7 @@ impl Entry {
         }
     }
 
-    /// Creates an entry that leads to a page of data.
+    /// Creates an ASSIGNED entry, which leads to a page of data.
     pub fn assigned(ripas: Ripas, page: Gran) -> Entry
         ensures { result ≡ rows.assigned ripas page }
     {
@@ -56,7 +56,7 @@ impl Entry {
         }
     }
 
-    /// Creates an entry that leads to a table.
+    /// Creates a TABLE entry, which leads to another translation table.
     pub fn table(table: Gran) -> Entry
         ensures { result ≡ rows.table table }
     {
@@ -105,8 +105,8 @@ impl Entry {
         }
     }
 
-    /// The 64-bit word that encodes the entry. Bits 0 and 1 are the kind, bits 2 and 3 the RIPAS, and bits 12 to 47 the
-    /// address of the granule.
+    /// Returns the 64-bit word that encodes the table entry. Bits 0 and 1 are the kind, bits 2 and 3 the RIPAS, and
+    /// bits 12 to 47 the address of the granule.
     pub fn to_word(self) -> u64
         ensures { result ≡ entry_word self }
     {
@@ -127,7 +127,7 @@ impl Entry {
         kind + ripas * 4 + address
     }
 
-    /// Returns the entry that a word encodes. Each word encodes one.
+    /// Decodes a translation table entry from a 64-bit word. Each word encodes an entry.
     pub fn from_word(word: u64) -> Entry
         ensures { result ≡ entry_of word }
     {

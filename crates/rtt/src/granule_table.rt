@@ -1,4 +1,4 @@
-//! The table of a machine's granules.
+//! The table with the state and the realm of each granule of a machine.
 ghost use Rattle.std.specs.Prelude.{◌≡◌, ◌<◌, ◌≤◌, ◌↔◌, length, replicate, IsTrue, IfOk, slice_set};
 ghost use Rattle.std.specs.Bool.{OnTrue, OnFalse};
 ghost use Rattle.rtt.specs.Granules.{granule_at, undelegated};
@@ -28,7 +28,7 @@ impl Model for GranuleTable {
 }
 
 impl GranuleTable {
-    /// Creates the table of a machine of `pages` pages. Each granule is UNDELEGATED and of no realm.
+    /// Creates the granule table of a machine with `pages` pages. Each granule is UNDELEGATED and of no realm.
     pub fn build(alloc: Global, pages: u16) -> Result<GranuleTable, AllocError>
         requires some { 1 ≤ pages }
         requires few { pages ≤ 4096 }
@@ -38,7 +38,7 @@ impl GranuleTable {
         Ok(GranuleTable { granules })
     }
 
-    /// The number of granules.
+    /// Returns the number of granules in the table.
     pub fn pages(&self) -> u16
         ensures value { result ≡ length self.now }
         ensures some { 1 ≤ result }
@@ -47,7 +47,7 @@ impl GranuleTable {
         self.granules.len() as u16
     }
 
-    /// The state of a granule.
+    /// Returns the state of a granule.
     pub fn state(&self, granule: Gran) -> GranuleState
         requires { granule < length self.now }
         ensures { result ≡ (granule_at self.now granule).state }

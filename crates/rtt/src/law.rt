@@ -1,4 +1,4 @@
-//! Theorems on tables. They are in terms of a machine's pages and the states of its granules.
+//! Theorems on the translation tables of realms. They are in terms of a machine's pages and the states of its granules.
 ghost use Rattle.std.specs.Prelude.{◌≡◌, ℕ, List, Some};
 ghost use Rattle.granule_addr.specs.declared.width.Root.{Root};
 ghost use Rattle.rtt.specs.declared.granule.Granule.{Granule};
@@ -8,19 +8,19 @@ ghost use Rattle.rtt.specs.Tables.{rows};
 ghost use Rattle.rtt.specs.Realm.{HasTables, LeavesAlone};
 ghost use Rattle.rtt.specs.RowWords.{AreRowWords};
 
-/// The page of a table holds the words that encode the table's rows. RMM 1.0, RTT entry.
+/// The page of a translation table holds the words that encode its entries. RMM 1.0, RTT entry.
 pub fn tables_are_words()
     ensures { (pages : List (List ℕ)) (granules : List Granule) (rd : ℕ) (root : Root) → HasTables pages granules rd root → AreRowWords pages root }
 {}
 
-/// Each row of a realm's tables is a valid entry. Its state, RIPAS and granule are a valid combination. An UNASSIGNED
-/// row leads to nothing, any other row leads to a granule, and a TABLE row has no RIPAS.
+/// Each row of a realm's translation tables is a valid combination of state, RIPAS and granule. An UNASSIGNED row leads
+/// to nothing, any other row leads to a granule, and a TABLE row has no RIPAS.
 pub fn rows_are_entries()
     ensures { (pages : List (List ℕ)) (root : Root) (level ipa : ℕ) (row : Row) → row_at (rows pages root) level ipa ≡ Some row → IsEntry row }
 {}
 
-/// A realm that is left alone keeps its rows. If its tables and pages of data are left alone, its rows stay, and its
-/// tables keep their invariant.
+/// A realm's translation tables keep their entries if its RTT and DATA granules are left alone. The tables keep their
+/// invariant too.
 pub fn tables_left_alone_stay()
     ensures { (rd : ℕ) (root : Root) (pages : List (List ℕ)) (granules : List Granule) (new_pages : List (List ℕ)) (new_granules : List Granule)
         → HasTables pages granules rd root → LeavesAlone rd pages granules new_pages new_granules

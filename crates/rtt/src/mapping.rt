@@ -1,4 +1,4 @@
-//! The mapping of pages of data, and the setting of RIPAS.
+//! The mapping and unmapping of data pages in a realm, and the setting of RIPAS.
 ghost use Rattle.std.specs.Prelude.{◌≡◌, ℕ, ◌<◌, true, Some, None, OnOk, OnErr};
 ghost use Rattle.rtt.specs.Granules.{IsIn};
 ghost use Rattle.granule_addr.specs.Page.{zero_page};
@@ -110,7 +110,7 @@ impl Tables {
             return Err(Rtt { level });
         };
         store.fill(page, 0);
-        let ripas = unmapped(entry.ripas);
+        let ripas = ripas_after_unmap(entry.ripas);
         write(store, table, index_at(ipa, level), Entry::unassigned(ripas));
         granules.shift(page, GranuleState::Data, GranuleState::Delegated, None);
         Ok(())
@@ -161,7 +161,7 @@ impl Tables {
 }
 
 // The RIPAS of an entry after its page is unmapped.
-fn unmapped(ripas: Ripas) -> Ripas
+fn ripas_after_unmap(ripas: Ripas) -> Ripas
     ensures { result ≡ unmapped_ripas ripas }
 {
     match ripas {

@@ -1,4 +1,4 @@
-//! The reading and writing of entries in the pages of tables.
+//! Functions that read and write entries in the pages of translation tables.
 ghost use Rattle.std.specs.Prelude.{◌≡◌, ◌≢◌, ◌↔◌, ◌⊎◌, ℕ, ◌+◌, ◌<◌, ◌≤◌, true, false, length, IsTrue};
 ghost use Rattle.page_arena.specs.Page.{page_at, is_free};
 ghost use Rattle.page_arena.specs.Word.{word_at, with_word};

@@ -1,4 +1,4 @@
-//! The refusal of a call on tables.
+//! The refusal of an operation on translation tables, with its RTT level.
 ghost use Rattle.std.specs.Prelude.{◌≡◌};
 ghost use Rattle.realm_model.specs.Command.Check.{error_rtt};
 
@@ -6,15 +6,15 @@ use granule_addr::Level;
 use realm_model::{Rmi, Status};
 use thiserror::Error;
 
-/// The refusal of a call on tables. It has the level of the table whose entry is not what the call needs. RMM 1.0,
-/// RMI_ERROR_RTT.
+/// The refusal of an operation on a realm's translation tables. It has the level of the table whose entry is not what
+/// the operation needs. RMM 1.0, RMI_ERROR_RTT.
 #[derive(Clone, Copy, Debug, Drop, Error)]
 #[error("the entry at level {} is not what is needed", .level.number())]
 pub struct Rtt {
     pub level: Level,
 }
 
-/// Converts a refusal to the RMI result of the command.
+/// Converts the refusal of an operation on translation tables to an RMI result.
 impl From<Rtt> for Rmi {
     ghost from_gives = { λ refusal rmi. rmi ≡ error_rtt refusal.level };
 

@@ -1,4 +1,4 @@
-//! Tables below the starting tables.
+//! The creation and destruction of a realm's tables below the starting tables.
 ghost use Rattle.std.specs.Prelude.{◌≡◌, ℕ, ◌-◌, ◌<◌, true, Some, None, OnOk, OnErr};
 ghost use Rattle.rtt.specs.Granules.{IsIn};
 ghost use Rattle.granule_addr.specs.Page.{zero_page};
@@ -19,9 +19,9 @@ use page_arena::PageStore;
 use realm_model::{GranuleState, Ripas};
 
 impl Tables {
-    /// Creates the table that serves an IPA granule at a level. A DELEGATED granule becomes the table. The table's
-    /// entries are UNASSIGNED, and have the RIPAS of the entry above. The level is 2 or 3, and `ipa` the first IPA
-    /// granule that the table serves.
+    /// Creates the translation table of the given level for an IPA granule. A DELEGATED granule becomes the table. The
+    /// table's entries are UNASSIGNED, and have the RIPAS of the entry above. The level is 2 or 3, and `ipa` the first
+    /// IPA granule that the table serves.
     ///
     /// RMM 1.0, RMI_RTT_CREATE. RMI_ERROR_RTT comes with the level at which the walk ended, unless that is the level
     /// above and the entry there is not TABLE. A refusal changes nothing.
@@ -66,8 +66,8 @@ impl Tables {
         Ok(())
     }
 
-    /// Destroys the table that serves an IPA granule at a level. The table's page becomes zero and DELEGATED, and the
-    /// entry above becomes UNASSIGNED and DESTROYED.
+    /// Destroys the translation table of the given level for an IPA granule. The table's page becomes zero and
+    /// DELEGATED, and the entry above becomes UNASSIGNED and DESTROYED.
     ///
     /// RMM 1.0, RMI_RTT_DESTROY. RMI_ERROR_RTT comes with the level at which the walk ended, unless that is the level
     /// above and the entry there is TABLE. Then it comes with the table's level, unless its entries are all UNASSIGNED.

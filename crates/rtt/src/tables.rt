@@ -1,4 +1,4 @@
-//! The tables of a realm, and walks in them.
+//! The translation tables of a realm, and walks in them.
 ghost use Rattle.std.specs.Prelude.{◌≡◌, ℕ, ◌<◌, ◌≤◌, length, Some};
 ghost use Rattle.granule_addr.specs.Ipa.{entry_index};
 ghost use Rattle.granule_addr.specs.Root.{served_space};
@@ -15,12 +15,13 @@ use granule_addr::{Gran, IpaGran, Level, Root, index_at, start_table};
 use page_arena::PageStore;
 use std::marker::Model;
 
-/// The tables of a realm: its RD, and its starting tables. Nothing is kept beside their pages.
+/// The translation tables of a realm, given by its RD and its starting tables. Nothing is kept beside the tables'
+/// pages.
 #[derive(Clone, Copy)]
 pub struct Tables {
     /// The granule of the realm's RD.
     pub rd: Gran,
-    /// The starting tables, whose level is 1.
+    /// The realm's starting tables, whose RTT level is 1.
     pub root: Root,
 }
 
@@ -33,8 +34,8 @@ pub struct EntryAddress {
 }
 
 impl Tables {
-    /// Returns the end of the RTT walk for an IPA granule towards a level. That is the first entry on the way that is
-    /// not TABLE, or the one at that level.
+    /// Walks a realm's translation tables for an IPA granule, down to a level at most. Returns the first entry on the
+    /// way that is not TABLE, or the one at that level.
     pub fn walk<S: PageStore>(
         &self,
         store: &S,
@@ -104,7 +105,7 @@ pub fn find<S: PageStore>(
     }
 }
 
-/// The end of a walk. It is the level of a table, and the entry there. RMM 1.0, RTT walk.
+/// The result of an RTT walk: the last entry, and its table's level. RMM 1.0, RTT walk.
 #[derive(Clone, Copy)]
 pub struct Walk {
     pub level: Level,

@@ -12,7 +12,7 @@ use Rattle.run_json.specs.declared.items.PageItem.{PageItem}
 use Rattle.run_json.specs.declared.items.RecItem.{RecItem}
 use Rattle.run_json.specs.declared.realm.RealmItem.{RealmItem}
 use Rattle.run_json.specs.declared.world.EventLine.{EventLine}
-use Rattle.run_json.specs.declared.world.RealmWorld.{RealmWorld}
+use Rattle.run_json.specs.declared.world.RealmContents.{RealmContents}
 use Rattle.run_json.specs.declared.world.BuildItem.{BuildItem}
 use Rattle.run_json.specs.declared.world.WorldItem.{WorldItem}
 
@@ -33,14 +33,14 @@ abbrev pub AreRecItems : HostView → ℕ → ℕ → List RecItem → Type 0
 AreRecItems host build next items = AllZip (IsRecItem host build) (range_with_len 0 next) items
 
 -- a realm, with all of its rows and RECs
-abbrev pub IsRealmWith : HostView → ℕ → Option RealmItem → Option RealmWorld → Type 0
+abbrev pub IsRealmWith : HostView → ℕ → Option RealmItem → Option RealmContents → Type 0
 IsRealmWith host build None item = item ≡ None
 IsRealmWith host build (Some realm) None = ⊥
 IsRealmWith host build (Some realm) (Some item) =
     (item.realm ≡ realm) × AreRowsOf (world_of host) build item.rows.items × AreRecItems host build realm.next_rec item.recs.items
 
-abbrev pub IsRealmWorld : HostView → ℕ → Option RealmWorld → Type 0
-IsRealmWorld host build item = IsRealmWith host build (realm_item host build) item
+abbrev pub IsRealmContents : HostView → ℕ → Option RealmContents → Type 0
+IsRealmContents host build item = IsRealmWith host build (realm_item host build) item
 
 -- a build, with all that it has
 pub record IsBuildItem (host : HostView) (build : ℕ) (item : BuildItem) : Type 0 where
@@ -48,7 +48,7 @@ pub record IsBuildItem (host : HostView) (build : ℕ) (item : BuildItem) : Type
   pub kept_is : item.kept ≡ build_kept host build
   pub open_are : item.open.items ≡ open_lines build (open_of host build)
   pub pages_are : item.pages.items ≡ page_items host build (length (pages_of_build host build))
-  pub realm_is : IsRealmWorld host build item.realm
+  pub realm_is : IsRealmContents host build item.realm
 
 -- all builds
 abbrev pub AreBuildItems : HostView → ℕ → List BuildItem → Type 0

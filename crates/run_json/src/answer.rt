@@ -1,4 +1,4 @@
-//! The answers of turns as lists of numbers.
+//! The host's answers to builds' turns, as lists of numbers.
 ghost use Rattle.std.specs.Prelude.{◌≡◌, [], ◌∷◌};
 ghost use Rattle.realm_plan.specs.Answers.{reply_numbers, refusal_numbers};
 ghost use Rattle.run_json.specs.Answers.{refusal_number, answer_numbers, is_accepted_answer};
@@ -62,7 +62,8 @@ fn numbers_of_refusal(refusal: Refusal) -> ArrayVec<u32, MOST_NUMBERS>
     numbers
 }
 
-/// Returns the numbers of an answer. For a refusal, the first is the number of the refusal's kind.
+/// Converts the host's answer to a turn to a list of numbers. For a refusal, the first is the number of the refusal's
+/// kind.
 pub fn numbers_of(answer: &TurnAnswer) -> ArrayVec<u32, MOST_NUMBERS>
     ensures { result.items ≡ answer_numbers answer.now }
 {
@@ -78,7 +79,7 @@ pub fn numbers_of(answer: &TurnAnswer) -> ArrayVec<u32, MOST_NUMBERS>
     }
 }
 
-/// Whether the answer is not a refusal.
+/// Whether the host's answer to a turn is anything but a refusal.
 pub fn is_accepted_answer(answer: &TurnAnswer) -> bool
     ensures { result ≡ is_accepted_answer answer.now }
 {

@@ -1,9 +1,9 @@
-//! IDs of builds, made from numbers.
+//! The conversion of numbers to build IDs.
 ghost use Rattle.std.specs.Prelude.{◌≡◌, ◌<◌};
 
 use granule_addr::BuildId;
 
-/// The ID of build `number`.
+/// Converts a number below 8 to a build ID.
 pub fn id_of(number: u8) -> BuildId
     requires { number < 8 }
     ensures { result ≡ number }

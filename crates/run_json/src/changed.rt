@@ -5,8 +5,8 @@ ghost use Rattle.run_json.specs.Changes.{one_granule, granules_of, changes_realm
 use granule_addr::{Gran, Level, RecNo};
 use realm_model::Act;
 
-/// The granules that an operation changes. They are `granule`, the `count` granules from number `from` on, and those in
-/// `also`.
+/// The granules that an operation changes, as one granule, a range, and a list. They are `granule`, the `count`
+/// granules from number `from` on, and those in `also`.
 #[derive(Drop)]
 pub struct Changed<'a> {
     pub granule: Gran,
@@ -28,7 +28,7 @@ fn one<'a>(granule: Gran) -> Option<Changed<'a>>
     })
 }
 
-/// The granules whose state, lease or realm an operation changes.
+/// Returns the granules whose state, lease or realm an operation changes.
 pub fn granules_of(act: &Act) -> Option<Changed<'_>>
     ensures value { option_map (λ c. record { granule = c.granule; from = c.from; count = c.count; also = c.also.now }) result ≡ granules_of act.now }
     ensures few { IfSome result (λ c. c.from + c.count ≤ 65535) }
@@ -72,7 +72,7 @@ pub fn granules_of(act: &Act) -> Option<Changed<'_>>
     }
 }
 
-/// The REC that an operation makes, changes or destroys.
+/// Returns the number of the REC that an operation makes, changes or destroys.
 pub fn rec_named_by(act: &Act) -> Option<RecNo>
     ensures { result ≡ rec_named_by act.now }
 {
@@ -85,8 +85,7 @@ pub fn rec_named_by(act: &Act) -> Option<RecNo>
     }
 }
 
-/// Whether an operation changes the realm itself. That is a change of its existence, state, measurement, or the number
-/// of its next REC.
+/// Whether an operation changes a realm's existence, state, measurement or next REC number.
 pub fn changes_realm(act: &Act) -> bool
     ensures { result ≡ changes_realm act.now }
 {

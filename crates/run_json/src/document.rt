@@ -23,8 +23,8 @@ pub struct MachineSettings {
     pub builds: usize,
 }
 
-/// The document of a run. It has the settings of the machine, the turns, and the final state of the machine.
-/// `realmview` is the version of the format.
+/// The JSON document of a plan's run: machine settings, turns, and final machine state. `realmview` is the version of
+/// the format.
 #[derive(Drop, Serialize)]
 pub struct Document {
     pub realmview: u8,
@@ -90,7 +90,7 @@ fn turns_of<S: PageStore>(
     Ok(items)
 }
 
-/// Runs a plan on a host. Returns the document of the run. An `Err` comes only if allocation failed.
+/// Runs a plan on a host, and returns the JSON document of the run. An `Err` comes only if allocation failed.
 pub fn run_document<S: PageStore>(
     alloc: Global,
     host: &mut Host<S>,

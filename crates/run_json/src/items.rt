@@ -1,4 +1,4 @@
-//! JSON items for granules, rows of tables, RECs and pages. The items are as the host has them.
+//! The JSON items for granules, rows of translation tables, RECs and pages. The items are as the host has them.
 ghost use Rattle.std.specs.Prelude.{◌≡◌, IfOk};
 ghost use Rattle.run_json.specs.Items.{granule_item, row_item, IsRecItem, page_item};
 
@@ -14,7 +14,7 @@ use realm_plan::state_word;
 use serde::{Described, Serialize, Serializer};
 use std::alloc::{AllocError, Global};
 
-/// A granule, with its state, build and realm as the host has them.
+/// The JSON item of a granule, with its state, build and realm. They are as the host has them.
 #[derive(Clone, Copy)]
 pub struct GranuleItem {
     pub granule: Gran,
@@ -34,7 +34,7 @@ impl Serialize for GranuleItem {
     }
 }
 
-/// Returns a granule as the host has it. The result is `None` if the machine has no such granule.
+/// Returns the JSON item of a granule of a host's machine. The result is `None` if the machine has no such granule.
 pub fn granule_item<S: PageStore>(host: &Host<S>, granule: Gran) -> Option<GranuleItem>
     ensures { result ≡ granule_item host.now granule }
 {
@@ -42,7 +42,8 @@ pub fn granule_item<S: PageStore>(host: &Host<S>, granule: Gran) -> Option<Granu
     Some(GranuleItem { granule, view })
 }
 
-/// A series of equal rows of one level. It has the first row, and the number of rows.
+/// The JSON item of a series of equal rows in a realm's translation tables. The rows are at one level. The item has the
+/// first row, and the number of rows.
 #[derive(Clone, Copy)]
 pub struct RowItem {
     pub row: RowView,
@@ -65,8 +66,8 @@ impl Serialize for RowItem {
     }
 }
 
-/// Creates the item for `count` rows. The first is the row at which the RTT walk for an IPA granule towards a level
-/// ends.
+/// Creates the JSON item for `count` rows of a realm's translation tables. The first row is the one at which the RTT
+/// walk for an IPA granule towards a level ends.
 pub fn row_item<S: PageStore>(
     host: &Host<S>,
     build: BuildId,
@@ -80,7 +81,7 @@ pub fn row_item<S: PageStore>(
     Some(RowItem { row, count })
 }
 
-/// The host's view of a REC. It has the REC's granule, state and auxiliary granules.
+/// The granule, state and auxiliary granules of a REC.
 #[derive(Drop)]
 pub struct RecView {
     pub granule: Gran,
@@ -88,7 +89,7 @@ pub struct RecView {
     pub auxiliaries: Vec<Gran>,
 }
 
-/// The item of a REC. It has the REC's number, and the host's view of the REC if the REC exists.
+/// A REC number, with the host's view of the REC if it exists.
 #[derive(Drop)]
 pub struct RecItem {
     pub number: RecNo,
@@ -113,7 +114,7 @@ impl Serialize for RecItem {
     }
 }
 
-/// Returns a REC of a build's realm as the host has it. The REC's number is `number`.
+/// Returns the JSON item of the REC with number `number` in a build's realm. The item is as the host has the REC.
 pub fn rec_item<S: PageStore>(
     alloc: Global,
     host: &Host<S>,
@@ -137,7 +138,7 @@ pub fn rec_item<S: PageStore>(
     })
 }
 
-/// A build's page: its granule, and the sum of its bytes.
+/// The JSON item of a build's page: its granule and the sum of its bytes.
 #[derive(Clone, Copy)]
 pub struct PageItem {
     pub granule: Gran,
@@ -155,7 +156,7 @@ impl Serialize for PageItem {
     }
 }
 
-/// Returns a build's page as the host has it. The result is `None` if the build has no such page.
+/// Returns the granule and the byte sum of a build's page. The result is `None` if the build has no such page.
 pub fn page_item<S: PageStore>(host: &Host<S>, build: BuildId, page: u16) -> Option<PageItem>
     ensures { result ≡ page_item host.now build page }
 {

@@ -1,9 +1,9 @@
-//! Values in JSON.
+//! The writing of values as JSON text.
 use serde::{Described, Serialize, Serializer};
 use std::alloc::{AllocError, Global};
 use std::fmt::Display;
 
-/// A value that is a string in JSON. The string is the value's `Display` text.
+/// A value that is written in JSON as a string: its `Display` text.
 #[derive(Clone, Copy)]
 pub struct Shown<T>(pub T);
 
@@ -25,7 +25,7 @@ pub fn member<W: Serializer, T: Serialize>(
     value.serialize(out)
 }
 
-/// The JSON text of a value. An `Err` comes only if allocation failed.
+/// Converts a value to JSON text. An `Err` comes only if allocation failed.
 pub fn json_text<T: Serialize>(alloc: Global, value: &T) -> Result<String, AllocError> {
     match serde_json::to_string(alloc, value) {
         Ok(text) => Ok(text),

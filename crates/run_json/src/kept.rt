@@ -8,8 +8,8 @@ use page_arena::PageStore;
 use realm_host::Host;
 use serde::Serializer;
 
-/// A build's mark, and whether the build is aborting. `mark` is the number of operations that the build had open at its
-/// mark.
+/// A build's rollback mark, if any, and whether the build is aborting. `mark` is the number of operations that the
+/// build had open at its mark.
 #[derive(Clone, Copy)]
 pub struct BuildKept {
     pub mark: Option<u16>,
@@ -24,7 +24,7 @@ impl BuildKept {
     }
 }
 
-/// The mark of a build, and whether the build is aborting.
+/// Returns a build's rollback mark, if any, and whether the build is aborting.
 pub fn build_kept<S: PageStore>(host: &Host<S>, build: BuildId) -> BuildKept
     ensures { result ≡ build_kept host.now build }
 {

@@ -29,4 +29,4 @@ pub use page::page_of;
 pub use realm::RealmItem;
 pub use template::{HEAD, TAIL};
 pub use turn::{EventItem, StepItem, TurnItem};
-pub use world::{BuildItem, EventLine, RealmWorld, WorldItem, world_item};
+pub use world::{BuildItem, EventLine, RealmContents, WorldItem, world_item};

@@ -1,4 +1,4 @@
-//! The bytes of the HTML page of a run.
+//! The HTML page of a run, made from the run's JSON document.
 ghost use Rattle.std.specs.Prelude.{◌≡◌, ◌++◌, OnOk, IfOk};
 ghost use Rattle.run_json.specs.Page.{escaped, page_bytes};
 
@@ -19,9 +19,9 @@ fn push_escaped(page: &mut Vec<u8>, json: &[u8]) -> Result<(), AllocError>
     Ok(())
 }
 
-/// Returns the HTML page of a run. It is the template's head, the data in JSON, and the template's tail. In the data
-/// each `<` is written as `\u003c`, so that the data cannot end the script element around it. An `Err` comes only if
-/// allocation failed.
+/// Puts the JSON data of a run into the HTML page template. The page is the template's head, the data in JSON, and the
+/// template's tail. In the data each `<` is written as `\u003c`, so that the data cannot end the script element around
+/// it. An `Err` comes only if allocation failed.
 pub fn page_of(alloc: Global, json: &[u8]) -> Result<Vec<u8>, AllocError>
     ensures { IfOk result (λ page. page.items ≡ page_bytes json.now) }
 {

@@ -11,7 +11,7 @@ use realm_model::RealmState;
 use realm_plan::realm_word;
 use serde::{Described, Serialize, Serializer};
 
-/// A realm's own attributes, and its RD. RMM 1.0, Realm attributes.
+/// The JSON item of a realm: the realm's attributes and its RD. RMM 1.0, Realm attributes.
 #[derive(Clone, Copy)]
 pub struct RealmItem {
     pub rd: Gran,
@@ -47,7 +47,7 @@ impl Serialize for RealmItem {
     }
 }
 
-/// Returns a build's realm as the host has it. The result is `None` if the build has no realm.
+/// Returns the JSON item of a build's realm, if the build has a realm.
 pub fn realm_item<S: PageStore>(host: &Host<S>, build: BuildId) -> Option<RealmItem>
     ensures { result ≡ realm_item host.now build }
 {

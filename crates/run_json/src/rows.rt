@@ -96,8 +96,8 @@ fn count_same<S: PageStore>(host: &Host<S>, build: BuildId, row: &RowView) -> (u
     (count, next)
 }
 
-/// Returns the rows of a build's realm by ascending address. Each TABLE row comes before the rows of its table. Rows of
-/// one table that say the same, one after another, are one item.
+/// Returns the translation table rows of a build's realm, by ascending address. Each TABLE row comes before the rows of
+/// its table. Rows of one table that say the same, one after another, are one item.
 pub fn rows_of<S: PageStore>(
     alloc: Global,
     host: &Host<S>,

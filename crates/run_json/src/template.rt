@@ -1,6 +1,7 @@
-//! The parts of the page that precede and follow its data. `tools/page_template` makes this file of those in `page/`.
+//! The parts of a run's HTML page that precede and follow its data. `tools/page_template` makes this file of those in
+//! `page/`.
 
-/// The part of the page that precedes its data.
+/// The part of the HTML page that precedes the run's data.
 pub const HEAD: &str = "<!DOCTYPE html>
 <html lang=\"en\">
 <head>
@@ -261,7 +262,7 @@ footer { margin-top: 18px; padding-top: 8px; color: var(--soft); font-size: 13px
 <noscript><p>This page draws its data by a script, which is switched off here.</p></noscript>
 <script id=\"data\" type=\"application/json\">";
 
-/// The part of the page that follows its data.
+/// The part of the HTML page that follows the run's data.
 pub const TAIL: &str = "</script>
 <script>
 \"use strict\";

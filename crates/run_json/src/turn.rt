@@ -1,4 +1,4 @@
-//! The JSON item of a turn. It has the turn's step and answer, its event, and the changes that the event made.
+//! The JSON item of a build's turn: step, answer, event, and the event's changes.
 ghost use Rattle.std.specs.Prelude.{◌≡◌, ◌+◌, ◌≤◌, ◌++◌, OnOk, IfOk, slice_get, option_map};
 ghost use Rattle.run_json.specs.Turns.{step_view, placed, numbered_granule, more_granules, each_granule, changed_items, changed_view};
 ghost use Rattle.run_json.specs.Turns.{granules_after, rows_after, IsRecAfter, realm_after, IsEventItem, IsEventAt, IsAfterTurn};
@@ -19,7 +19,8 @@ use realm_plan::{PlanStep, StepText};
 use serde::{Described, Serialize, Serializer};
 use std::alloc::{AllocError, Global};
 
-/// A step as a plan spells it. The item also has the step's index in the build's list of steps, and the host's answer.
+/// The JSON item of a step: its index, its text, and the host's answer. The index is that in the build's list of steps,
+/// and the text is that of a plan.
 #[derive(Drop)]
 pub struct StepItem {
     pub place: usize,
@@ -27,8 +28,8 @@ pub struct StepItem {
     pub answer: TurnAnswer,
 }
 
-/// An event and the objects that it changed. The objects are as the host has them after the turn. A list is empty if
-/// the event changes no such object.
+/// A history event, with the RMM objects that it changed. The objects are as the host has them after the turn. A list
+/// is empty if the event changes no such object.
 #[derive(Drop)]
 pub struct EventItem {
     pub event: Event,
@@ -38,7 +39,8 @@ pub struct EventItem {
     pub realm: Option<Option<RealmItem>>,
 }
 
-/// A turn of a build. It has its step and its event, if any, and the build's state in the host after the turn.
+/// The JSON item of a build's turn: step, event, and build state afterwards. A step or an event is there only if the
+/// turn has one.
 #[derive(Drop)]
 pub struct TurnItem {
     pub build: BuildId,
@@ -127,7 +129,7 @@ fn step_item(
     })
 }
 
-/// Returns the item of a turn's step, with its index and answer. The result is `None` if the build has no step left.
+/// Returns the JSON item of a turn's step: index, text and answer. The result is `None` if the build has no step left.
 pub fn step_of(
     alloc: Global,
     place: usize,
@@ -157,7 +159,7 @@ fn push_numbered<S: PageStore>(
     Ok(())
 }
 
-/// Appends the items of `count` granules, from granule `from` on.
+/// Appends the JSON items of `count` granules, from granule `from` on.
 pub fn push_more_granules<S: PageStore>(
     items: &mut Vec<Option<GranuleItem>>,
     host: &Host<S>,
@@ -314,7 +316,8 @@ fn event_at<S: PageStore>(
     }
 }
 
-/// The JSON item of a turn that a build has just taken. The history had `before` events at the start of the turn.
+/// Returns the JSON item of a turn that a build has just taken. The history had `before` events at the start of the
+/// turn.
 pub fn turn_item<S: PageStore>(
     alloc: Global,
     host: &Host<S>,

@@ -1,10 +1,10 @@
-//! The words and numbers for the host's values in JSON. RMM 1.0, REC state, RTT entry state, RIPAS.
+//! The words and numbers that represent the host's values in JSON. RMM 1.0, REC state, RTT entry state, RIPAS.
 use granule_addr::{BuildId, Gran};
 use realm_model::{EntryState, RecState, Ripas};
 use serde::{Described, Serialize, Serializer};
 use std::fmt;
 
-/// The word for the state of a REC.
+/// Returns the JSON word for a REC's state.
 pub fn rec_state_word(state: RecState) -> &'static str {
     match state {
         RecState::Ready => "READY",
@@ -12,7 +12,7 @@ pub fn rec_state_word(state: RecState) -> &'static str {
     }
 }
 
-/// The word for the state of a row of a table.
+/// Returns the JSON word for the state of a translation table entry.
 pub fn entry_state_word(state: EntryState) -> &'static str {
     match state {
         EntryState::Unassigned => "UNASSIGNED",
@@ -21,7 +21,7 @@ pub fn entry_state_word(state: EntryState) -> &'static str {
     }
 }
 
-/// The word for the RIPAS of a row.
+/// Returns the JSON word for the RIPAS of a translation table entry.
 pub fn ripas_word(ripas: Ripas) -> &'static str {
     match ripas {
         Ripas::Empty => "EMPTY",
@@ -30,7 +30,7 @@ pub fn ripas_word(ripas: Ripas) -> &'static str {
     }
 }
 
-/// The number of a build, if there is one.
+/// Converts an optional build ID to an optional number.
 pub fn build_number(build: Option<BuildId>) -> Option<u8> {
     match build {
         Some(build) => Some(build.number()),
@@ -38,7 +38,7 @@ pub fn build_number(build: Option<BuildId>) -> Option<u8> {
     }
 }
 
-/// The number of a granule, if there is one.
+/// Converts an optional granule to the granule's number.
 pub fn granule_number(granule: Option<Gran>) -> Option<u16> {
     match granule {
         Some(granule) => Some(granule.number()),

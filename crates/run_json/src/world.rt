@@ -1,7 +1,7 @@
 //! The JSON item of a host's state. It has all granules, and the pages, open operations and realm of each build.
 ghost use Rattle.std.specs.Prelude.{◌≡◌, IfOk, length};
 ghost use Rattle.host_ledger.specs.View.{pages_of_build};
-ghost use Rattle.run_json.specs.Worlds.{all_granules, page_items, open_lines, AreRecItems, IsRealmWorld, IsBuildItem, AreBuildItems, IsWorldItem};
+ghost use Rattle.run_json.specs.Worlds.{all_granules, page_items, open_lines, AreRecItems, IsRealmContents, IsBuildItem, AreBuildItems, IsWorldItem};
 
 use crate::build_id::id_of;
 use crate::items::{GranuleItem, PageItem, RecItem, RowItem, page_item, rec_item};
@@ -30,17 +30,17 @@ impl Serialize for EventLine {
     }
 }
 
-/// A realm with its rows and its RECs. Each REC is at the index of its number.
+/// The JSON item of a realm, with its translation table rows and its RECs. Each REC is at the index of its number.
 #[derive(Drop)]
-pub struct RealmWorld {
+pub struct RealmContents {
     pub realm: RealmItem,
     pub rows: Vec<RowItem>,
     pub recs: Vec<RecItem>,
 }
 
-impl Described for RealmWorld {}
+impl Described for RealmContents {}
 
-impl Serialize for RealmWorld {
+impl Serialize for RealmContents {
     fn serialize<W: Serializer>(&self, out: &mut W) -> Result<(), W::Error> {
         out.begin_map(Some(10))?;
         self.realm.write(out)?;
@@ -50,15 +50,15 @@ impl Serialize for RealmWorld {
     }
 }
 
-/// A build and its state in the host. The item has the events of its open operations from the oldest on, its pages, and
-/// its realm.
+/// The JSON item of a build: its marks, open operations, pages and realm. The open operations are events, from the
+/// oldest on.
 #[derive(Drop)]
 pub struct BuildItem {
     pub build: BuildId,
     pub kept: BuildKept,
     pub open: Vec<EventLine>,
     pub pages: Vec<Option<PageItem>>,
-    pub realm: Option<RealmWorld>,
+    pub realm: Option<RealmContents>,
 }
 
 impl Described for BuildItem {}
@@ -75,7 +75,7 @@ impl Serialize for BuildItem {
     }
 }
 
-/// The state of a host. It has the number of granules that nobody leases, all granules, and all builds.
+/// The JSON item of a host's state: its granules and its builds. It also has the number of granules that nobody leases.
 #[derive(Drop, Serialize)]
 pub struct WorldItem {
     pub free: u16,
@@ -144,13 +144,13 @@ fn realm_world<S: PageStore>(
     alloc: Global,
     host: &Host<S>,
     build: BuildId,
-) -> Result<Option<RealmWorld>, AllocError>
-    ensures { IfOk result (IsRealmWorld host.now build) }
+) -> Result<Option<RealmContents>, AllocError>
+    ensures { IfOk result (IsRealmContents host.now build) }
 {
     let Some(realm) = realm_item(host, build) else {
         return Ok(None);
     };
-    Ok(Some(RealmWorld {
+    Ok(Some(RealmContents {
         rows: rows_of(alloc, host, build)?,
         recs: recs_of(alloc, host, build, realm.next_rec)?,
         realm,
@@ -186,7 +186,7 @@ fn builds_of<S: PageStore>(alloc: Global, host: &Host<S>) -> Result<Vec<BuildIte
     Ok(items)
 }
 
-/// The state of a host, as an item of the document. An `Err` comes only if allocation failed.
+/// Returns the JSON item of a host's state: its granules and its builds. An `Err` comes only if allocation failed.
 pub fn world_item<S: PageStore>(alloc: Global, host: &Host<S>) -> Result<WorldItem, AllocError>
     ensures { IfOk result (IsWorldItem host.now) }
 {

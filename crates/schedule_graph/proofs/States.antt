@@ -21,7 +21,7 @@ use Rattle.realm_plan.specs.Plan.{Plan}
 use Rattle.realm_plan.specs.declared.step.PlanStep.{PlanStep}
 use Rattle.plan_replay.specs.Place.{first_place, moved_on}
 use Rattle.plan_replay.specs.Run.{Position, Turn, place_of, step_after, map_text, IsTurnOf, IsTurn, AreTurns}
-use Rattle.plan_replay.specs.Turn.{answer_of_mark, last_mark, to_go_back, left_after, IsCommandTurn, IsUndoTurn, IsMarkTurn, IsOneOfMany, IsTurnOfMany, IsToAbort, IsAbortTurn, IsStepTurn}
+use Rattle.plan_replay.specs.Turn.{answer_of_mark, last_mark, undos_to_go, left_after, IsCommandTurn, IsUndoTurn, IsMarkTurn, IsOneOfMany, IsTurnOfMany, IsToAbort, IsAbortTurn, IsStepTurn}
 use Rattle.plan_replay.specs.declared.answer.TurnAnswer.{TurnAnswer}
 use Rattle.plan_replay.specs.declared.answer.TurnAnswer.TheVariants as tells
 use Rattle.plan_replay.specs.declared.place.PlanCursor.{PlanCursor}
@@ -199,16 +199,16 @@ module _ (b : ℕ) (place other : PlanCursor) (alike_places : progress_of other 
 
   -- ---- a way back
 
-  go_back_alike : (host twin : HostView) → DifferInInterleaving host twin → AreKeptAlike b host twin place.mark other.mark → to_go_back twin b other ≡ to_go_back host b place
+  go_back_alike : (host twin : HostView) → DifferInInterleaving host twin → AreKeptAlike b host twin place.mark other.mark → undos_to_go twin b other ≡ undos_to_go host b place
   go_back_alike host twin differ kept = λ i.
       cond (same_left i == 0) (above_mark_alike host twin differ b place.mark other.mark kept i) (Ok (same_left i))
 
   back_too : (host twin new : HostView) (answer : TurnAnswer) (after : PlanCursor) → DifferInInterleaving host twin
-      → AreKeptAlike b host twin place.mark other.mark → IsTurnOfMany (to_go_back host b place) host b place answer new after
-      → Too (λ then also. IsTurnOfMany (to_go_back twin b other) twin b other answer then also) b host twin new after
+      → AreKeptAlike b host twin place.mark other.mark → IsTurnOfMany (undos_to_go host b place) host b place answer new after
+      → Too (λ then also. IsTurnOfMany (undos_to_go twin b other) twin b other answer then also) b host twin new after
   back_too host twin new answer after differ kept is =
       subst (λ count. Too (λ then also. IsTurnOfMany count twin b other answer then also) b host twin new after) (sym (go_back_alike host twin differ kept))
-      (many_too (to_go_back host b place) host twin new answer after differ kept is)
+      (many_too (undos_to_go host b place) host twin new answer after differ kept is)
 
   -- ---- a mark
 

@@ -1,15 +1,15 @@
-//! The first path that shows a property, and the first path that does not.
+//! Finds a graph's first path that shows a property, and its first path without it.
 ghost use Rattle.std.specs.Prelude.{◌≡◌, ◌<◌, nat_lt, Bool, true, option_map, slice_index_or, [], IfOk, Some, map, vec_items};
 ghost use Rattle.std.specs.List.{find};
 ghost use Rattle.schedule_graph.specs.First.{layers_in, path_numbers_in, first_like, any_path, shows_none};
 ghost use Rattle.schedule_graph.specs.First.{ArePathNumbers, goes_on};
 ghost use Rattle.schedule_graph.specs.Paths.{paths, shows, count_at};
 
-use crate::graph::{Edge, Sign};
+use crate::graph::{Edge, LabelProperty};
 use crate::path_number::PathNumber;
 use std::alloc::{AllocError, Global};
 
-/// Returns the path numbers of a layer. There are none if there is no such layer.
+/// Returns the numbers of paths from the states of one layer of a graph. There are none if there is no such layer.
 pub(crate) fn numbers_at(counts: &[Vec<PathNumber>], depth: usize) -> &[PathNumber]
     ensures { result.now ≡ slice_index_or (path_numbers_in counts.now) depth [] }
 {
@@ -30,16 +30,16 @@ fn has_paths(counts: &[PathNumber], state: usize) -> bool
 }
 
 // Whether an accepted path can continue along an edge.
-fn goes_on<L, S: Sign<L>>(
+fn goes_on<L, S: LabelProperty<L>>(
     edge: &Edge<L>,
-    sign: &S,
+    property: &S,
     shown: bool,
     with_it: &[PathNumber],
     without_it: &[PathNumber],
 ) -> bool
-    ensures { result ≡ goes_on (S.is_on sign.now) shown with_it.now without_it.now edge.now }
+    ensures { result ≡ goes_on (S.holds_for property.now) shown with_it.now without_it.now edge.now }
 {
-    if shown || sign.is_on(&edge.label) {
+    if shown || property.holds_for(&edge.label) {
         has_paths(with_it, edge.to)
     } else {
         has_paths(without_it, edge.to)
@@ -47,18 +47,18 @@ fn goes_on<L, S: Sign<L>>(
 }
 
 // The first edge along which an accepted path can continue, if there is one.
-fn next_edge<'a, L, S: Sign<L>>(
+fn next_edge<'a, L, S: LabelProperty<L>>(
     edges: &'a [Edge<L>],
-    sign: &S,
+    property: &S,
     shown: bool,
     with_it: &[PathNumber],
     without_it: &[PathNumber],
 ) -> Option<&'a Edge<L>>
     ensures { option_map (λ edge. edge.now) result
-        ≡ find (goes_on (S.is_on sign.now) shown with_it.now without_it.now) edges.now }
+        ≡ find (goes_on (S.holds_for property.now) shown with_it.now without_it.now) edges.now }
 {
     for edge in edges {
-        if goes_on(edge, sign, shown, with_it, without_it) {
+        if goes_on(edge, property, shown, with_it, without_it) {
             return Some(edge);
         }
     }
@@ -77,19 +77,19 @@ fn edges_at<L>(layer: &[Vec<Edge<L>>], state: usize) -> &[Edge<L>]
 
 // Returns the labels of the first accepted path from the first state. `accept` decides by whether a path shows the
 // property. `with_it` counts the accepted paths once the property was shown, and `without_it` before.
-fn walk<L: Copy, S: Sign<L>>(
+fn walk<L: Copy, S: LabelProperty<L>>(
     alloc: Global,
     layers: &[Vec<Vec<Edge<L>>>],
-    sign: &S,
+    property: &S,
     with_it: &[Vec<PathNumber>],
     without_it: &[Vec<PathNumber>],
 ) -> Result<Vec<L>, AllocError>
     ensures { IfOk result (λ labels. (accept : Bool → Bool)
         → ArePathNumbers (λ path. accept true) (layers_in layers.now) (path_numbers_in with_it.now)
-        → ArePathNumbers (λ path. accept (shows (S.is_on sign.now) path)) (layers_in layers.now)
+        → ArePathNumbers (λ path. accept (shows (S.holds_for property.now) path)) (layers_in layers.now)
         (path_numbers_in without_it.now)
         → 0 < count_at (slice_index_or (path_numbers_in without_it.now) 0 []) 0
-        → first_like (λ path. accept (shows (S.is_on sign.now) path)) (paths (layers_in layers.now) 0)
+        → first_like (λ path. accept (shows (S.holds_for property.now) path)) (paths (layers_in layers.now) 0)
         ≡ Some labels.items) }
 {
     let mut labels = Vec::new(alloc);
@@ -99,51 +99,51 @@ fn walk<L: Copy, S: Sign<L>>(
         let edges = edges_at(&layers[depth], state);
         let with_next = numbers_at(with_it, depth + 1);
         let without_next = numbers_at(without_it, depth + 1);
-        let Some(edge) = next_edge(edges, sign, shown, with_next, without_next) else {
+        let Some(edge) = next_edge(edges, property, shown, with_next, without_next) else {
             return Ok(labels);
         };
         labels.push(edge.label)?;
-        shown = shown || sign.is_on(&edge.label);
+        shown = shown || property.holds_for(&edge.label);
         state = edge.to;
     }
     Ok(labels)
 }
 
-/// Finds the first path that shows the property. The paths are those from the first state. Returns the path's labels,
-/// or `None` if no path shows the property. `all` counts all paths, and `with_it` those that show the property. The one
-/// error is that allocation failed.
-pub fn first_with<L: Copy, S: Sign<L>>(
+/// Finds the first path with an edge whose label has the property. Such a path shows the property. The paths are those
+/// from the first state. Returns the path's labels, or `None` if no path shows the property. `all` counts all paths,
+/// and `with_it` those that show the property. The one error is that allocation failed.
+pub fn first_with<L: Copy, S: LabelProperty<L>>(
     alloc: Global,
     layers: &[Vec<Vec<Edge<L>>>],
-    sign: &S,
+    property: &S,
     all: &[Vec<PathNumber>],
     with_it: &[Vec<PathNumber>],
 ) -> Result<Option<Vec<L>>, AllocError>
     ensures { IfOk result (λ first. ArePathNumbers any_path (layers_in layers.now) (path_numbers_in all.now)
-        → ArePathNumbers (shows (S.is_on sign.now)) (layers_in layers.now) (path_numbers_in with_it.now)
-        → first_like (shows (S.is_on sign.now)) (paths (layers_in layers.now) 0) ≡ option_map vec_items first) }
+        → ArePathNumbers (shows (S.holds_for property.now)) (layers_in layers.now) (path_numbers_in with_it.now)
+        → first_like (shows (S.holds_for property.now)) (paths (layers_in layers.now) 0) ≡ option_map vec_items first) }
 {
     if !has_paths(numbers_at(with_it, 0), 0) {
         return Ok(None);
     }
-    Ok(Some(walk(alloc, layers, sign, all, with_it)?))
+    Ok(Some(walk(alloc, layers, property, all, with_it)?))
 }
 
-/// Finds the first path that does not show the property. The paths are those from the first state. Returns the path's
-/// labels, or `None` if each path shows the property. `without_it` counts the paths that do not. The one error is that
-/// allocation failed.
-pub fn first_without<L: Copy, S: Sign<L>>(
+/// Finds the first path on which no edge's label has the property. The paths are those from the first state. Returns
+/// the path's labels, or `None` if each path shows the property. `without_it` counts the paths that do not. The one
+/// error is that allocation failed.
+pub fn first_without<L: Copy, S: LabelProperty<L>>(
     alloc: Global,
     layers: &[Vec<Vec<Edge<L>>>],
-    sign: &S,
+    property: &S,
     without_it: &[Vec<PathNumber>],
 ) -> Result<Option<Vec<L>>, AllocError>
     ensures { IfOk result (λ first.
-        ArePathNumbers (shows_none (S.is_on sign.now)) (layers_in layers.now) (path_numbers_in without_it.now)
-        → first_like (shows_none (S.is_on sign.now)) (paths (layers_in layers.now) 0) ≡ option_map vec_items first) }
+        ArePathNumbers (shows_none (S.holds_for property.now)) (layers_in layers.now) (path_numbers_in without_it.now)
+        → first_like (shows_none (S.holds_for property.now)) (paths (layers_in layers.now) 0) ≡ option_map vec_items first) }
 {
     if !has_paths(numbers_at(without_it, 0), 0) {
         return Ok(None);
     }
-    Ok(Some(walk(alloc, layers, sign, &[], without_it)?))
+    Ok(Some(walk(alloc, layers, property, &[], without_it)?))
 }

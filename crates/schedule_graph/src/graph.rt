@@ -1,4 +1,4 @@
-//! Graphs of states in layers, and the counts of their paths.
+//! Layered graphs of states, and functions that count their paths.
 ghost use Rattle.std.specs.Prelude.{◌≡◌, ◌+◌, Bool, List, ◌∷◌, OnOk, IfOk, map, vec_items};
 ghost use Rattle.schedule_graph.specs.Paths.{Layer, AreCounts, AreCountsWith, AreCountsWithout, count_at, path_count, with_count, without_count};
 
@@ -12,13 +12,13 @@ pub struct Edge<L> {
     pub to: usize,
 }
 
-/// A property of labels. A path shows the property if one of the path's labels has it.
-pub trait Sign<L> {
-    ghost is_on: { Self → L → Bool };
+/// A property that the label of an edge may have. A path shows the property if one of the path's labels has it.
+pub trait LabelProperty<L> {
+    ghost holds_for: { Self → L → Bool };
 
-    /// Whether the label has the property.
-    fn is_on(&self, label: &L) -> bool
-        ensures { result ≡ is_on self.now label.now };
+    /// Whether an edge's label has the property.
+    fn holds_for(&self, label: &L) -> bool
+        ensures { result ≡ holds_for self.now label.now };
 }
 
 // Adds the count of a state, if there is such a state.
@@ -50,18 +50,18 @@ fn count_from<L>(
 }
 
 // Returns how many paths from a state with the given edges show the property.
-fn count_with<L, S: Sign<L>>(
+fn count_with<L, S: LabelProperty<L>>(
     alloc: Global,
     edges: &[Edge<L>],
-    sign: &S,
+    property: &S,
     next: &[PathNumber],
     next_with: &[PathNumber],
 ) -> Result<PathNumber, AllocError>
-    ensures { IfOk result (λ count. count ≡ with_count (S.is_on sign.now) next.now next_with.now edges.now) }
+    ensures { IfOk result (λ count. count ≡ with_count (S.holds_for property.now) next.now next_with.now edges.now) }
 {
     let mut sum = PathNumber::zero(alloc);
     for edge in edges {
-        let counts = if sign.is_on(&edge.label) {
+        let counts = if property.holds_for(&edge.label) {
             next
         } else {
             next_with
@@ -72,28 +72,28 @@ fn count_with<L, S: Sign<L>>(
 }
 
 // Returns how many paths from a state with the given edges do not show the property.
-fn count_without<L, S: Sign<L>>(
+fn count_without<L, S: LabelProperty<L>>(
     alloc: Global,
     edges: &[Edge<L>],
-    sign: &S,
+    property: &S,
     next_without: &[PathNumber],
 ) -> Result<PathNumber, AllocError>
-    ensures { IfOk result (λ count. count ≡ without_count (S.is_on sign.now) next_without.now edges.now) }
+    ensures { IfOk result (λ count. count ≡ without_count (S.holds_for property.now) next_without.now edges.now) }
 {
     if edges.is_empty() {
         return Ok(PathNumber::one(alloc));
     }
     let mut sum = PathNumber::zero(alloc);
     for edge in edges {
-        if !sign.is_on(&edge.label) {
+        if !property.holds_for(&edge.label) {
             add_at(&mut sum, next_without, edge.to)?;
         }
     }
     Ok(sum)
 }
 
-/// Counts the paths from each state of a layer. `next` has the counts of the next layer. The one error is that
-/// allocation failed.
+/// Counts the paths from each state of one layer of a graph. `next` has the counts of the next layer. The one error is
+/// that allocation failed.
 pub fn count_paths<L>(
     alloc: Global,
     layer: &[Vec<Edge<L>>],
@@ -110,42 +110,42 @@ pub fn count_paths<L>(
     Ok(counts)
 }
 
-/// Counts the paths that show the property, from each state of a layer. The counts of the next layer are given. `next`
-/// counts all paths, and `next_with` those that show the property. The one error is that allocation failed.
-pub fn count_paths_with<L, S: Sign<L>>(
+/// For each state of a graph's layer, counts the paths that show the property. The counts of the next layer are given.
+/// `next` counts all paths, and `next_with` those that show the property. The one error is that allocation failed.
+pub fn count_paths_with<L, S: LabelProperty<L>>(
     alloc: Global,
     layer: &[Vec<Edge<L>>],
-    sign: &S,
+    property: &S,
     next: &[PathNumber],
     next_with: &[PathNumber],
 ) -> Result<Vec<PathNumber>, AllocError>
     ensures { IfOk result (λ counts. (layers : List (Layer L)) → AreCounts layers next.now
-        → AreCountsWith (S.is_on sign.now) layers next_with.now
-        → AreCountsWith (S.is_on sign.now) (map vec_items layer.now ∷ layers) counts.items) }
+        → AreCountsWith (S.holds_for property.now) layers next_with.now
+        → AreCountsWith (S.holds_for property.now) (map vec_items layer.now ∷ layers) counts.items) }
 {
     let mut counts = Vec::new(alloc);
     for edges in layer {
-        let count = count_with(alloc, edges, sign, next, next_with)?;
+        let count = count_with(alloc, edges, property, next, next_with)?;
         counts.push(count)?;
     }
     Ok(counts)
 }
 
-/// Counts the paths that do not show the property, from each state of a layer. `next_without` has their counts in the
-/// next layer. The one error is that allocation failed.
-pub fn count_paths_without<L, S: Sign<L>>(
+/// For each state of a graph's layer, counts the paths that do not show the property. `next_without` has their counts
+/// in the next layer. The one error is that allocation failed.
+pub fn count_paths_without<L, S: LabelProperty<L>>(
     alloc: Global,
     layer: &[Vec<Edge<L>>],
-    sign: &S,
+    property: &S,
     next_without: &[PathNumber],
 ) -> Result<Vec<PathNumber>, AllocError>
     ensures { IfOk result (λ counts. (layers : List (Layer L))
-        → AreCountsWithout (S.is_on sign.now) layers next_without.now
-        → AreCountsWithout (S.is_on sign.now) (map vec_items layer.now ∷ layers) counts.items) }
+        → AreCountsWithout (S.holds_for property.now) layers next_without.now
+        → AreCountsWithout (S.holds_for property.now) (map vec_items layer.now ∷ layers) counts.items) }
 {
     let mut counts = Vec::new(alloc);
     for edges in layer {
-        let count = count_without(alloc, edges, sign, next_without)?;
+        let count = count_without(alloc, edges, property, next_without)?;
         counts.push(count)?;
     }
     Ok(counts)

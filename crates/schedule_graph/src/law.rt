@@ -13,8 +13,8 @@ ghost use Rattle.schedule_graph.specs.Graph.{first_of, IsGraph, IsPathRun};
 ghost use Rattle.schedule_graph.specs.Paths.{Layer, paths};
 ghost use Rattle.schedule_graph.specs.State.{AreOneState, IsAlsoTaken, AreAlsoTaken};
 
-/// A state decides its turns. Positions that count as one state have the same next steps, the same turns with the same
-/// answers, and the same map of the host. A turn, or any number of them, leads from the two to one state again.
+/// Proves that run positions that are one state have the same turns and answers. The next steps are the same too, and
+/// so is the map of the host. A turn, or any number of them, leads from two such positions to one state again.
 pub fn a_state_decides_its_turns()
     ensures steps { (plan : Plan) (one other : Position) → AreOneState one other → (build : ℕ)
         → step_after plan build (place_of other.places build).done ≡ step_after plan build (place_of one.places build).done }
@@ -25,9 +25,9 @@ pub fn a_state_decides_its_turns()
     ensures map { (one other : Position) → AreOneState one other → map_text other.host ≡ map_text one.host }
 {}
 
-/// A build decides its own calls. A call that needs no block and no VMID does not depend on what other builds did. Take
-/// hosts of the same machine on which the build did the same, and is in abort on both or neither. There a call has the
-/// same refusal, and a command the same operation.
+/// Proves that calls needing no block and no VMID are independent of other builds' operations. Take hosts of the same
+/// machine on which the build did the same, and is in abort on both or neither. There a call has the same refusal, and
+/// a command the same operation.
 pub fn a_build_decides_its_own_calls()
     ensures refusal { (build : ℕ) (host twin : HostView) (call : Call) → DidTheSameAlone build host twin → NeedsNothingShared call
         → refusal_of twin build call ≡ refusal_of host build call }
@@ -35,9 +35,9 @@ pub fn a_build_decides_its_own_calls()
         → act_asked twin build cmd ≡ act_asked host build cmd }
 {}
 
-/// Each path of a graph of states is a run of the plan. The run is in the schedule of the path, with the answers of the
-/// path. It goes from a state of the first layer, and from any position that is the same state. It does not matter
-/// which schedule led to the states that the graph has.
+/// Proves that each path of a graph of states is a run of the plan. The run is in the schedule of the path, with the
+/// answers of the path. It goes from a state of the first layer, and from any position that is the same state. It does
+/// not matter which schedule led to the states that the graph has.
 pub fn a_path_is_a_run()
     ensures { (plan : Plan) (states : List (List Position)) (layers : List (Layer Turn)) (number : ℕ) (at from : Position)
         → IsGraph plan states layers → slice_get (first_of states) number ≡ Some at → AreOneState at from

@@ -1,14 +1,14 @@
-//! The numbers of paths from each state of each layer.
+//! Counts the paths from each state of each layer of a graph.
 ghost use Rattle.std.specs.Prelude.{◌≡◌, IfOk};
 ghost use Rattle.schedule_graph.specs.First.{layers_in, path_numbers_in, any_path, shows_none, ArePathNumbers};
 ghost use Rattle.schedule_graph.specs.Paths.{shows};
 
 use crate::first::numbers_at;
-use crate::graph::{Edge, Sign, count_paths, count_paths_with, count_paths_without};
+use crate::graph::{Edge, LabelProperty, count_paths, count_paths_with, count_paths_without};
 use crate::path_number::PathNumber;
 use std::alloc::{AllocError, Global};
 
-/// Returns the number of paths from each state of each layer. The one error is that allocation failed.
+/// Counts the paths from each state of each layer of a graph. The one error is that allocation failed.
 pub fn count_all<L>(
     alloc: Global,
     layers: &[Vec<Vec<Edge<L>>>],
@@ -26,44 +26,44 @@ pub fn count_all<L>(
     Ok(counts)
 }
 
-/// Counts the paths that show the property, from each state of each layer. `all` has the numbers of all paths. The one
+/// For each state of each layer, counts the paths that show the property. `all` has the numbers of all paths. The one
 /// error is that allocation failed.
-pub fn count_all_with<L, S: Sign<L>>(
+pub fn count_all_with<L, S: LabelProperty<L>>(
     alloc: Global,
     layers: &[Vec<Vec<Edge<L>>>],
-    sign: &S,
+    property: &S,
     all: &[Vec<PathNumber>],
 ) -> Result<Vec<Vec<PathNumber>>, AllocError>
     ensures { IfOk result (λ counts. ArePathNumbers any_path (layers_in layers.now) (path_numbers_in all.now)
-        → ArePathNumbers (shows (S.is_on sign.now)) (layers_in layers.now) (path_numbers_in counts.items)) }
+        → ArePathNumbers (shows (S.holds_for property.now)) (layers_in layers.now) (path_numbers_in counts.items)) }
 {
     let mut counts: Vec<Vec<PathNumber>> = Vec::new(alloc);
     for done in 0..layers.len() {
         let depth = layers.len() - 1 - done;
         let all_next = numbers_at(all, depth + 1);
         let next = numbers_at(&counts, done.saturating_sub(1));
-        let here = count_paths_with(alloc, &layers[depth], sign, all_next, next)?;
+        let here = count_paths_with(alloc, &layers[depth], property, all_next, next)?;
         counts.push(here)?;
     }
     counts.reverse();
     Ok(counts)
 }
 
-/// Counts the paths that do not show the property, from each state of each layer. The one error is that allocation
+/// For each state of each layer, counts the paths that do not show the property. The one error is that allocation
 /// failed.
-pub fn count_all_without<L, S: Sign<L>>(
+pub fn count_all_without<L, S: LabelProperty<L>>(
     alloc: Global,
     layers: &[Vec<Vec<Edge<L>>>],
-    sign: &S,
+    property: &S,
 ) -> Result<Vec<Vec<PathNumber>>, AllocError>
     ensures { IfOk result (λ counts.
-        ArePathNumbers (shows_none (S.is_on sign.now)) (layers_in layers.now) (path_numbers_in counts.items)) }
+        ArePathNumbers (shows_none (S.holds_for property.now)) (layers_in layers.now) (path_numbers_in counts.items)) }
 {
     let mut counts: Vec<Vec<PathNumber>> = Vec::new(alloc);
     for done in 0..layers.len() {
         let depth = layers.len() - 1 - done;
         let next = numbers_at(&counts, done.saturating_sub(1));
-        let here = count_paths_without(alloc, &layers[depth], sign, next)?;
+        let here = count_paths_without(alloc, &layers[depth], property, next)?;
         counts.push(here)?;
     }
     counts.reverse();

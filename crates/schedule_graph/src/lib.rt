@@ -14,7 +14,7 @@ mod number;
 mod path_number;
 
 pub use first::{first_with, first_without};
-pub use graph::{Edge, Sign, count_paths, count_paths_with, count_paths_without};
+pub use graph::{Edge, LabelProperty, count_paths, count_paths_with, count_paths_without};
 pub use layers::{count_all, count_all_with, count_all_without};
 pub use number::Count;
 pub use path_number::PathNumber;

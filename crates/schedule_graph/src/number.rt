@@ -1,11 +1,11 @@
-//! Numbers without an upper bound, for counting schedules.
+//! Natural numbers without an upper bound, in decimal digits, for counting schedules.
 ghost use Rattle.std.specs.Prelude.{◌≡◌, ℕ, ◌+◌, ◌*◌, ◌^◌, ◌<◌, ◌≤◌, ◌==◌, List, ◌++◌, length, map, reverse, All, OnOk, IfOk, string_bytes};
 ghost use Rattle.schedule_graph.specs.Number.{number_of, trimmed, numeral};
 
 use std::alloc::{AllocError, Global};
 use std::marker::Model;
 
-/// A number without an upper bound. It is kept as its decimal digits, the lowest first, and seen as the number.
+/// A natural number of any size, kept as its decimal digits. The lowest digit is first. The view is the number.
 #[derive(Drop)]
 pub struct Count {
     digits: Vec<u8>,
@@ -145,7 +145,7 @@ impl Count {
         Ok(Count { digits })
     }
 
-    /// Returns the `Count` of a number. The one error is that allocation failed.
+    /// Converts a `u128` to a `Count`. The one error is that allocation failed.
     pub(crate) fn of(alloc: Global, number: u128) -> Result<Count, AllocError>
         ensures { IfOk result (λ count. count ≡ number) }
     {
@@ -175,14 +175,14 @@ impl Count {
         Ok(shifted)
     }
 
-    /// Adds 1. At an `Err` allocation failed, and the number may be any.
+    /// Adds 1 to the number. At an `Err` allocation failed, and the number may be any.
     pub fn add_one(&mut self) -> Result<(), AllocError>
         ensures { OnOk result (self.new ≡ self.old + 1) }
     {
         add_at(&mut self.digits, 0, 1)
     }
 
-    /// Adds another number. At an `Err` allocation failed, and the number may be any.
+    /// Adds another number to this one. At an `Err` allocation failed, and the number may be any.
     pub fn add(&mut self, other: &Count) -> Result<(), AllocError>
         ensures { OnOk result (self.new ≡ self.old + other.now) }
     {

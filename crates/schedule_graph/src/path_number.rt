@@ -5,8 +5,8 @@ use crate::number::Count;
 use std::alloc::{AllocError, Global};
 use std::marker::Model;
 
-/// A natural number without an upper bound. Stored as its remainder and quotient on division by 2^128. Seen as the
-/// number.
+/// A natural number of any size, by which paths are counted. Stored as its remainder and quotient on division by 2^128.
+/// Seen as the number.
 #[derive(Drop)]
 pub struct PathNumber {
     low: u128,
@@ -61,7 +61,7 @@ impl PathNumber {
         self.low == 0 && self.high.is_zero()
     }
 
-    /// Returns the number in decimal digits. The one error is that allocation failed.
+    /// Converts the number to a `Count`, which has decimal digits. The one error is that allocation failed.
     pub fn count(&self, alloc: Global) -> Result<Count, AllocError>
         ensures { IfOk result (λ count. count ≡ self.now) }
     {

@@ -1,5 +1,5 @@
-//! Scripts for a host, with the expected answers. A script has calls of the host's builds, and readings of the host's
-//! state.
+//! Test scripts: calls to a host, with the expected answers. A script has calls of the host's builds, and readings of
+//! the host's state.
 use crate::expected::holds_at;
 use crate::hosts::{booted, over_arena};
 use crate::readings::is_read;
@@ -10,10 +10,10 @@ use realm_host::{Cmd, GranuleState, Host, Kind, Mark, RealmState, Refusal, Reply
 use std::alloc::Global;
 use std::process::Abort;
 
-/// A script: a sequence of calls, each with the number of its build.
+/// A test script: a sequence of calls, each with the number of its build.
 pub(crate) type Script = &'static [(u8, Call)];
 
-/// A command of a build.
+/// A command that a build gives in a test script.
 pub(crate) enum Command {
     /// Leases a block of 2^order pages.
     Take(u8),
@@ -26,24 +26,24 @@ pub(crate) enum Command {
     Rec,
 }
 
-/// The answer to a command that is accepted.
-pub(crate) enum Said {
+/// The expected reply to an accepted command of a test script.
+pub(crate) enum AcceptedAnswer {
     Done,
     FirstPage(u16),
     Vmid(u8),
     Number(u16),
 }
 
-/// The reason why a call is refused.
+/// The reason for which a script expects a call to be refused.
 pub(crate) enum No {
     Build,
     Aborting,
-    /// A page that the build does not have.
+    /// A refusal because the build does not have the page.
     Page(u16),
     NothingToUndo,
 }
 
-/// One of the last two marks of a script.
+/// One of the last two marks that a script has set.
 pub(crate) enum Which {
     Newest,
     /// The mark before the newest one.
@@ -52,21 +52,23 @@ pub(crate) enum Which {
 
 /// A call to a host, with the expected answer. Some calls only read the host's state.
 pub(crate) enum Call {
-    Ask(Command, Result<Said, No>),
-    /// An undo. The answer is the kind of the undone operation, and the number of operations left open.
+    Ask(Command, Result<AcceptedAnswer, No>),
+    /// An undo of the build's newest open operation, with the expected answer. The answer is the kind of the undone
+    /// operation, and the number of operations left open.
     Undo(Result<(Kind, u16), No>),
     BeginAbort(Result<u16, No>),
     Abort(Result<u16, No>),
-    /// A mark. The answer is the number of operations open at the mark.
+    /// A call that sets a mark of the build, with the expected answer. The answer is the number of operations open at
+    /// the mark.
     Mark(Result<u16, No>),
     CheckBack(Which, Result<u16, No>),
     /// A check of a rollback to a mark, and then the rollback. Both have the same expected answer.
     GoBack(Which, Result<u16, No>),
-    /// The numbers of free pages, all pages, and the build's pages.
+    /// A reading of the numbers of free pages, all pages, and the build's pages.
     Pages(u16, u16, u16),
-    /// The state of a page, and the sum of its bytes.
+    /// A reading of the state of a page and the sum of its bytes.
     Page(u16, GranuleState, u32),
-    /// The state of the build's realm, and its VMID.
+    /// A reading of the state and the VMID of the build's realm.
     Realm(Option<(RealmState, u8)>),
     Measurement(Option<[u8; 32]>),
 }
@@ -106,12 +108,12 @@ fn vmid(number: u8) -> Vmid {
     Vmid::new(number.max(1)).unwrap()
 }
 
-fn reply(want: &Result<Said, No>) -> Result<Reply, Refusal> {
+fn reply(want: &Result<AcceptedAnswer, No>) -> Result<Reply, Refusal> {
     match want {
-        Ok(Said::Done) => Ok(Reply::Done),
-        Ok(Said::FirstPage(page)) => Ok(Reply::FirstPage(*page)),
-        Ok(Said::Vmid(number)) => Ok(Reply::Vmid(vmid(*number))),
-        Ok(Said::Number(number)) => Ok(Reply::Number(RecNo::new(*number))),
+        Ok(AcceptedAnswer::Done) => Ok(Reply::Done),
+        Ok(AcceptedAnswer::FirstPage(page)) => Ok(Reply::FirstPage(*page)),
+        Ok(AcceptedAnswer::Vmid(number)) => Ok(Reply::Vmid(vmid(*number))),
+        Ok(AcceptedAnswer::Number(number)) => Ok(Reply::Number(RecNo::new(*number))),
         Err(no) => Err(no.of_host()),
     }
 }

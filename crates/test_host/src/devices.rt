@@ -17,7 +17,8 @@ fn failure(call: u64) -> io::Error {
     }
 }
 
-/// An input in memory. A read gives at most `most` bytes, and one chosen read can fail. Reads are counted from 0.
+/// An in-memory input device for tests, which can fail at a chosen read. A read gives at most `most` bytes. Reads are
+/// counted from 0.
 #[derive(Drop)]
 pub(crate) struct Source<'a> {
     pub rest: &'a [u8],
@@ -40,8 +41,8 @@ impl Read for Source<'_> {
     }
 }
 
-/// An output in memory. A write takes at most `most` bytes. One chosen write can fail, and so can a flush. Writes are
-/// counted from 0.
+/// An in-memory output device for tests, which can fail at a write or flush. A write takes at most `most` bytes. The
+/// write that fails is chosen by its number, counted from 0.
 #[derive(Drop)]
 pub(crate) struct Sink {
     got: Vec<u8>,
@@ -81,8 +82,9 @@ impl Write for Sink {
     }
 }
 
-/// The settings of a program's input and output. They are the input bytes, the limits on bytes per read and write, and
-/// the calls that fail. A failed test is named by the case, and by the number of the call.
+/// The settings of a tested program's in-memory devices: input, limits and failures. The limits are on the bytes per
+/// read and write, and the failures are calls that fail. A failed test is named by the case, and by the number of the
+/// call.
 #[derive(Clone, Copy)]
 pub(crate) struct Devices<'a> {
     pub case: &'a str,
@@ -168,8 +170,8 @@ impl<'a> Devices<'a> {
     }
 }
 
-/// The outcome of a program. It is the program's result, the number of input bytes left, and the output with the
-/// numbers of writes and flushes.
+/// The expected outcome of a tested program: its result, input left, and output. The input left is a number of bytes.
+/// With the output are the numbers of writes and flushes.
 #[derive(Clone, Copy)]
 pub(crate) struct Outcome<'a> {
     pub end: Result<(), Fault>,
@@ -215,7 +217,7 @@ impl<'a> Outcome<'a> {
     }
 
     /// Checks that a program ended with this outcome.
-    pub(crate) fn came(
+    pub(crate) fn check_outcome(
         &self,
         rt: &impl Abort,
         devices: &Devices<'_>,

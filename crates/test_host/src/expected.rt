@@ -20,12 +20,12 @@ pub(crate) fn holds(rt: &impl Abort, what: &str, is_so: bool) {
     equal(rt, what, u64::from(is_so), 1);
 }
 
-/// Checks that a condition holds for one row of a table. `place` is the index of the row.
+/// Checks that a condition holds for one row of a table of test cases. `place` is the index of the row.
 pub(crate) fn holds_at(rt: &impl Abort, what: &str, place: usize, is_so: bool) {
     assert!(rt; is_so, "{what}, row {place}");
 }
 
-/// Returns the store that was built. If there is none, aborts the test.
+/// Returns a page store that was built, or aborts the test at an error.
 pub(crate) fn built<S>(rt: &impl Abort, store: Result<S, BuildError>) -> S {
     match store {
         Ok(store) => store,

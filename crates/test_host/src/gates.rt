@@ -1,23 +1,23 @@
-//! Gates at which builds wait for one another, or wait in vain.
+//! Gates (turn schedulers) at which builds wait for one another, or in vain.
 use builders::{Gate, Stuck};
 use granule_addr::BuildId;
 use std::sync::atomic::{AtomicU64, Ordering};
 use std::thread;
 use std::time::{Clock, Duration};
 
-/// A gate at which two builds meet before their turn 2. Each build gets this turn only after the other build has asked
-/// for its own.
+/// A turn scheduler under which two builds wait for each other before turn 2. Each build gets this turn only after the
+/// other build has asked for its own.
 #[derive(Drop)]
-pub(crate) struct Together<'a, C: Clock> {
+pub(crate) struct MeetingGate<'a, C: Clock> {
     clock: &'a C,
     first: AtomicU64,
     second: AtomicU64,
 }
 
-impl<'a, C: Clock> From<&'a C> for Together<'a, C> {
-    /// Creates a gate that sleeps by the given clock while it waits.
-    fn from(clock: &'a C) -> Together<'a, C> {
-        Together {
+impl<'a, C: Clock> From<&'a C> for MeetingGate<'a, C> {
+    /// Creates a turn scheduler that sleeps by the given clock while a build waits.
+    fn from(clock: &'a C) -> MeetingGate<'a, C> {
+        MeetingGate {
             clock,
             first: AtomicU64::new(0),
             second: AtomicU64::new(0),
@@ -25,7 +25,7 @@ impl<'a, C: Clock> From<&'a C> for Together<'a, C> {
     }
 }
 
-impl<'a, C: Clock> Gate for Together<'a, C> {
+impl<'a, C: Clock> Gate for MeetingGate<'a, C> {
     ghost passes = { λ gate build turn. Unit {0} };
 
     ghost stops = { λ gate build turn. Unit {0} };
@@ -50,7 +50,7 @@ impl<'a, C: Clock> Gate for Together<'a, C> {
     }
 }
 
-/// A gate that stops all builds but build 0 at their turn 1.
+/// A turn scheduler that stops all builds but build 0 at their turn 1.
 #[derive(Drop)]
 pub(crate) struct ForBuild0;
 

@@ -1,4 +1,4 @@
-//! Guests of a shared host. Guests are builds with a seat each, and their steps differ only in a fill value.
+//! Guests: builds that share a host in a test. Each has a seat, and their steps differ only in a fill value.
 use crate::steps::{STEPS, guest_steps};
 use crate::tellers::Refusing;
 use builders::{Gate, Ledgers, Report, Seat, SeatTeller, Shared, work};
@@ -8,7 +8,8 @@ use std::alloc::Global;
 use std::process::Abort;
 use std::sync::Wait;
 
-/// A guest, and the results of its run. `refused` is the index of its refused step, if it has one.
+/// A build that shares a host in a test, with the results of its run. `refused` is the index of its refused step, if it
+/// has one.
 #[derive(Drop)]
 pub struct Guest<L: Ledgers> {
     pub seat: Seat<L>,
@@ -19,7 +20,7 @@ pub struct Guest<L: Ledgers> {
 }
 
 impl<L: Ledgers> Guest<L> {
-    /// Performs the guest's steps, and keeps the results.
+    /// Performs the steps of this guest (a build), and keeps the results.
     pub(crate) fn run<R: Wait + Abort, S: PageStore, G: Gate>(
         &mut self,
         rt: &R,
@@ -45,7 +46,7 @@ impl<L: Ledgers> Guest<L> {
     }
 }
 
-/// Creates a guest for each seat. Build 1 is refused the step with the index `refused`.
+/// Creates a guest for each build's session handle (seat). Build 1 is refused the step with the index `refused`.
 pub(crate) fn guests_of<L: Ledgers>(
     rt: &impl Abort,
     alloc: Global,

@@ -1,4 +1,4 @@
-//! Hosts on which no build has done anything. If one is not made, the test is aborted, so nothing is dropped there.
+//! Boots, shares and closes hosts for tests. If a host is not made, the test is aborted, so nothing is dropped there.
 ghost use Rattle.std.specs.Prelude.{◌≡◌, [], true, length, replicate};
 ghost use Rattle.granule_addr.specs.Page.{zero_page};
 ghost use Rattle.build_seats.specs.Names.{AreNamed};
@@ -58,7 +58,7 @@ pub(crate) fn over_arena(
     }
 }
 
-/// Shares a host among its builds, and returns it with a seat for each build.
+/// Shares a host among its builds, and returns it with their session handles (seats).
 pub(crate) fn started<S: PageStore + Drop, L: Ledgers>(
     rt: &impl Abort,
     alloc: Global,
@@ -75,7 +75,7 @@ pub(crate) fn started<S: PageStore + Drop, L: Ledgers>(
     }
 }
 
-/// Closes a shared host with all of its seats, and returns the host.
+/// Closes a shared host with all session handles (seats), and returns the host.
 pub(crate) fn closed<S: PageStore + Drop, L: Ledgers>(
     rt: &impl Abort,
     shared: Shared<S, L>,

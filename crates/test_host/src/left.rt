@@ -1,4 +1,4 @@
-//! Checks of a host after the runs of three guests.
+//! Checks of the pages and realms that the runs of three builds leave on a host.
 use crate::expected::{holds, same_text};
 use granule_addr::BuildId;
 use page_arena::PageStore;
@@ -41,8 +41,8 @@ free 8
     text.expect(rt, "memory")
 }
 
-/// Checks that the guests of builds 0 and 2 are left. Both still have all their pages, and realms under different
-/// VMIDs. Build 1 has nothing.
+/// Checks that builds 0 and 2 still have all their pages and their realms. The VMIDs of the realms differ. Build 1 has
+/// nothing.
 pub(crate) fn has_two_guests<S: PageStore>(rt: &impl Abort, alloc: Global, host: &Host<S>) {
     let vmid0 = vmid_of(rt, host, 0);
     let vmid2 = vmid_of(rt, host, 2);
@@ -54,8 +54,8 @@ pub(crate) fn has_two_guests<S: PageStore>(rt: &impl Abort, alloc: Global, host:
     same_text(rt, seen.as_str(), want.as_str());
 }
 
-/// Checks that a host's map is the map without build 1. Applies the history without build 1's events to `fresh`, and
-/// compares the maps of both hosts.
+/// Checks that a host's printed map of pages and realms shows nothing of build 1. Applies the history without build 1's
+/// events to `fresh`, and compares the maps of both hosts.
 pub(crate) fn is_without_build_1<S: PageStore>(
     rt: &impl Abort,
     alloc: Global,

@@ -1,4 +1,4 @@
-//! Tests of the host. Tested too are the crates that the host uses, and the programs that use the host.
+//! Tests of the host, of its crates, and of the programs that use it.
 //!
 //! Worked values: blocks of the arena, numbers of a machine, words of results and of table entries, and measured bytes.
 //! With them are scripts of calls that no plan makes, or whose answers no plan prints. The expected values are worked

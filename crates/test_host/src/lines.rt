@@ -1,40 +1,40 @@
-//! Expected lines of reports, written with plain numbers.
+//! Expected lines of workers' reports, written with plain numbers.
 use crate::expected::{equal, holds_at};
 use builders::{Answer, Asked, ReportLine};
 use granule_addr::RecNo;
 use realm_host::{Kind, Refusal, Reply, Rmi, Undone};
 use std::process::Abort;
 
-/// The reason why a step is refused.
+/// The reason for which a test expects a step to be refused.
 #[derive(Drop)]
 pub(crate) enum No {
     HistoryFull,
     NothingToUndo,
     RecRunning,
-    /// The status RMI_ERROR_INPUT.
+    /// A refusal by the RMM with the status RMI_ERROR_INPUT.
     Input,
-    /// A page that the build does not have.
+    /// A refusal because the build does not have the page.
     Page(u16),
 }
 
-/// An expected line of a report. The first number of a step's line is that of the step.
+/// An expected line of a worker's report. The first number of a step's line is that of the step.
 #[derive(Drop)]
 pub(crate) enum Line {
     Done(usize),
-    /// The first page of the block that is leased.
+    /// The reply to a Take step: the first page of the leased block.
     Page(usize, u16),
     Byte(usize, u8),
     Marked(usize, u16),
-    /// An abort or a `back` with nothing to undo.
+    /// An abort step or a `back` step with nothing to undo.
     Nothing(usize),
     No(usize, No),
-    /// An undo by an abort or a `back`. The last number is that of the operations left open.
+    /// An undo of one operation by an abort step or a `back` step. The last number is that of the operations left open.
     StepUndone(usize, Kind, u16),
-    /// An undo after a refusal. The number is that of the operations left open.
+    /// An accepted undo after a refused step. The number is that of the operations left open.
     Undone(Kind, u16),
-    /// A refused undo after a refusal. The undo is refused because the history is full.
+    /// An undo that is refused, after the refusal of a step. The undo is refused because the history is full.
     UndoRefused,
-    /// The exit of a REC after a refusal. The number is that of the REC.
+    /// The exit of a REC after a refused step. The number is that of the REC.
     Exited(u16),
 }
 
@@ -66,7 +66,7 @@ impl Line {
         }
     }
 
-    /// Returns the answer that the line reports.
+    /// Converts the expected line to the answer in a line of a report.
     pub(crate) fn answer(&self) -> Answer {
         match self {
             Line::Done(_) | Line::Exited(_) => Answer::Replied(Reply::Done),

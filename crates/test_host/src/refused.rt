@@ -1,5 +1,5 @@
-//! Tests of refusals to one of three builds. Each command of the build is refused once, while the two other builds go
-//! on.
+//! Tests in which commands of one of three builds are refused. Each command of the build is refused once, while the two
+//! other builds go on.
 ghost use Rattle.std.specs.Prelude.{◌≡◌, []};
 ghost use Rattle.build_seats.specs.Names.{AreNamed};
 

@@ -31,7 +31,7 @@ fn replays(
     let mut input = devices.source();
     let mut output = devices.sink(alloc);
     let end = replay(alloc, &mut input, &mut output, erase);
-    want.came(rt, devices, end, input.device(), output.device());
+    want.check_outcome(rt, devices, end, input.device(), output.device());
 }
 
 #[test]

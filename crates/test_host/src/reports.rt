@@ -1,4 +1,4 @@
-//! Checks of the reports of guests.
+//! Checks that reports of guest builds have the expected lines.
 use crate::expected::{equal, holds_at};
 use crate::lines::{Line, No};
 use crate::steps::{ENTER, STEPS};
@@ -28,7 +28,8 @@ fn accepted(rt: &impl Abort, report: &Report, steps: usize) {
     }
 }
 
-/// Checks that all steps of a guest are accepted. The lines of the report are exactly those of the steps.
+/// Checks by a report that all steps of a guest build were accepted. The lines of the report are exactly those of the
+/// steps.
 pub(crate) fn is_accepted(rt: &impl Abort, report: &Report) {
     accepted(rt, report, STEPS);
     equal(rt, "lines", report.lines.len() as u64, STEPS as u64);
@@ -62,8 +63,8 @@ fn is_undone(rt: &impl Abort, report: &Report, mut place: usize, refused: usize)
     equal(rt, "lines", report.lines.len() as u64, place as u64);
 }
 
-/// Checks that a guest is refused the step `refused`. All steps before this step are accepted. Then a REC that runs
-/// exits, and all is undone.
+/// Checks by a report that step `refused` of a guest build was refused. All steps before this step are accepted. Then a
+/// REC that runs exits, and all is undone.
 pub(crate) fn is_refused(rt: &impl Abort, report: &Report, refused: usize) {
     accepted(rt, report, refused);
     has_line(rt, report, refused, &Line::No(refused, No::Input));

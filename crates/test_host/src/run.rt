@@ -1,7 +1,7 @@
 //! Tests of running a plan in threads. The runs are over bytes in memory, over devices that fail, and at gates.
 use crate::devices::{Devices, Outcome};
 use crate::expected::equal;
-use crate::gates::{ForBuild0, Together};
+use crate::gates::{ForBuild0, MeetingGate};
 use builders::{Gate, OpenGate};
 use command_line::Reason;
 use granule_addr::BuildId;
@@ -43,12 +43,12 @@ fn runs<R: Threads + Wait + Abort + Sync, G: Gate + Sync>(
     let mut input = devices.source();
     let mut output = devices.sink(alloc);
     let end = run(rt, alloc, &mut input, &mut output, gate);
-    want.came(rt, devices, end, input.device(), output.device());
+    want.check_outcome(rt, devices, end, input.device(), output.device());
 }
 
 #[test]
 fn each_build_reads_after_both_have_filled(rt: HostRuntime) {
-    let gate = Together::from(&rt);
+    let gate = MeetingGate::from(&rt);
     let want = Outcome::printed(TEXT, 1);
     let devices = Devices::working("both have filled", PLAN);
     runs(&rt, rt.alloc(), &gate, &devices, &want);

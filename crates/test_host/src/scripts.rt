@@ -1,9 +1,9 @@
-//! Tests of calls by scripts, over both kinds of store. They are calls that no plan makes, or whose answers no plan
-//! prints.
-use crate::calls::{Call, Command, No, Said, Script, Which, over_both};
+//! Tests of scripts of calls to a host, over both kinds of page store. They are calls that no plan makes, or whose
+//! answers no plan prints.
+use crate::calls::{AcceptedAnswer, Call, Command, No, Script, Which, over_both};
 use realm_host::{GranuleState, Kind, RealmState};
 
-const FIRST_PAGE: Result<Said, No> = Ok(Said::FirstPage(0));
+const FIRST_PAGE: Result<AcceptedAnswer, No> = Ok(AcceptedAnswer::FirstPage(0));
 
 // A script in which a build that is aborting is refused everything but undos.
 const ABORTS: Script = &[
@@ -23,11 +23,11 @@ const ABORTS: Script = &[
 // A script in which a build goes back to a mark, but not after an undo of an operation that was open at the mark.
 const MARKS: Script = &[
     (0, Call::Ask(Command::Take(2), FIRST_PAGE)),
-    (0, Call::Ask(Command::Delegate(0), Ok(Said::Done))),
+    (0, Call::Ask(Command::Delegate(0), Ok(AcceptedAnswer::Done))),
     (0, Call::Mark(Ok(2))),
-    (0, Call::Ask(Command::Delegate(1), Ok(Said::Done))),
-    (0, Call::Ask(Command::Fill(2, 5), Ok(Said::Done))),
-    (0, Call::Ask(Command::Delegate(2), Ok(Said::Done))),
+    (0, Call::Ask(Command::Delegate(1), Ok(AcceptedAnswer::Done))),
+    (0, Call::Ask(Command::Fill(2, 5), Ok(AcceptedAnswer::Done))),
+    (0, Call::Ask(Command::Delegate(2), Ok(AcceptedAnswer::Done))),
     (0, Call::CheckBack(Which::Newest, Ok(2))),
     (0, Call::Undo(Ok((Kind::Delegate, 3)))),
     (0, Call::GoBack(Which::Newest, Ok(1))),
@@ -74,17 +74,17 @@ const MEASUREMENT: Script = &[
     (0, Call::Realm(None)),
     (0, Call::Measurement(None)),
     (0, Call::Ask(Command::Take(2), FIRST_PAGE)),
-    (0, Call::Ask(Command::Delegate(0), Ok(Said::Done))),
-    (0, Call::Ask(Command::Delegate(1), Ok(Said::Done))),
-    (0, Call::Ask(Command::Delegate(2), Ok(Said::Done))),
-    (0, Call::Ask(Command::Realm, Ok(Said::Vmid(1)))),
+    (0, Call::Ask(Command::Delegate(0), Ok(AcceptedAnswer::Done))),
+    (0, Call::Ask(Command::Delegate(1), Ok(AcceptedAnswer::Done))),
+    (0, Call::Ask(Command::Delegate(2), Ok(AcceptedAnswer::Done))),
+    (0, Call::Ask(Command::Realm, Ok(AcceptedAnswer::Vmid(1)))),
     (0, Call::Realm(Some((RealmState::New, 1)))),
     (0, Call::Measurement(Some([0; 32]))),
-    (0, Call::Ask(Command::Rec, Ok(Said::Number(0)))),
+    (0, Call::Ask(Command::Rec, Ok(AcceptedAnswer::Number(0)))),
     (0, Call::Measurement(Some(AFTER_REC_0))),
     (0, Call::Undo(Ok((Kind::Rec, 5)))),
     (0, Call::Measurement(Some(AFTER_REC_0))),
-    (0, Call::Ask(Command::Rec, Ok(Said::Number(1)))),
+    (0, Call::Ask(Command::Rec, Ok(AcceptedAnswer::Number(1)))),
     (0, Call::Measurement(Some(AFTER_REC_1))),
 ];
 

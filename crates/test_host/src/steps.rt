@@ -26,10 +26,10 @@ pub(crate) const IS_REFUSED: Words = &["take 1", "delegate 0", "delegate 0", "fi
 /// Steps that take a page, fill it, and read its last byte.
 pub(crate) const READS: Words = &["take 0", "fill 0 2", "peek 0 4095"];
 
-/// The number of steps of a guest.
+/// The number of steps of each guest build in the tests.
 pub(crate) const STEPS: usize = 18;
 
-/// The index of the step that enters the REC. The REC runs from then on.
+/// The index of the guest build's step that enters its REC. The REC runs from then on.
 pub(crate) const ENTER: usize = 16;
 
 // The steps of a guest, from leasing a block of eight pages to running a realm. Its one page of memory has the bytes of
@@ -55,8 +55,8 @@ const GUEST: Words = &[
     "poke 0 0 4095 1",
 ];
 
-/// Returns the steps of a guest. After the steps, the guest's page of memory has the given value in each byte but the
-/// last.
+/// Returns the steps of a guest build that fills a page with `value`. After the steps, the guest's page of memory has
+/// this value in each byte but the last.
 pub(crate) fn guest_steps(rt: &impl Abort, alloc: Global, value: u8) -> Vec<Step> {
     let mut steps = steps_of(rt, alloc, GUEST);
     assert!(rt; steps.len() == STEPS);

@@ -1,4 +1,4 @@
-//! A teller that refuses one question of a seat's build.
+//! A client of a host for tests, which refuses a chosen question of a worker.
 ghost use Rattle.std.specs.Prelude.{◌+◌, ◌*◌};
 
 use builders::{Ledgers, SeatTeller, Teller};
@@ -7,8 +7,8 @@ use realm_host::{Cmd, Mark, Refusal, Reply, Undone};
 use realm_model::Rmi;
 use std::sync::Wait;
 
-/// A teller that refuses at most one question, without asking the host. It passes all other questions on to a seat.
-/// Questions are numbered from 0.
+/// A client of a host that refuses at most one question of its worker. It does not ask the host that question. It
+/// passes all other questions on to a seat. Questions are numbered from 0.
 #[derive(Drop)]
 pub struct Refusing<'a, R: Wait, S: PageStore, L: Ledgers> {
     pub teller: SeatTeller<'a, R, S, L>,

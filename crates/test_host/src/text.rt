@@ -1,4 +1,4 @@
-//! Tests of the lines for refusals that no plan can cause.
+//! Tests of the printed lines for refusals that no plan can cause.
 use crate::expected::same_text;
 use granule_addr::BuildId;
 use host_commands::{Refusal, Step};

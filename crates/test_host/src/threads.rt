@@ -4,7 +4,7 @@ ghost use Rattle.std.specs.Prelude.{◌≡◌, [], All};
 ghost use Rattle.build_seats.specs.Names.{AreNamed};
 
 use crate::expected::{equal, holds, same_text};
-use crate::gates::{ForBuild0, Together};
+use crate::gates::{ForBuild0, MeetingGate};
 use crate::hosts::{booted, closed, started};
 use crate::lines::{Line, No, has_lines};
 use crate::steps::{FILLS, IS_REFUSED, READS, Words, steps_of};
@@ -204,7 +204,7 @@ free 11
 
 #[test]
 fn each_reads_after_both_have_filled(rt: HostRuntime) {
-    let gate = Together::from(&rt);
+    let gate = MeetingGate::from(&rt);
     let outcome = boot_and_work(&rt, rt.alloc(), &gate, 2, 2, TWO);
     let reports: &[&[Line]] = &[
         &[Line::Page(0, 0), Line::Done(1), Line::Byte(2, 9)],

@@ -1,4 +1,4 @@
-//! A gate at which builds wait for one another.
+//! A turn scheduler for tests, under which builds wait for one another.
 use crate::steps::STEPS;
 use builders::{Gate, Stuck};
 use granule_addr::BuildId;
@@ -6,7 +6,7 @@ use std::sync::atomic::{AtomicU64, Ordering};
 use std::thread;
 use std::time::{Clock, Duration};
 
-/// The builds that wait, and the build that they wait for.
+/// The rule by which some builds wait for another build at each turn.
 #[derive(Clone, Copy)]
 pub enum Waiting {
     /// Build 1 waits for build 2 at each turn. Build 2 must have passed the gate at the turn with the same number, or
@@ -17,7 +17,7 @@ pub enum Waiting {
     ForBuild1,
 }
 
-/// A gate at which three builds wait for one another. It counts the turns that each build has passed.
+/// A turn scheduler under which three builds wait for one another. It counts the turns that each build has passed.
 #[derive(Drop)]
 pub struct Turns<'a, C: Clock> {
     clock: &'a C,

@@ -12,7 +12,7 @@ fn visited(rt: &impl Abort, arena: &BuddyArena, count: u64) {
 
 // Takes a page and gives it back, and checks that each call reads `count` block sizes.
 #[tactic(auto, using(page_arena::specs::Blocks::taken_block))]
-fn comes_and_goes(rt: &impl Abort, arena: &mut BuddyArena, count: u64) {
+fn check_take_and_give(rt: &impl Abort, arena: &mut BuddyArena, count: u64) {
     let one = order(0);
     let Some(page) = arena.take(one) else {
         panic!(rt; "no page is free");
@@ -26,7 +26,7 @@ fn comes_and_goes(rt: &impl Abort, arena: &mut BuddyArena, count: u64) {
 fn of_512_pages(rt: HostRuntime) {
     let mut arena = built(&rt, BuddyArena::build(rt.alloc(), 512));
     visited(&rt, &arena, 0);
-    comes_and_goes(&rt, &mut arena, 10);
+    check_take_and_give(&rt, &mut arena, 10);
     holds(&rt, "all pages", arena.take(order(9)).is_some());
     visited(&rt, &arena, 1);
     holds(&rt, "no page is left", arena.take(order(0)).is_none());
@@ -36,5 +36,5 @@ fn of_512_pages(rt: HostRuntime) {
 #[test]
 fn of_one_page(rt: HostRuntime) {
     let mut arena = built(&rt, BuddyArena::build(rt.alloc(), 1));
-    comes_and_goes(&rt, &mut arena, 1);
+    check_take_and_give(&rt, &mut arena, 1);
 }

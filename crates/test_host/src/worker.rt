@@ -1,4 +1,4 @@
-//! Tests of a worker with a fake teller and a fake gate, without a host.
+//! Tests of a build's worker with a fake host client and a fake scheduler.
 ghost use Rattle.std.specs.Prelude.{◌≡◌, ◌+◌, ◌*◌, ◌≤◌, [], length, vec_capacity};
 
 use crate::expected::holds;

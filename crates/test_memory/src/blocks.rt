@@ -1,4 +1,4 @@
-//! Many rounds of taking a block and giving it back. The test times them.
+//! A timed test that takes a block of pages and gives it back many times.
 use crate::{Fault, tell};
 use buddy::BuddyArena;
 use granule_addr::{Gran, Order};
@@ -9,7 +9,7 @@ const TIMES: u32 = 200_000;
 
 // Takes a block of 512 pages that the store chooses, and gives it back.
 #[tactic(auto, using(page_arena::specs::Blocks::taken_block))]
-fn comes_and_goes(arena: &mut BuddyArena, order: Order) -> bool {
+fn take_and_give(arena: &mut BuddyArena, order: Order) -> bool {
     match arena.take(order) {
         Some(first) => {
             arena.give(first, order);
@@ -21,7 +21,7 @@ fn comes_and_goes(arena: &mut BuddyArena, order: Order) -> bool {
 
 // Takes the block of 512 pages that begins at granule `first`, and gives it back.
 #[tactic(auto, using(page_arena::specs::Blocks::taken_block))]
-fn is_named_and_goes(arena: &mut BuddyArena, order: Order, first: Gran) -> bool {
+fn take_at_and_give(arena: &mut BuddyArena, order: Order, first: Gran) -> bool {
     if !arena.take_at(order, first) {
         return false;
     }
@@ -29,9 +29,10 @@ fn is_named_and_goes(arena: &mut BuddyArena, order: Order, first: Gran) -> bool 
     true
 }
 
-/// Takes a block of 512 pages and gives it back, over and over. The store has `pages` pages. The block begins at
-/// granule 0 if `are_named`, or else where the store chooses. Nothing else happens between the two printed lines.
-pub(crate) fn come_and_go(
+/// Takes a block of 512 pages from a store and gives it back, many times. The store is new, and has `pages` pages. The
+/// block begins at granule 0 if `are_named`, or else where the store chooses. Nothing else happens between the two
+/// printed lines.
+pub(crate) fn take_and_give_repeatedly(
     rt: &impl Print,
     alloc: Global,
     pages: u16,
@@ -48,9 +49,9 @@ pub(crate) fn come_and_go(
     tell(rt, "quiet");
     for _ in 0..TIMES {
         let has_gone = if are_named {
-            is_named_and_goes(&mut arena, order, first)
+            take_at_and_give(&mut arena, order, first)
         } else {
-            comes_and_goes(&mut arena, order)
+            take_and_give(&mut arena, order)
         };
         count = count.saturating_add(u32::from(has_gone));
     }

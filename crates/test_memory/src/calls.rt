@@ -22,7 +22,7 @@ impl Tally {
         }
     }
 
-    /// Counts a call as accepted or refused, by its answer.
+    /// Counts a call to the host as accepted or refused, by its result.
     pub(crate) fn count<T>(&mut self, answer: &Result<T, Refusal>) {
         if answer.is_ok() {
             self.accepted = self.accepted.saturating_add(1);
@@ -36,8 +36,8 @@ impl Tally {
     }
 }
 
-/// Returns the command of a turn. The sequence of commands makes a realm, enters its REC, and uses every kind of
-/// command.
+/// Returns command number `turn` of the test's sequence of commands. The sequence makes a realm, enters its REC, and
+/// uses every kind of command.
 pub(crate) fn command(turn: u8) -> Cmd {
     let offset = PageOff::new(4095).unwrap();
     match turn {
@@ -99,7 +99,7 @@ fn realm_command(turn: u8, offset: PageOff) -> Cmd {
     }
 }
 
-/// The number of commands in the sequence of `command`.
+/// The number of commands that the test performs, one in each turn.
 pub(crate) const TURNS: u8 = 22;
 
 // Asks for the number of open operations above a mark, and then rolls the build back to the mark.
@@ -141,7 +141,7 @@ fn read_all(host: &Host<BuddyArena>, build: BuildId) -> u32 {
     seen.saturating_add(u32::from(has_realm))
 }
 
-/// Boots a host, and makes the calls of its two builds. One of them aborts step by step, the other stays.
+/// Boots a host, and makes the test's calls for its two builds. One of them aborts step by step, the other stays.
 pub(crate) fn all_calls(rt: &impl Print, alloc: Global) -> Result<Host<BuddyArena>, Fault> {
     let mut host = booted(rt, alloc)?;
     let mut tally = Tally::new();

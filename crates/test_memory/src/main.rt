@@ -1,6 +1,7 @@
-//! A test program for allocations. It is for two properties: a call hands its arguments back if an allocation fails,
-//! and no call on a host or a seat allocates memory. A plan on standard input is replayed over the plain store instead,
-//! and a script of calls made in registers is performed and measured.
+//! A program that tests the allocations of a host, and the handling of failed ones. It is for two properties: a call
+//! hands its arguments back if an allocation fails, and no call on a host or a seat allocates memory. A plan on
+//! standard input is replayed over the plain store instead, and a script of calls made in registers is performed and
+//! measured.
 //!
 //! `tests/test_allocations.py` refuses each allocation of this program in turn. A host is then booted or shared, or a
 //! worker built, at the second try, from what came back of the first. The test counts the allocations between a line
@@ -28,10 +29,10 @@ use std::sync::Wait;
 use std::thread::Threads;
 use std::time::CpuClock;
 
-/// The reason why the program stops.
+/// The error with which the test program stops.
 #[derive(Clone, Copy)]
 pub(crate) enum Fault {
-    /// A failed allocation that no further try follows.
+    /// A failed allocation that is not tried again.
     Memory,
     /// Any other fault, which should not happen.
     Other,
@@ -49,12 +50,12 @@ impl<T: Drop> From<AllocFailed<T>> for Fault {
     }
 }
 
-/// Prints a line. If that fails, the line is missing.
+/// Prints a line of the test, and ignores a failure to print.
 pub(crate) fn tell(rt: &impl Print, line: &str) {
     let _told = println!(rt; "{line}");
 }
 
-/// Prints that an action succeeded. If it did so at the second try, the line says so.
+/// Prints that an action of the test succeeded, at the first or second try. Only a second try is mentioned in the line.
 pub(crate) fn tell_try(rt: &impl Print, what: &str, is_second: bool) {
     let _told = if is_second {
         println!(rt; "{what} at the second try")
@@ -69,9 +70,9 @@ fn use_hosts(rt: &impl Print, alloc: Global) -> Result<(), Fault> {
 }
 
 fn use_stores(rt: &impl Print, alloc: Global) -> Result<(), Fault> {
-    blocks::come_and_go(rt, alloc, 4096, false)?;
-    blocks::come_and_go(rt, alloc, 512, true)?;
-    blocks::come_and_go(rt, alloc, 4096, true)
+    blocks::take_and_give_repeatedly(rt, alloc, 4096, false)?;
+    blocks::take_and_give_repeatedly(rt, alloc, 512, true)?;
+    blocks::take_and_give_repeatedly(rt, alloc, 4096, true)
 }
 
 fn make_calls<R: Print + AllocGlobal + Threads + Wait + Sync>(rt: &R) -> Result<(), Fault> {
@@ -80,14 +81,14 @@ fn make_calls<R: Print + AllocGlobal + Threads + Wait + Sync>(rt: &R) -> Result<
     use_stores(rt, rt.alloc())
 }
 
-/// Reads the bytes of an input.
+/// Reads all bytes of an input into memory.
 fn bytes_in<I: Read>(alloc: Global, input: &mut Told<I>) -> Result<Vec<u8>, PlanFault>
     requires { input.old.failed ≡ false }
 {
     Ok(read_whole(alloc, input)?)
 }
 
-/// Performs what the input holds. A plan is replayed, and a script is performed. If the input is empty, the calls to be
+/// Replays the plan, or performs the script of RMM operations, in the input. If the input is empty, the calls to be
 /// tested are made.
 fn run<H: Print + Eprint + AllocGlobal + CpuClock + Threads + Wait + Sync, I: Read, O: Write>(
     rt: &H,

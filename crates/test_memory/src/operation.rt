@@ -4,7 +4,7 @@ use rmi_abi::Registers;
 use rmm::Rmm;
 use rmm_model::{Queued, StepWords};
 
-/// An operation on an RMM.
+/// An operation on an RMM: a call, a memory write, or a guest's step.
 #[derive(Clone, Copy)]
 pub(crate) enum Operation {
     Call(Registers),
@@ -70,7 +70,7 @@ impl Operation {
     }
 }
 
-/// Performs operations one after another. Returns a checksum of `before` and the operations' results.
+/// Performs operations on an RMM, one after another. Returns a checksum of `before` and the operations' results.
 pub(crate) fn perform(rmm: &mut Rmm<PlainStore>, operations: &[Operation], before: u64) -> u64 {
     let mut sum = before;
     for operation in operations {

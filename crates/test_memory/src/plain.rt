@@ -1,4 +1,4 @@
-//! The replay of a plan over the plain store.
+//! The replay of a plan on a host whose pages are in a `PlainStore`.
 ghost use Rattle.std.specs.Prelude.{◌≡◌, false};
 
 use crate::Fault;
@@ -18,8 +18,8 @@ impl From<PlanFault> for Fault {
     }
 }
 
-/// Replays a plan over the plain store, and writes its text. The text is what `realmhost replay` prints for a run over
-/// raw pages.
+/// Replays a plan on a host over a `PlainStore`, and writes the run's text. The text is what `realmhost replay` prints
+/// for a run over raw pages.
 pub(crate) fn replay<W: Write>(
     alloc: Global,
     bytes: &[u8],

@@ -1,4 +1,4 @@
-//! Recorded events, applied to a fresh host.
+//! The application of a host's recorded events to a fresh host.
 use crate::boot::booted;
 use crate::{Fault, tell};
 use buddy::BuddyArena;

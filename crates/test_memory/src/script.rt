@@ -149,12 +149,12 @@ fn measure(
     Ok(())
 }
 
-/// Whether an input is a script. A script begins with a line `machine`, and no plan begins so.
+/// Whether an input begins with `machine`, as a script does. No plan begins so.
 pub(crate) fn is_script(bytes: &[u8]) -> bool {
     bytes.starts_with(b"machine ")
 }
 
-/// Performs a script. Prints one sum of all results, and the least time of each part.
+/// Performs a script of operations on an RMM. Prints one sum of all results, and the least time of each part.
 pub(crate) fn perform_all(
     rt: &(impl CpuClock + Print + Eprint),
     alloc: Global,

@@ -1,5 +1,5 @@
-//! Calls and a worker on a shared host. The calls go through the seat of one build, and the worker is for the other
-//! build.
+//! The part of the test that makes calls and runs a worker on a shared host. The calls go through the seat of one
+//! build, and the worker is for the other build.
 ghost use Rattle.std.specs.Prelude.{◌≡◌, ◌≤◌, [], All, IfOk, vec_len};
 ghost use Rattle.build_seats.specs.Names.{AreNamed};
 
@@ -82,7 +82,7 @@ fn last_worker<L: Ledgers>(
 }
 
 // Makes every call through one build's seat, and runs the workers of the other builds. The answers are printed.
-fn in_quiet<R: Print + Threads + Wait + Sync, L: Ledgers + Send + Sync>(
+fn make_calls_and_run_workers<R: Print + Threads + Wait + Sync, L: Ledgers + Send + Sync>(
     rt: &R,
     shared: &Shared<BuddyArena, L>,
     seat: &mut Seat<L>,
@@ -107,7 +107,7 @@ fn ask_and_work<R: Print + Threads + Wait + Sync, L: Ledgers + Send + Sync>(
 ) -> Result<(), Fault> {
     let mut workers = [last_worker(rt, alloc, seats)?];
     let seat = seats.last_mut().ok_or(Fault::Other)?;
-    let has_ended = in_quiet(rt, shared, seat, &mut workers);
+    let has_ended = make_calls_and_run_workers(rt, shared, seat, &mut workers);
     let [worker] = workers;
     let (seat, _steps, report) = worker.end();
     let _told = println!(rt;
@@ -188,8 +188,8 @@ fn share<R: Print + Threads + Wait + Sync, L: Ledgers + Send + Sync>(
     close(rt, shared, seats)
 }
 
-/// Boots and shares a host, works on it, and closes it. The calls of one build are made, and a worker runs for the
-/// other build.
+/// Boots a host, shares it, makes test calls on it, and takes it back. The calls of one build are made, and a worker
+/// runs for the other build.
 pub(crate) fn work<R: Print + Threads + Wait + Sync>(rt: &R, alloc: Global) -> Result<(), Fault> {
     let host = booted(rt, alloc)?;
     share::<R, Brand>(rt, alloc, Blanks::new(), host)

@@ -1,4 +1,4 @@
-//! The counts of the lines of a trace, and the verdict on it.
+//! The counts of a trace's lines by verdict, and the verdict on the trace.
 ghost use Rattle.std.specs.Prelude.{◌≡◌, ◌+◌, IfErr, IfOk};
 ghost use Rattle.trace_program.specs.declared.fault.TraceError.TheVariants.{TooLong};
 ghost use Rattle.trace_program.specs.Counting.{with_line_counted, trace_verdict};
@@ -6,29 +6,30 @@ ghost use Rattle.trace_program.specs.Counting.{with_line_counted, trace_verdict}
 use crate::TraceError;
 use std::fmt;
 
-/// The verdict on a line, by which the line is counted.
+/// The verdict on a trace line, by which the line is counted.
 #[derive(Clone, Copy)]
 pub enum LineVerdict {
-    /// A line whose answer is not compared. It is a remark, a command without a written answer, or a line that the
-    /// comparison leaves out.
+    /// A trace line whose answer is not compared with the model's. It is a remark, a command without a written answer,
+    /// or a line that the comparison leaves out.
     NotCompared,
     Same,
     Allowed,
     Wrong,
 }
 
-/// The verdict on a trace.
+/// The verdict on a whole trace, by the counts of its lines.
 #[derive(Clone, Copy)]
 pub enum TraceVerdict {
     /// A trace that agrees with the model. It has no wrong line, and at least one line with the model's answer.
     Agrees,
-    /// A trace with neither wrong lines nor lines with the model's answer.
+    /// A trace in which no line has the verdict `Wrong` or `Same`.
     NothingSame,
     /// A trace with a wrong line.
     Differs,
 }
 
-/// The counts of a trace's lines. Counted are all lines, and those with the verdicts `Same`, `Allowed` and `Wrong`.
+/// The counts of a trace's lines, in all and by verdict. Counted are all lines, and those with the verdicts `Same`,
+/// `Allowed` and `Wrong`.
 #[derive(Clone, Copy)]
 pub struct Counts {
     pub lines: u64,
@@ -46,7 +47,7 @@ fn one_more(count: u64) -> Result<u64, TraceError>
 }
 
 impl Counts {
-    /// The counts before any line.
+    /// The counts before the first line of a trace: all are 0.
     pub const NONE: Counts = Counts {
         lines: 0,
         same: 0,

@@ -1,4 +1,4 @@
-//! The verdict on a line with a written answer.
+//! The verdict on a trace line that has a written answer.
 ghost use Rattle.std.specs.Prelude.{◌≡◌, option_map};
 ghost use Rattle.std.specs.Option.{option_copied};
 ghost use Rattle.trace_program.specs.Judged as specs;
@@ -74,7 +74,8 @@ fn name_place(question: &[TraceWord]) -> usize
     }
 }
 
-/// Rewrites the call in a raw line with names. `None` if the line is not raw or cannot be named.
+/// Returns a raw call rewritten with the name of its command. `None` if the question is no raw call, or its function is
+/// no command.
 pub(crate) fn raw_call(question: &[TraceWord]) -> Option<Sentence>
     ensures { option_map (λ call. call.items) result ≡ raw_call question.now }
 {
@@ -85,8 +86,8 @@ pub(crate) fn raw_call(question: &[TraceWord]) -> Option<Sentence>
     }
 }
 
-/// Returns the index of a question's name in the grammar. For a repeat or a raw call, it is the index of the inner
-/// command's name.
+/// Returns the grammar's index of the command name in a trace line. For a repeat or a raw call, it is the index of the
+/// inner command's name.
 #[tactic(auto, unfolding(crate::specs::Judged::command_place))]
 pub(crate) fn command_place(question: &[TraceWord]) -> usize
     ensures { result ≡ specs.command_place question.now }
@@ -168,8 +169,8 @@ fn no_command_verdict(written: Option<&[u8]>) -> LineVerdict
     }
 }
 
-/// Returns the verdict on a line. `written` is the line's written answer, and `reply` is our answer. `machine` is the
-/// machine after the line. The words of the written answer are read into `words`.
+/// Returns the verdict on a line of a trace. `written` is the line's written answer, and `reply` is our answer.
+/// `machine` is the machine after the line. The words of the written answer are read into `words`.
 #[tactic(auto, unfolding(crate::specs::Judged::line_verdict))]
 pub fn line_verdict(
     asked: &Comparison,

@@ -10,7 +10,7 @@ use std::alloc::{AllocError, Global};
 use std::fmt::Write;
 use std::marker::Model;
 
-/// A buffer for the output text of lines. It is seen as the bytes of the text.
+/// A buffer for the output text of a trace's lines. It is seen as the bytes of the text.
 #[derive(Drop)]
 pub struct LineTexts {
     bytes: Vec<u8>,
@@ -27,7 +27,7 @@ impl Model for LineTexts {
 }
 
 impl LineTexts {
-    /// Creates an empty text.
+    /// Creates an empty buffer for output text.
     pub fn new(alloc: Global) -> LineTexts
         ensures { result ≡ [] }
     {
@@ -37,28 +37,28 @@ impl LineTexts {
         }
     }
 
-    /// Returns the bytes of the text.
+    /// Returns the bytes of the output text.
     pub fn as_slice(&self) -> &[u8]
         ensures { result.now ≡ self.now }
     {
         &self.bytes
     }
 
-    /// Removes all of the text.
+    /// Removes all text from the buffer.
     pub fn clear(&mut self)
         ensures { self.new ≡ [] }
     {
         self.bytes.clear();
     }
 
-    /// Appends bytes.
+    /// Appends bytes to the output text.
     pub fn push(&mut self, bytes: &[u8]) -> Result<(), AllocError>
         ensures { OnOk result (self.new ≡ self.old ++ bytes.now) }
     {
         self.bytes.extend_from_slice(bytes)
     }
 
-    /// Appends the text of words.
+    /// Appends the text of the given words of a trace line.
     pub fn push_words(&mut self, words: &[TraceWord]) -> Result<(), AllocError>
         ensures { OnOk result (self.new ≡ self.old ++ sentence_text words.now) }
     {
@@ -67,7 +67,7 @@ impl LineTexts {
         self.bytes.extend_from_slice(self.words.as_bytes())
     }
 
-    /// Appends the text of an answer.
+    /// Appends the text of the model's answer to a trace line.
     pub fn push_answer(&mut self, reply: &TraceReply) -> Result<(), AllocError>
         ensures { OnOk result (self.new ≡ self.old ++ reply_text reply.now) }
     {
@@ -96,7 +96,7 @@ impl LineTexts {
         self.bytes.extend_from_slice(b"\n")
     }
 
-    /// Appends a line with our answer. A remark is appended as it is.
+    /// Appends a trace line with `reply` as its answer. A remark is appended as it is.
     #[tactic(auto, unfolding(crate::specs::LineText::answered_text))]
     pub fn push_answered(
         &mut self,
@@ -115,7 +115,7 @@ impl LineTexts {
     }
 }
 
-/// Returns what follows a line's question and written answer. It is the comment, and the blanks before the comment.
+/// Returns the comment of a trace line, with the blanks before the comment.
 #[tactic(auto, unfolding(crate::specs::LineText::tail_of))]
 pub(crate) fn tail(bytes: &[u8]) -> &[u8]
     ensures { result.now ≡ tail_of bytes.now }

@@ -1,4 +1,4 @@
-//! The requirement of each check, in a few words of the standard. The words are tested, not proved.
+//! The requirement of each RMM check, in a few words from the standard. The words are tested, not proved.
 use rmm_model::Condition;
 use rmm_trace::place::{
     RMI_DATA_DESTROY, RMI_GRANULE_UNDELEGATE, RMI_PSCI_COMPLETE, RMI_REALM_CREATE, RMI_REC_CREATE,
@@ -195,7 +195,7 @@ const REQUIREMENTS: [(Condition, &str); 76] = [
 ];
 
 // The requirements of checks that mean something else in a given command.
-const OF_COMMANDS: [(usize, Condition, &str); 34] = [
+const COMMAND_REQUIREMENTS: [(usize, Condition, &str); 34] = [
     (
         RMI_GRANULE_UNDELEGATE,
         Condition::GranState,
@@ -360,10 +360,10 @@ const OF_COMMANDS: [(usize, Condition, &str); 34] = [
     ),
 ];
 
-/// Returns the requirement of a check in a command. The text is empty if the check has none. The command is given by
-/// the index of its name in the grammar.
+/// Returns the text of the requirement that a command's check tests. The text is empty if the check has none. The
+/// command is given by the index of its name in the grammar.
 pub(crate) fn requirement(command: usize, condition: Condition) -> &'static str {
-    for row in &OF_COMMANDS {
+    for row in &COMMAND_REQUIREMENTS {
         if row.0 == command && row.1 == condition {
             return row.2;
         }

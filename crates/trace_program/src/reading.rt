@@ -1,4 +1,4 @@
-//! The run of a trace. A loop reads the lines of the trace, and writes their texts.
+//! The loop that reads a trace and writes the texts of its lines.
 ghost use Rattle.std.specs.Prelude.{◌≡◌, ◌++◌, ◌⊎◌, ◌↔◌, ℕ, List, [], Option, true, false, Err, IfOk, OnOk, OnErr};
 ghost use Rattle.std.specs.Io.KnownBytes.{Appends};
 ghost use Rattle.checked_io.specs.Whole.{AppendsFront};
@@ -28,7 +28,7 @@ fn keep(line: &mut Vec<u8>, part: &[u8]) -> Result<(), AllocError>
 
 // The allocator of a run, its subcommand, and the name of its trace.
 #[derive(Clone, Copy)]
-struct Request<'a> {
+struct RunParameters<'a> {
     alloc: Global,
     asked: &'a TraceSubcommand,
     source: &'a str,
@@ -46,7 +46,7 @@ struct Reading {
 
 impl Reading {
     // Ends the line, and appends its text.
-    fn end_line(&mut self, request: Request<'_>) -> Result<(), TraceError>
+    fn end_line(&mut self, request: RunParameters<'_>) -> Result<(), TraceError>
         ensures ok { OnOk result (TakesLine request.entry.asked.now self.old.line.items self.old.session self.new.session self.old.text self.new.text) }
         ensures empty { OnOk result (self.new.line.items ≡ []) }
         ensures err { ¬ (result ≡ Err Device) }
@@ -64,7 +64,7 @@ impl Reading {
     }
 
     // Takes bytes of the input, up to the line that ends the run.
-    fn take_part(&mut self, request: Request<'_>, part: &[u8]) -> Result<(), TraceError>
+    fn take_part(&mut self, request: RunParameters<'_>, part: &[u8]) -> Result<(), TraceError>
         requires { is_check_done request.asked.now self.old.session ≡ false }
         ensures ok { OnOk result ((read written : List ℕ) → specs.IsTraceLineTaken request.entry.asked.now read written self.old.session self.old.line.items self.old.text
             → specs.IsTraceLineTaken request.entry.asked.now (read ++ part.now) written self.new.session self.new.line.items self.new.text) }
@@ -86,7 +86,7 @@ impl Reading {
     }
 
     // Ends the last line, which has no line feed, unless it is empty.
-    fn end(&mut self, request: Request<'_>) -> Result<(), TraceError>
+    fn end(&mut self, request: RunParameters<'_>) -> Result<(), TraceError>
         requires { is_check_done request.asked.now self.old.session ≡ false }
         ensures ok { OnOk result ((read written : List ℕ) → specs.IsTraceLineTaken request.entry.asked.now read written self.old.session self.old.line.items self.old.text
             → specs.AreTraceLinesTaken request.entry.asked.now read written self.new.session self.new.text) }
@@ -121,7 +121,7 @@ impl Reading {
     // Reads once, and writes the text for the lines that were read. Returns whether there may be more.
     fn read_on<R: Read, W: Write>(
         &mut self,
-        request: Request<'_>,
+        request: RunParameters<'_>,
         input: &mut Told<R>,
         buf: &mut [u8; 4096],
         output: &mut Told<W>,
@@ -152,7 +152,7 @@ impl Reading {
     // Writes the counts if the run is a check, and returns the verdict.
     fn finish<W: Write>(
         &self,
-        request: Request<'_>,
+        request: RunParameters<'_>,
         output: &mut Told<W>,
     ) -> Result<TraceVerdict, TraceError>
         requires { output.old.failed ≡ false }
@@ -171,8 +171,8 @@ impl Reading {
     }
 }
 
-/// Reads a trace in parts, and writes the texts for its lines. The texts for a part are written before the next part is
-/// read. A check ends with its counts.
+/// Reads a trace in parts, and writes the output text for its lines. The texts for a part are written before the next
+/// part is read. A check ends with its counts.
 ///
 /// Memory is taken for a fresh machine, for a line, of which no more than 65,537 bytes are kept, and for the texts of
 /// the lines of one read. Errors. `Memory`: allocation failed. `Device`: a read or a write failed. `TooLong`: the trace
@@ -192,7 +192,7 @@ pub fn run<R: Read, W: Write>(
         (W.contents output.old.device) (W.contents output.new.device)) }
     ensures device { ((input.new.failed ≡ true) ⊎ (output.new.failed ≡ true)) ↔ (result ≡ Err Device) }
 {
-    let request = Request {
+    let request = RunParameters {
         alloc,
         asked,
         source,

@@ -1,4 +1,5 @@
-//! The explanations of wrong lines and refused calls. They are tested, not proved, but for the first line of a note.
+//! The explanations of a trace's wrong lines and refused calls. They are tested, not proved, but for the first line of
+//! a note.
 ghost use Rattle.std.specs.Prelude.{◌≡◌, IfOk};
 ghost use Rattle.trace_program.specs.Session.{heading_text};
 
@@ -89,7 +90,7 @@ pub(crate) fn checks_text(
     Ok(text)
 }
 
-/// Returns a line that suggests a word. It is the word that was probably meant. The text is empty if no word is near.
+/// Returns a line of help that suggests the word that was probably meant. The text is empty if no word is near.
 pub(crate) fn hint(alloc: Global, bytes: &[u8], indent: &str) -> Result<String, AllocError> {
     match nearest_word(alloc, bytes)? {
         Some(word) => format!(in alloc; "{indent}help: did you mean {word}?\n"),
@@ -97,7 +98,8 @@ pub(crate) fn hint(alloc: Global, bytes: &[u8], indent: &str) -> Result<String, 
     }
 }
 
-/// Returns the first line of a note. It has the trace's name, the number of the noted line, and the verdict.
+/// Returns the first line of a note on a trace line. It has the trace's name, the number of the noted line, and the
+/// verdict.
 pub(crate) fn heading(
     alloc: Global,
     source: &str,
@@ -112,9 +114,9 @@ pub(crate) fn heading(
     Ok(text)
 }
 
-/// Returns the note on an allowed or wrong line, without its heading. The note has the line, our answer, and a
-/// suggestion if the line is not a command.
-pub(crate) fn difference(
+/// Returns the note on a line whose written answer differs from the model's. The note has the line, the model's answer,
+/// and a suggestion if the line is not a command. Its heading is not included.
+pub(crate) fn note_on_difference(
     alloc: Global,
     bytes: &[u8],
     reply: &TraceReply,

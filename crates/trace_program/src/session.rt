@@ -1,4 +1,4 @@
-//! A session, which takes the lines of a trace one after another.
+//! A session that processes the lines of a trace one after another.
 ghost use Rattle.std.specs.Prelude.{◌≡◌, ◌++◌, ℕ, List, [], Err, None, IfOk, OnOk, string_bytes};
 ghost use Rattle.trace_program.specs.declared.fault.TraceError.TheVariants.{Device};
 ghost use Rattle.rmm_trace.specs.declared.line.LineKind.TheVariants.{Remark};
@@ -9,14 +9,14 @@ ghost use Rattle.trace_program.specs.Session as specs;
 use crate::judging::{is_no_command, line_verdict};
 use crate::line_text::LineTexts;
 use crate::naming::push_named;
-use crate::reasons::{checks_text, difference, heading, hint};
+use crate::reasons::{checks_text, heading, hint, note_on_difference};
 use crate::{Counts, LineVerdict, TraceError};
 use command_line::rmitrace::{Comparison, TraceSubcommand};
 use rmm_answers::{TraceMachine, TraceReply};
 use rmm_trace::{LineKind, RmmTraceLine, Sentence, TraceWord};
 use std::alloc::{AllocError, Global};
 
-/// The words of a line, and those of its written answer.
+/// The words of a trace line, and those of its written answer.
 ///
 /// They are kept from line to line, and each line is read into them: a sentence has many places.
 #[derive(Drop)]
@@ -26,7 +26,7 @@ pub struct LineWords {
 }
 
 impl LineWords {
-    /// Creates the words of a session that has read no line.
+    /// Creates a value without words, for a session's first line.
     pub fn new() -> LineWords
         ensures line { result.line ≡ without_words Remark }
         ensures written { result.written.items ≡ [] }
@@ -38,19 +38,19 @@ impl LineWords {
     }
 }
 
-/// The state of a trace after some lines.
+/// The state of a session after some lines of a trace.
 #[derive(Drop)]
 pub struct Session {
     /// The RMM that the last `platform` line started, if there was one.
     pub machine: TraceMachine,
-    /// The counts of the lines so far.
+    /// The counts of the trace lines so far, by verdict.
     pub counts: Counts,
-    /// The answer to the last line that is not a remark. A remark is a comment or an empty line.
+    /// The answer to the last trace line that is not a comment or empty.
     pub reply: TraceReply,
 }
 
 impl Session {
-    /// Creates a session before its first line.
+    /// Creates a session before the first line of a trace.
     pub fn new() -> Session
         ensures { result ≡ specs.fresh_session }
     {
@@ -136,7 +136,7 @@ impl Session {
         ensures { IfOk result (λ text. specs.IsHeaded self.now.counts.lines verdict.now text) }
     {
         let mut text = heading(alloc, source, self.counts.lines, verdict)?;
-        let rest = difference(alloc, bytes, &self.reply)?;
+        let rest = note_on_difference(alloc, bytes, &self.reply)?;
         text.push(rest.as_slice())?;
         Ok(text)
     }
@@ -242,7 +242,7 @@ impl Session {
         Ok(())
     }
 
-    /// Processes a line as the subcommand asks, and appends its text. The line is read into `words`.
+    /// Performs the subcommand `asked` on one line, and appends the output. The line is read into `words`.
     ///
     /// Errors: `Memory`, if allocation failed; `TooLong`, after 2^64 - 1 lines.
     pub fn take_line(
@@ -271,7 +271,7 @@ impl Session {
         Ok(())
     }
 
-    /// Whether the session is over. It is if a check that stops at the first wrong line has found one.
+    /// Returns whether a check that stops at its first wrong line has found one.
     pub fn is_done(&self, asked: &TraceSubcommand) -> bool
         ensures { result ≡ specs.is_check_done asked.now self.now }
     {

@@ -37,119 +37,119 @@ module _ {K : Type 0} (same : K → K → Bool) where
 
   firsts-push :
       (earlier seen : List (Sighting K)) (s : Sighting K)
-      → firsts same earlier (seen ++ s ∷ []) ≡ firsts same earlier seen ++ (if is_shown same (earlier ++ seen) s.thing then [] else s ∷ [])
+      → firsts same earlier (seen ++ s ∷ []) ≡ firsts same earlier seen ++ (if is_shown same (earlier ++ seen) s.outcome then [] else s ∷ [])
   firsts-push earlier [] s =
-      append-nil (if is_shown same earlier s.thing then [] else s ∷ []) ∙ ap (λ es. if is_shown same es s.thing then [] else s ∷ []) (sym (append-nil earlier))
+      append-nil (if is_shown same earlier s.outcome then [] else s ∷ []) ∙ ap (λ es. if is_shown same es s.outcome then [] else s ∷ []) (sym (append-nil earlier))
   firsts-push earlier (t ∷ seen) s =
-      ap (λ rest. (if is_shown same earlier t.thing then [] else t ∷ []) ++ rest) (firsts-push (earlier ++ t ∷ []) seen s)
-      ∙ sym (append_assoc (if is_shown same earlier t.thing then [] else t ∷ []) (firsts same (earlier ++ t ∷ []) seen)
-      (if is_shown same ((earlier ++ t ∷ []) ++ seen) s.thing then [] else s ∷ []))
-      ∙ ap (λ es. firsts same earlier (t ∷ seen) ++ (if is_shown same es s.thing then [] else s ∷ [])) (append_assoc earlier (t ∷ []) seen)
+      ap (λ rest. (if is_shown same earlier t.outcome then [] else t ∷ []) ++ rest) (firsts-push (earlier ++ t ∷ []) seen s)
+      ∙ sym (append_assoc (if is_shown same earlier t.outcome then [] else t ∷ []) (firsts same (earlier ++ t ∷ []) seen)
+      (if is_shown same ((earlier ++ t ∷ []) ++ seen) s.outcome then [] else s ∷ []))
+      ∙ ap (λ es. firsts same earlier (t ∷ seen) ++ (if is_shown same es s.outcome then [] else s ∷ [])) (append_assoc earlier (t ∷ []) seen)
 
   module _ (equal : IsEquivalence same) where
-    -- what is the same as a thing is shown where the thing is
+    -- what is the same as an outcome is shown where the outcome is
     shown_alike : (x y : K) → same x y ≡ true → (earlier : List (Sighting K)) → is_shown same earlier x ≡ is_shown same earlier y
     shown_alike x y is [] = refl
     shown_alike x y is (e ∷ earlier) =
-        λ i. (equal.symm e.thing x ∙ equal.congr x y e.thing is ∙ equal.symm y e.thing) i || shown_alike x y is earlier i
+        λ i. (equal.symm e.outcome x ∙ equal.congr x y e.outcome is ∙ equal.symm y e.outcome) i || shown_alike x y is earlier i
 
-    shown_later : (earlier : List (Sighting K)) (t : Sighting K) (thing : K) → is_shown same earlier thing ≡ false → same t.thing thing ≡ false → is_shown same (earlier ++ t ∷ []) thing ≡ false
-    shown_later earlier t thing unseen other =
-        list_any-append (λ s. same s.thing thing) earlier (t ∷ []) ∙ or_falses (is_shown same earlier thing) (same t.thing thing || false) unseen
-        (or_falses (same t.thing thing) false other refl)
+    shown_later : (earlier : List (Sighting K)) (t : Sighting K) (outcome : K) → is_shown same earlier outcome ≡ false → same t.outcome outcome ≡ false → is_shown same (earlier ++ t ∷ []) outcome ≡ false
+    shown_later earlier t outcome unseen other =
+        list_any-append (λ s. same s.outcome outcome) earlier (t ∷ []) ∙ or_falses (is_shown same earlier outcome) (same t.outcome outcome || false) unseen
+        (or_falses (same t.outcome outcome) false other refl)
 
     firsts_step :
-        (earlier : List (Sighting K)) (t : Sighting K) (seen : List (Sighting K)) (thing : K) (shown alike : Bool)
-        → (is_shown same (earlier ++ t ∷ []) thing ≡ false → is_shown same (firsts same (earlier ++ t ∷ []) seen) thing ≡ is_shown same seen thing)
-        → is_shown same earlier t.thing ≡ shown → same t.thing thing ≡ alike → is_shown same earlier thing ≡ false
-        → is_shown same ((if shown then [] else t ∷ []) ++ firsts same (earlier ++ t ∷ []) seen) thing ≡ (alike || is_shown same seen thing)
-    firsts_step earlier t seen thing true true later was is unseen = absurd (let e = shown_alike t.thing thing is earlier in cc)
-    firsts_step earlier t seen thing true false later was is unseen = later (shown_later earlier t thing unseen is)
-    firsts_step earlier t seen thing false true later was is unseen = ap (λ b. b || is_shown same (firsts same (earlier ++ t ∷ []) seen) thing) is
-    firsts_step earlier t seen thing false false later was is unseen =
-        ap (λ b. b || is_shown same (firsts same (earlier ++ t ∷ []) seen) thing) is ∙ later (shown_later earlier t thing unseen is)
+        (earlier : List (Sighting K)) (t : Sighting K) (seen : List (Sighting K)) (outcome : K) (shown alike : Bool)
+        → (is_shown same (earlier ++ t ∷ []) outcome ≡ false → is_shown same (firsts same (earlier ++ t ∷ []) seen) outcome ≡ is_shown same seen outcome)
+        → is_shown same earlier t.outcome ≡ shown → same t.outcome outcome ≡ alike → is_shown same earlier outcome ≡ false
+        → is_shown same ((if shown then [] else t ∷ []) ++ firsts same (earlier ++ t ∷ []) seen) outcome ≡ (alike || is_shown same seen outcome)
+    firsts_step earlier t seen outcome true true later was is unseen = absurd (let e = shown_alike t.outcome outcome is earlier in cc)
+    firsts_step earlier t seen outcome true false later was is unseen = later (shown_later earlier t outcome unseen is)
+    firsts_step earlier t seen outcome false true later was is unseen = ap (λ b. b || is_shown same (firsts same (earlier ++ t ∷ []) seen) outcome) is
+    firsts_step earlier t seen outcome false false later was is unseen =
+        ap (λ b. b || is_shown same (firsts same (earlier ++ t ∷ []) seen) outcome) is ∙ later (shown_later earlier t outcome unseen is)
 
-    -- Among the firsts is each thing that is shown.
+    -- Among the firsts is each outcome that is shown.
     firsts_shown :
-        (earlier seen : List (Sighting K)) (thing : K)
-        → is_shown same earlier thing ≡ false
-        → is_shown same (firsts same earlier seen) thing ≡ is_shown same seen thing
-    firsts_shown earlier [] thing unseen = refl
-    firsts_shown earlier (t ∷ seen) thing unseen =
-        firsts_step earlier t seen thing (is_shown same earlier t.thing) (same t.thing thing) (firsts_shown (earlier ++ t ∷ []) seen thing) refl refl unseen
+        (earlier seen : List (Sighting K)) (outcome : K)
+        → is_shown same earlier outcome ≡ false
+        → is_shown same (firsts same earlier seen) outcome ≡ is_shown same seen outcome
+    firsts_shown earlier [] outcome unseen = refl
+    firsts_shown earlier (t ∷ seen) outcome unseen =
+        firsts_step earlier t seen outcome (is_shown same earlier t.outcome) (same t.outcome outcome) (firsts_shown (earlier ++ t ∷ []) seen outcome) refl refl unseen
 
     -- ---- how often
 
-    unseen_times : (seen : List (Sighting K)) (thing : K) → is_shown same seen thing ≡ false → count_by (λ s. same thing s.thing) seen ≡ 0
-    unseen_times [] thing unseen = refl
-    unseen_times (s ∷ seen) thing unseen =
-        let parts = or_false (same s.thing thing) (is_shown same seen thing) unseen in
-        let none = equal.symm thing s.thing ∙ parts.0 in
-        let rest = unseen_times seen thing parts.1 in
-        sum_by-append (λ x. cond (same thing x.thing) 1 0) (s ∷ []) seen ∙ ap (λ b. 0 + cond b 1 0 + count_by (λ x. same thing x.thing) seen) none ∙ omega arith
+    unseen_times : (seen : List (Sighting K)) (outcome : K) → is_shown same seen outcome ≡ false → count_by (λ s. same outcome s.outcome) seen ≡ 0
+    unseen_times [] outcome unseen = refl
+    unseen_times (s ∷ seen) outcome unseen =
+        let parts = or_false (same s.outcome outcome) (is_shown same seen outcome) unseen in
+        let none = equal.symm outcome s.outcome ∙ parts.0 in
+        let rest = unseen_times seen outcome parts.1 in
+        sum_by-append (λ x. cond (same outcome x.outcome) 1 0) (s ∷ []) seen ∙ ap (λ b. 0 + cond b 1 0 + count_by (λ x. same outcome x.outcome) seen) none ∙ omega arith
 
-    times-push : (seen : List (Sighting K)) (s : Sighting K) (thing : K)
-        → times same (seen ++ s ∷ []) thing ≡ (if same thing s.thing then times same seen thing + 1 else times same seen thing)
-    times-push seen s thing =
-        sum_by-append (λ x. cond (same thing x.thing) 1 0) seen (s ∷ [])
-        ∙ elim (same thing s.thing) as (λ b. count_by (λ x. same thing x.thing) seen + (0 + cond b 1 0)
-        ≡ (if b then times same seen thing + 1 else times same seen thing)) [
+    times-push : (seen : List (Sighting K)) (s : Sighting K) (outcome : K)
+        → times same (seen ++ s ∷ []) outcome ≡ (if same outcome s.outcome then times same seen outcome + 1 else times same seen outcome)
+    times-push seen s outcome =
+        sum_by-append (λ x. cond (same outcome x.outcome) 1 0) seen (s ∷ [])
+        ∙ elim (same outcome s.outcome) as (λ b. count_by (λ x. same outcome x.outcome) seen + (0 + cond b 1 0)
+        ≡ (if b then times same seen outcome + 1 else times same seen outcome)) [
           | true ↦ omega arith
           | false ↦ omega arith
         ]
 
     counted_at : List (Sighting K) → Sighting K → PathCount K
-    counted_at seen s = record { thing = s.thing; count = times same seen s.thing; first = s.order }
+    counted_at seen s = record { outcome = s.outcome; count = times same seen s.outcome; first = s.order }
 
-    one : (seen : List (Sighting K)) (s : Sighting K) (shown : Bool) → is_shown same seen s.thing ≡ shown
-        → map (counted_at (seen ++ s ∷ [])) (if shown then [] else s ∷ []) ≡ (if shown then [] else record { thing = s.thing; count = 1; first = s.order } ∷ [])
+    one : (seen : List (Sighting K)) (s : Sighting K) (shown : Bool) → is_shown same seen s.outcome ≡ shown
+        → map (counted_at (seen ++ s ∷ [])) (if shown then [] else s ∷ []) ≡ (if shown then [] else record { outcome = s.outcome; count = 1; first = s.order } ∷ [])
     unfolding counted_at
     one seen s true is = refl
     one seen s false is =
-        let none = unseen_times seen s.thing is in
-        let more = times-push seen s s.thing ∙ ap (λ b. if b then times same seen s.thing + 1 else times same seen s.thing) (equal.refl s.thing) in
-        let once : times same (seen ++ s ∷ []) s.thing ≡ 1 = omega arith in
-        λ i. record { thing = s.thing; count = once i; first = s.order } ∷ []
+        let none = unseen_times seen s.outcome is in
+        let more = times-push seen s s.outcome ∙ ap (λ b. if b then times same seen s.outcome + 1 else times same seen s.outcome) (equal.refl s.outcome) in
+        let once : times same (seen ++ s ∷ []) s.outcome ≡ 1 = omega arith in
+        λ i. record { outcome = s.outcome; count = once i; first = s.order } ∷ []
 
     pub counted-push :
         (seen : List (Sighting K)) (s : Sighting K)
-        → counted same (seen ++ s ∷ []) ≡ map (bump same s.thing) (counted same seen) ++
-        (if is_shown same seen s.thing then [] else record { thing = s.thing; count = 1; first = s.order } ∷ [])
+        → counted same (seen ++ s ∷ []) ≡ map (bump same s.outcome) (counted same seen) ++
+        (if is_shown same seen s.outcome then [] else record { outcome = s.outcome; count = 1; first = s.order } ∷ [])
     unfolding counted counted_at
     counted-push seen s =
         ap (map (counted_at (seen ++ s ∷ []))) (firsts-push [] seen s)
-        ∙ map-append (counted_at (seen ++ s ∷ [])) (firsts same [] seen) (if is_shown same seen s.thing then [] else s ∷ [])
-        ∙ (λ i. (map_alike (counted_at (seen ++ s ∷ [])) (λ t. bump same s.thing (counted_at seen t))
-        (λ t j. record { thing = t.thing; count = times-push seen s t.thing j; first = t.order }) (firsts same [] seen)
-        ∙ sym (map_twice (bump same s.thing) (counted_at seen) (firsts same [] seen))) i
-        ++ one seen s (is_shown same seen s.thing) refl i)
+        ∙ map-append (counted_at (seen ++ s ∷ [])) (firsts same [] seen) (if is_shown same seen s.outcome then [] else s ∷ [])
+        ∙ (λ i. (map_alike (counted_at (seen ++ s ∷ [])) (λ t. bump same s.outcome (counted_at seen t))
+        (λ t j. record { outcome = t.outcome; count = times-push seen s t.outcome j; first = t.order }) (firsts same [] seen)
+        ∙ sym (map_twice (bump same s.outcome) (counted_at seen) (firsts same [] seen))) i
+        ++ one seen s (is_shown same seen s.outcome) refl i)
 
     pub known_is :
-        (tallies : List (PathTally K)) (seen : List (Sighting K)) (thing : K) → map count_of_tally tallies ≡ counted same seen → is_known same thing tallies ≡ is_shown same seen thing
+        (tallies : List (PathTally K)) (seen : List (Sighting K)) (outcome : K) → map count_of_tally tallies ≡ counted same seen → is_known same outcome tallies ≡ is_shown same seen outcome
     unfolding counted counted_at
-    known_is tallies seen thing are =
-        sym (list_any_map (λ c. same c.thing thing) count_of_tally tallies) ∙ ap (list_any (λ c. same c.thing thing)) are
-        ∙ list_any_map (λ c. same c.thing thing) (counted_at seen) (firsts same [] seen) ∙ firsts_shown [] seen thing refl
+    known_is tallies seen outcome are =
+        sym (list_any_map (λ c. same c.outcome outcome) count_of_tally tallies) ∙ ap (list_any (λ c. same c.outcome outcome)) are
+        ∙ list_any_map (λ c. same c.outcome outcome) (counted_at seen) (firsts same [] seen) ∙ firsts_shown [] seen outcome refl
 
     -- ---- the tallies
 
     module _ (tallies bumped : List (PathTally K)) (seen : List (Sighting K)) (s : Sighting K) (are : map count_of_tally tallies ≡ counted same seen)
-        (is_bumped : map count_of_tally bumped ≡ map (bump same s.thing) (map count_of_tally tallies)) where
-      after : map count_of_tally bumped ++ (if is_known same s.thing tallies then [] else record { thing = s.thing; count = 1; first = s.order } ∷ []) ≡ counted same (seen ++ s ∷ [])
+        (is_bumped : map count_of_tally bumped ≡ map (bump same s.outcome) (map count_of_tally tallies)) where
+      after : map count_of_tally bumped ++ (if is_known same s.outcome tallies then [] else record { outcome = s.outcome; count = 1; first = s.order } ∷ []) ≡ counted same (seen ++ s ∷ [])
       after =
-          (λ i. (is_bumped ∙ ap (map (bump same s.thing)) are) i ++ (if known_is tallies seen s.thing are i then [] else record { thing = s.thing; count = 1; first = s.order } ∷ []))
+          (λ i. (is_bumped ∙ ap (map (bump same s.outcome)) are) i ++ (if known_is tallies seen s.outcome are i then [] else record { outcome = s.outcome; count = 1; first = s.order } ∷ []))
           ∙ sym (counted-push seen s)
 
-      pub shown_again : is_known same s.thing tallies ≡ true → map count_of_tally bumped ≡ counted same (seen ++ s ∷ [])
+      pub shown_again : is_known same s.outcome tallies ≡ true → map count_of_tally bumped ≡ counted same (seen ++ s ∷ [])
       shown_again known =
-          sym (append-nil (map count_of_tally bumped)) ∙ ap (λ b. map count_of_tally bumped ++ (if b then [] else record { thing = s.thing; count = 1; first = s.order } ∷ [])) (sym known) ∙ after
+          sym (append-nil (map count_of_tally bumped)) ∙ ap (λ b. map count_of_tally bumped ++ (if b then [] else record { outcome = s.outcome; count = 1; first = s.order } ∷ [])) (sym known) ∙ after
 
       pub shown_first :
-          (tally : PathTally K) → is_known same s.thing tallies ≡ false → count_of_tally tally ≡ record { thing = s.thing; count = 1; first = s.order }
+          (tally : PathTally K) → is_known same s.outcome tallies ≡ false → count_of_tally tally ≡ record { outcome = s.outcome; count = 1; first = s.order }
           → map count_of_tally (bumped ++ tally ∷ []) ≡ counted same (seen ++ s ∷ [])
       shown_first tally new is =
           map-append count_of_tally bumped (tally ∷ []) ∙ ap (λ c. map count_of_tally bumped ++ c ∷ []) is
-          ∙ ap (λ b. map count_of_tally bumped ++ (if b then [] else record { thing = s.thing; count = 1; first = s.order } ∷ [])) (sym new) ∙ after
+          ∙ ap (λ b. map count_of_tally bumped ++ (if b then [] else record { outcome = s.outcome; count = 1; first = s.order } ∷ [])) (sym new) ∙ after
 
 -- what was lent whole has come back
 pub written_back : {X : Type 0} (n : ℕ) (old new : List X) → n ≡ length old → length new ≡ length old → take n (new ++ drop (length new) old) ≡ new

@@ -19,7 +19,7 @@ AreSamples-more :
 AreSamples-more plan host stream [] now visit after are is = (after, subst (λ s. IsDrawn plan host s visit after) are is, refl)
 AreSamples-more plan host stream (v ∷ visits) now visit after are is = (are.0, are.1, AreSamples-more plan host are.0 visits now visit after are.2 is)
 
--- `count` orders were drawn and run, and these are counted.
+-- `count` schedules were drawn and run, and these are counted.
 pub record IsSampling (plan : Plan) (stream : Stream) (count : ℕ) (now : Stream) (totals : Totals) : Type 0 where
   pub visits : List Visit
   pub are_samples : AreSamples plan (opening_host plan) stream visits now

@@ -12,29 +12,29 @@ use Rattle.plan_states.specs.declared.tally.PathTally.{PathTally}
 -- ---- the loop over tallies
 
 -- the first `n` are bumped, and the others are as they were
-pub record AreBumped {K : Type 0} (same : K → K → Bool) (thing : K) (old : List (PathTally K)) (n : ℕ) (new : List (PathTally K)) : Type 0 where
+pub record AreBumped {K : Type 0} (same : K → K → Bool) (outcome : K) (old : List (PathTally K)) (n : ℕ) (new : List (PathTally K)) : Type 0 where
   pub all : length new ≡ length old
-  pub done : (k : ℕ) (d : PathTally K) → k < n → count_of_tally (get_or new k d) ≡ bump same thing (count_of_tally (get_or old k d))
+  pub done : (k : ℕ) (d : PathTally K) → k < n → count_of_tally (get_or new k d) ≡ bump same outcome (count_of_tally (get_or old k d))
   pub left : (k : ℕ) (d : PathTally K) → n ≤ k → get_or new k d ≡ get_or old k d
 
 only : (b : Bool) → (b || false) ≡ b
 only true = refl
 only false = refl
 
-module _ {K : Type 0} (same : K → K → Bool) (thing : K) (old : List (PathTally K)) (n : ℕ) (new : List (PathTally K)) where
+module _ {K : Type 0} (same : K → K → Bool) (outcome : K) (old : List (PathTally K)) (n : ℕ) (new : List (PathTally K)) where
   AreBumped-more :
       (item after : PathTally K) (newer : List (PathTally K))
-      → AreBumped same thing old n new → n < length new → item ≡ get_or new n item
-      → newer ≡ set new n after → count_of_tally after ≡ bump same thing (count_of_tally item)
-      → AreBumped same thing old (n + 1) newer
+      → AreBumped same outcome old n new → n < length new → item ≡ get_or new n item
+      → newer ≡ set new n after → count_of_tally after ≡ bump same outcome (count_of_tally item)
+      → AreBumped same outcome old (n + 1) newer
   AreBumped-more item after newer is inside is_item is_newer is_after =
       let all = is.all in
       record {
         all = ap length is_newer ∙ length-set new n after ∙ is.all;
-        done = λ k d below. elim (eqb_tells k n) as (λ _. count_of_tally (get_or newer k d) ≡ bump same thing (count_of_tally (get_or old k d))) [
-          | inl here ↦ subst (λ j. count_of_tally (get_or newer j d) ≡ bump same thing (count_of_tally (get_or old j d))) (sym here.1)
+        done = λ k d below. elim (eqb_tells k n) as (λ _. count_of_tally (get_or newer k d) ≡ bump same outcome (count_of_tally (get_or old k d))) [
+          | inl here ↦ subst (λ j. count_of_tally (get_or newer j d) ≡ bump same outcome (count_of_tally (get_or old j d))) (sym here.1)
               (ap count_of_tally (ap (λ l. get_or l n d) is_newer ∙ get_or-set_same new n after d inside) ∙ is_after
-              ∙ ap (λ t. bump same thing (count_of_tally t)) (is_item ∙ get_or_default new n item d inside ∙ is.left n d (omega arith)))
+              ∙ ap (λ t. bump same outcome (count_of_tally t)) (is_item ∙ get_or_default new n item d inside ∙ is.left n d (omega arith)))
           | inr other ↦ ap count_of_tally (ap (λ l. get_or l k d) is_newer ∙ get_or-set_other new n k after d other.1) ∙ is.done k d (let apart = other.1 in omega arith)
         ];
         left = λ k d above. ap (λ l. get_or l k d) is_newer ∙ get_or-set_other new n k after d (λ e. absurd (omega arith)) ∙ is.left k d (omega arith);
@@ -42,13 +42,13 @@ module _ {K : Type 0} (same : K → K → Bool) (thing : K) (old : List (PathTal
 
   pub AreBumped-once :
       (d : PathTally K) (count : ℕ) (newer : List (PathTally K))
-      → AreBumped same thing old n new → n < length new → same (get_or new n d).thing thing ≡ true
+      → AreBumped same outcome old n new → n < length new → same (get_or new n d).outcome outcome ≡ true
       → newer ≡ set new n (record (get_or new n d) { count = count }) → count ≡ (get_or new n d).count + 1
-      → AreBumped same thing old (n + 1) newer
+      → AreBumped same outcome old (n + 1) newer
   AreBumped-once d count newer is inside is_same is_newer once =
       AreBumped-more (get_or new n d) (record (get_or new n d) { count = count }) newer is inside (get_or_default new n d (get_or new n d) inside) is_newer
       (λ i. record {
-        thing = (get_or new n d).thing;
+        outcome = (get_or new n d).outcome;
         count = (once ∙ ap (λ t. if t then (get_or new n d).count + 1 else (get_or new n d).count)
             (sym is_same)) i;
         first = (get_or new n d).first.items;
@@ -56,27 +56,27 @@ module _ {K : Type 0} (same : K → K → Bool) (thing : K) (old : List (PathTal
 
   pub AreBumped-same :
       (d : PathTally K) (newer : List (PathTally K))
-      → AreBumped same thing old n new → n < length new → same (get_or new n d).thing thing ≡ false
+      → AreBumped same outcome old n new → n < length new → same (get_or new n d).outcome outcome ≡ false
       → newer ≡ set new n (get_or new n d)
-      → AreBumped same thing old (n + 1) newer
+      → AreBumped same outcome old (n + 1) newer
   AreBumped-same d newer is inside other is_newer =
       AreBumped-more (get_or new n d) (get_or new n d) newer is inside (get_or_default new n d (get_or new n d) inside) is_newer
       (λ i. record {
-        thing = (get_or new n d).thing;
+        outcome = (get_or new n d).outcome;
         count = ap (λ t. if t then (get_or new n d).count + 1 else (get_or new n d).count)
             (sym other) i;
         first = (get_or new n d).first.items;
       })
 
   pub is_known-more :
-      (d : PathTally K) → AreBumped same thing old n new → n < length new
-      → is_known same thing (take (n + 1) old) ≡ (is_known same thing (take n old) || same (get_or new n d).thing thing)
+      (d : PathTally K) → AreBumped same outcome old n new → n < length new
+      → is_known same outcome (take (n + 1) old) ≡ (is_known same outcome (take n old) || same (get_or new n d).outcome outcome)
   is_known-more d is inside =
       let all = is.all in
       let within : n < length old = omega arith in
-      ap (is_known same thing) (take_more old n d within) ∙ list_any-append (λ t. same t.thing thing) (take n old) (get_or old n d ∷ [])
-      ∙ ap (λ b. is_known same thing (take n old) || b) (only (same (get_or old n d).thing thing))
-      ∙ ap (λ t. is_known same thing (take n old) || same t.thing thing) (sym (is.left n d (omega arith)))
+      ap (is_known same outcome) (take_more old n d within) ∙ list_any-append (λ t. same t.outcome outcome) (take n old) (get_or old n d ∷ [])
+      ∙ ap (λ b. is_known same outcome (take n old) || b) (only (same (get_or old n d).outcome outcome))
+      ∙ ap (λ t. is_known same outcome (take n old) || same t.outcome outcome) (sym (is.left n d (omega arith)))
 
 pub or_same : (a b : Bool) → b ≡ true → (a || b) ≡ true
 or_same true b is = refl
@@ -87,18 +87,18 @@ or_other true b is = refl
 or_other false b is = is
 
 pub all_bumped :
-    {K : Type 0} (same : K → K → Bool) (thing : K) (old : List (PathTally K)) (n : ℕ) (new : List (PathTally K))
-    → length old ≤ n → AreBumped same thing old n new
-    → map count_of_tally new ≡ map (bump same thing) (map count_of_tally old)
-all_bumped same thing [] n [] few is = refl
-all_bumped same thing [] n (t ∷ new) few is = absurd (let all = is.all in omega arith)
-all_bumped same thing (o ∷ old) n [] few is = absurd (let all = is.all in omega arith)
-all_bumped {K} same thing (o ∷ old) n (t ∷ new) few is =
+    {K : Type 0} (same : K → K → Bool) (outcome : K) (old : List (PathTally K)) (n : ℕ) (new : List (PathTally K))
+    → length old ≤ n → AreBumped same outcome old n new
+    → map count_of_tally new ≡ map (bump same outcome) (map count_of_tally old)
+all_bumped same outcome [] n [] few is = refl
+all_bumped same outcome [] n (t ∷ new) few is = absurd (let all = is.all in omega arith)
+all_bumped same outcome (o ∷ old) n [] few is = absurd (let all = is.all in omega arith)
+all_bumped {K} same outcome (o ∷ old) n (t ∷ new) few is =
     let all = is.all in
     let new_length = length-map (t ∷ new) (count_of_tally {K = K}) in
     let old_length = length-map (o ∷ old) (count_of_tally {K = K}) in
-    let bumped_length = length-map (map count_of_tally (o ∷ old)) (bump same thing) in
-    ext_get_or (count_of_tally t) (map count_of_tally (t ∷ new)) (map (bump same thing) (map count_of_tally (o ∷ old))) (omega arith) (λ i inside.
+    let bumped_length = length-map (map count_of_tally (o ∷ old)) (bump same outcome) in
+    ext_get_or (count_of_tally t) (map count_of_tally (t ∷ new)) (map (bump same outcome) (map count_of_tally (o ∷ old))) (omega arith) (λ i inside.
     get_or-map count_of_tally (t ∷ new) i t (count_of_tally t) (omega arith) ∙ is.done i t (omega arith)
-    ∙ ap (bump same thing) (sym (get_or-map count_of_tally (o ∷ old) i t (count_of_tally t) (omega arith)))
-    ∙ sym (get_or-map (bump same thing) (map count_of_tally (o ∷ old)) i (count_of_tally t) (count_of_tally t) (omega arith)))
+    ∙ ap (bump same outcome) (sym (get_or-map count_of_tally (o ∷ old) i t (count_of_tally t) (omega arith)))
+    ∙ sym (get_or-map (bump same outcome) (map count_of_tally (o ∷ old)) i (count_of_tally t) (count_of_tally t) (omega arith)))

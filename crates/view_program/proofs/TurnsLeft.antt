@@ -18,7 +18,7 @@ use Rattle.realm_plan.specs.Plan.{Plan}
 use Rattle.plan_replay.specs.Place.{first_place, giving_up, is_refusal, moved_on, number_after}
 use Rattle.plan_replay.specs.Turn.{undoes_many}
 use Rattle.plan_replay.specs.Run.{Position, Turn, given_up, place_of, step_after, step_numbered, IsTurnOf, IsTurn}
-use Rattle.plan_replay.specs.Turn.{answer_of_one, left_after, to_go_back, above_mark, IsOneOfMany, IsTurnOfMany, IsToAbort, IsStepTurn}
+use Rattle.plan_replay.specs.Turn.{answer_of_one, left_after, undos_to_go, above_mark, IsOneOfMany, IsTurnOfMany, IsToAbort, IsStepTurn}
 use Rattle.plan_replay.specs.declared.answer.TurnAnswer.{TurnAnswer}
 use Rattle.plan_replay.specs.declared.answer.TurnAnswer.TheVariants.{Nothing, Ended, Undone as Undid}
 use Rattle.plan_replay.specs.declared.place.PlanCursor.{PlanCursor}
@@ -100,7 +100,7 @@ abort_counts : (host : HostView) (build : ℕ) (place : PlanCursor) (count : Res
 abort_counts host build place count begun is =
     elim (place.left == 0) as (λ b. OnFalse b ((count ≡ Ok place.left) × (begun ≡ host)) → OnFalse b (count ≡ Ok place.left)) [ true ↦ λ _. tt | false ↦ λ w. w.0 ] is.1
 
-back_counts : (host : HostView) (build : ℕ) (place : PlanCursor) → Counts (to_go_back host build place) place
+back_counts : (host : HostView) (build : ℕ) (place : PlanCursor) → Counts (undos_to_go host build place) place
 back_counts host build place =
     elim (place.left == 0) as (λ b. OnFalse b ((if b then above_mark host build place.mark else Ok place.left) ≡ Ok place.left)) [ true ↦ tt | false ↦ refl ]
 
@@ -124,7 +124,7 @@ less_step host build place (Whole Abort) answer new after steady is =
 less_step host build place (Whole Mark) answer new after steady is =
     less_single (Whole Mark) place after (steady refl) (ap (λ (p : PlanCursor). p.left) is.place_is) (ap (λ (p : PlanCursor). p.done) is.place_is)
 less_step host build place (Whole Back) answer new after steady is =
-    (less_many (to_go_back host build place) host build place answer new after (back_counts host build place) is, λ no. absurd cc)
+    (less_many (undos_to_go host build place) host build place answer new after (back_counts host build place) is, λ no. absurd cc)
 less_step host build place (WidthLeftOut rd root) answer new after steady is =
     less_single (WidthLeftOut rd root) place after (steady refl) (ap (λ (p : PlanCursor). p.left) is.1) (ap (λ (p : PlanCursor). p.done) is.1)
 
@@ -465,7 +465,7 @@ accepted_or_at_rest host build place (Whole Abort) answer new after steady is =
     many is.count is.begun build place answer new after (abort_counts host build place is.count is.begun is.to_undo) is.is_turn
 accepted_or_at_rest host build place (Whole Mark) answer new after steady is = inr (ap (λ (p : PlanCursor). p.left) is.place_is ∙ steady refl)
 accepted_or_at_rest host build place (Whole Back) answer new after steady is =
-    many (to_go_back host build place) host build place answer new after (back_counts host build place) is
+    many (undos_to_go host build place) host build place answer new after (back_counts host build place) is
 accepted_or_at_rest host build place (WidthLeftOut rd root) answer new after steady is = inr (ap (λ (p : PlanCursor). p.left) is.1 ∙ steady refl)
 
 moved_done : (gives_up : Bool) (answer : TurnAnswer) (after : PlanCursor) → after.left ≡ 0 → after.done < (moved_on gives_up answer after).done

@@ -11,13 +11,13 @@ use Rattle.view_program.specs.declared.schedules.totals.Totals.{Totals}
 
 -- the number of schedules that were drawn
 abbrev pub drawn_line : ℕ → List ℕ
-drawn_line orders = codes "orders drawn " ++ (numeral orders ++ 10 ∷ [])
+drawn_line schedule_count = codes "orders drawn " ++ (numeral schedule_count ++ 10 ∷ [])
 
 -- a map in the end
 abbrev pub map_lines : ℕ → PathTally (String Global) → List ℕ
-map_lines orders tally = map_shown orders (string_bytes tally.thing) tally.first.items tally.count
+map_lines schedule_count tally = map_shown schedule_count (string_bytes tally.outcome) tally.first.items tally.count
 
 -- the outcomes of schedules that were drawn
 abbrev pub drawn_text : Plan → Totals → List ℕ
 drawn_text plan totals =
-    drawn_line totals.steps.orders ++ (step_outcomes_text plan totals.steps ++ flat_map (map_lines totals.steps.orders) totals.maps.items)
+    drawn_line totals.steps.schedule_count ++ (step_outcomes_text plan totals.steps ++ flat_map (map_lines totals.steps.schedule_count) totals.maps.items)

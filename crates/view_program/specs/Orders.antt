@@ -49,7 +49,7 @@ plan_after GoOn plan = plan
 plan_after GiveUp plan = record plan { gives_up = true }
 
 abbrev pub IsExploredText : Schedules → AfterRefusal → Plan → List ℕ → Type 0
-IsExploredText orders after plan text = IsSchedulesText orders (plan_after after plan) text
+IsExploredText schedule_count after plan text = IsSchedulesText schedule_count (plan_after after plan) text
 
 abbrev pub IsWithoutExplored : Schedules → AfterRefusal → Plan → Fault → Type 0
-IsWithoutExplored orders after plan fault = IsWithoutSchedules orders (plan_after after plan) fault
+IsWithoutExplored schedule_count after plan fault = IsWithoutSchedules schedule_count (plan_after after plan) fault

@@ -91,6 +91,6 @@ IsRunEnd Json source unread input old new result = EndsAs (IsPlanEnd IsJsonText 
 IsRunEnd Page source unread input old new result = EndsAs (IsPlanEnd IsPageText (IsWithoutText None) source unread input old new) result
 IsRunEnd (Why all) source unread input old new result = EndsAs (IsPlanEnd IsWhyText (IsWithoutText None) source unread input old new) result
 IsRunEnd (Calls base form) source unread input old new result = EndsAs (IsPlanEnd IsCallsText (IsWithoutText None) source unread input old new) result
-IsRunEnd (Explore orders after) source unread input old new result = EndsAs (IsPlanEnd (IsExploredText orders after) (IsWithoutExplored orders after) source unread input old new) result
+IsRunEnd (Explore schedule_count after) source unread input old new result = EndsAs (IsPlanEnd (IsExploredText schedule_count after) (IsWithoutExplored schedule_count after) source unread input old new) result
 IsRunEnd (Order turns) source unread input old new result = EndsAs (IsReorderEnd turns source unread input old new) result
 IsRunEnd Check source unread input old new result = IsCheckEnd source unread input old new result

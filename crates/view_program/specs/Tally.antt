@@ -6,30 +6,30 @@ use Rattle.plan_states.specs.declared.tally.PathTally.{PathTally}
 
 -- An outcome, and the schedule that has it.
 pub record Sighting (K : Type 0) : Type 0 where
-  pub thing : K
+  pub outcome : K
   pub order : List ℕ
 
 abbrev pub is_shown : {K : Type 0} → (K → K → Bool) → List (Sighting K) → K → Bool
-is_shown same seen thing = list_any (λ s. same s.thing thing) seen
+is_shown same seen outcome = list_any (λ s. same s.outcome outcome) seen
 
 -- The outcomes that are new, if `earlier` are known.
 abbrev pub firsts : {K : Type 0} → (K → K → Bool) → List (Sighting K) → List (Sighting K) → List (Sighting K)
 firsts same earlier [] = []
 firsts same earlier (s ∷ seen) =
-    (if is_shown same earlier s.thing then [] else s ∷ []) ++ firsts same (earlier ++ s ∷ []) seen
+    (if is_shown same earlier s.outcome then [] else s ∷ []) ++ firsts same (earlier ++ s ∷ []) seen
 
 -- the number of schedules that have an outcome
 abbrev pub times : {K : Type 0} → (K → K → Bool) → List (Sighting K) → K → ℕ
-times same seen thing = count_by (λ s. same thing s.thing) seen
+times same seen outcome = count_by (λ s. same outcome s.outcome) seen
 
 -- Each outcome, in the order of their first times.
 unfoldable pub counted : {K : Type 0} → (K → K → Bool) → List (Sighting K) → List (PathCount K)
-counted same seen = map (λ s. record { thing = s.thing; count = times same seen s.thing; first = s.order }) (firsts same [] seen)
+counted same seen = map (λ s. record { outcome = s.outcome; count = times same seen s.outcome; first = s.order }) (firsts same [] seen)
 
--- an outcome with its count, once `thing` is counted once more
+-- an outcome with its count, once `outcome` is counted once more
 abbrev pub bump : {K : Type 0} → (K → K → Bool) → K → PathCount K → PathCount K
-bump same thing c = record c { count = if same c.thing thing then c.count + 1 else c.count }
+bump same outcome c = record c { count = if same c.outcome outcome then c.count + 1 else c.count }
 
 -- the outcome has a tally
 abbrev pub is_known : {K : Type 0} → (K → K → Bool) → K → List (PathTally K) → Bool
-is_known same thing tallies = list_any (λ t. same t.thing thing) tallies
+is_known same outcome tallies = list_any (λ t. same t.outcome outcome) tallies

@@ -22,7 +22,7 @@ abbrev pub chosen_schedule : List Choice → List ℕ
 chosen_schedule choices = map (λ choice. choice.build) choices
 
 abbrev pub sighting_in : {K : Type 0} → List Choice → K → Sighting K
-sighting_in choices thing = record { thing = thing; order = chosen_schedule choices }
+sighting_in choices outcome = record { outcome = outcome; order = chosen_schedule choices }
 
 abbrev pub ends_seen : Visit → List (Sighting EndOfStep)
 ends_seen visit = map (sighting_in visit.choices) visit.ends
@@ -54,8 +54,8 @@ same_text text other = bytes_eq (string_bytes text) (string_bytes other)
 
 -- The totals are those of these runs of a plan of `builds` builds.
 pub record AreTotals (builds : ℕ) (visits : List Visit) (totals : Totals) : Type 0 where
-  pub orders : totals.steps.orders ≡ length visits
-  pub wholes : map count_of_tally totals.steps.wholes.items ≡ counted beq (map whole_seen visits)
+  pub schedule_count : totals.steps.schedule_count ≡ length visits
+  pub by_refusal : map count_of_tally totals.steps.by_refusal.items ≡ counted beq (map whole_seen visits)
   pub ends : map count_of_tally totals.steps.ends.items ≡ counted same_end (flat_map ends_seen visits)
   pub maps : map count_of_tally totals.maps.items ≡ counted same_text (map map_seen visits)
-  pub smooth : map count_of_tally totals.steps.smooth.items ≡ counted nat_eq (flat_map (smooth_seen builds) visits)
+  pub never_refused : map count_of_tally totals.steps.never_refused.items ≡ counted nat_eq (flat_map (smooth_seen builds) visits)

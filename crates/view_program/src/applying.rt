@@ -1,4 +1,4 @@
-//! The subcommand `apply`. It applies the events of a history to a host, and writes the host's map.
+//! The subcommand `apply`, which applies a history's events to a host and writes its map.
 ghost use Rattle.std.specs.Prelude.{◌≡◌, ◌<◌, ◌↔◌, ◌⊎◌, false, true, Err, IfOk, IfErr, string_bytes};
 ghost use Rattle.realm_host.specs.Recorded.{fresh_like};
 ghost use Rattle.history_text.specs.Histories.{IsSize};
@@ -74,8 +74,8 @@ fn asked_map(
     Ok(map_without(alloc, opening, host, build)?)
 }
 
-/// Applies a history to a fresh host, and writes the host's map. If a build is to be left out, writes the map of the
-/// history without the build's events.
+/// Applies a history to a fresh host, and writes the map of its pages and realms. If a build is to be left out, writes
+/// the map of the history without the build's events.
 ///
 /// The map is complete before any of it is written. The input is read line by line, and of a line no more than 256
 /// bytes are kept. Errors. `NoOpening`: the first line opens no machine, or there is none. `NoEvent` with the first

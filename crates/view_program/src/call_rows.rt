@@ -173,7 +173,8 @@ fn push_done(text: &mut String, action: &HostAction) -> Result<(), AllocError> {
     }
 }
 
-/// Appends the rows of an operation. `push_action` appends the trace line of an operation.
+/// Appends the rows of a host's operation to the text of a C table. `push_action` appends the trace line of the
+/// operation.
 ///
 /// `AllocError`: the text may have a part of the rows.
 pub(crate) fn push_action_rows(
@@ -192,8 +193,8 @@ pub(crate) fn push_action_rows(
     }
 }
 
-/// Appends the row that describes the machine of a frame. `push_platform` appends the trace line that describes the
-/// machine.
+/// Appends the row that describes the machine to the text of a C table. `push_platform` appends the trace line that
+/// describes the machine.
 pub(crate) fn push_platform_row(
     text: &mut String,
     frame: Frame,

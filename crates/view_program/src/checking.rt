@@ -10,10 +10,10 @@ use realm_program::read_whole;
 use std::alloc::Global;
 use std::io::{Read, Write};
 
-/// The outcome of a subcommand.
+/// The outcome of a `realmview` subcommand: success, or errors found by `check`.
 #[derive(Clone, Copy)]
 pub enum ViewOutcome {
-    /// A subcommand that is done.
+    /// A subcommand that succeeded.
     Done,
     /// An input of `check` that is not a plan. Its errors have been written.
     HasErrors,
@@ -30,8 +30,8 @@ fn verdict_of(is_plan: bool) -> ViewOutcome
     }
 }
 
-/// Checks an input as a plan, and writes the findings. The findings are all errors of bytes that are no plan, or else
-/// the plan's likely slips and size.
+/// Checks whether an input is a plan, and writes the findings. The findings are all errors of bytes that are no plan,
+/// or else the plan's likely slips and size.
 ///
 /// The text is complete before any of it is written. Errors: Memory, if allocation failed; Device, if a read failed and
 /// nothing is written, or if a write failed and a prefix of the text is written.

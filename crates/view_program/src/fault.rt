@@ -1,4 +1,4 @@
-//! The reasons why a text is not printed in full.
+//! The reasons why a `realmview` subcommand fails.
 ghost use Rattle.std.specs.Prelude.{◌≡◌};
 ghost use Rattle.view_program.specs.declared.fault.ViewError.TheVariants.{Plan, Memory, Device};
 
@@ -8,8 +8,8 @@ use realm_host::WhyNot;
 use std::alloc::AllocError;
 use thiserror::Error;
 
-/// The reason why a text is not printed in full. The line of the reason goes to standard error. Lines are counted from
-/// 1.
+/// The reason why a `realmview` subcommand fails. The text of the reason goes to standard error. Input lines are
+/// counted from 1.
 #[derive(Debug, Drop, Error)]
 pub enum ViewError {
     /// An input that is not a plan. The string has the input's errors as `check` writes them.
@@ -18,20 +18,21 @@ pub enum ViewError {
     /// A plan from which the requested text cannot be made, with the reason.
     #[error(transparent)]
     Plan(realm_program::Fault),
-    /// A history whose first line is missing or is not an opening.
+    /// A history whose first line is missing or does not describe a machine.
     #[error("line 1 opens no history")]
     NoOpening,
-    /// A line that is not an event, with its number.
+    /// A line of a history that is not an event, with the line's number.
     #[error("line {0} is no event")]
     NoEvent(usize),
-    /// An event that cannot be applied. The fields are the number of its line, the reason, and the reason in words.
+    /// An event of a history that cannot be applied to the host. The fields are the number of its line, the reason, and
+    /// the reason in words.
     #[error("line {0} is refused: {2}")]
     Refused(usize, WhyNot, String),
-    /// A request to leave out a build that the machine does not have.
+    /// A request to leave out the events of a build that the machine does not have.
     #[error("erase names no build")]
     EraseNamesNoBuild,
-    /// A plan that its new schedule would make too large. With all the turns that its builds need, the plan would have
-    /// too many turns or bytes.
+    /// A plan that becomes too large with its new schedule. With all the turns that its builds need, the plan would
+    /// have too many turns or bytes.
     #[error("with the turns that its builds need, the plan has more than 16384 turns or 1048576 bytes")]
     OrderOutsideLimits,
     /// A failed allocation.

@@ -49,8 +49,8 @@ fn take_line<S: PageStore>(alloc: Global, host: &mut Host<S>, line: &[u8]) -> Re
     }
 }
 
-/// Applies the events of the next lines, in sequence. Stops at the first line that is no event, or whose event cannot
-/// be applied.
+/// Applies the events in the next lines of a history to a host, in sequence. Stops at the first line that is no event,
+/// or whose event cannot be applied.
 pub fn take_lines<R: Read, S: PageStore>(
     alloc: Global,
     lines: &mut Lines,
@@ -74,7 +74,7 @@ pub fn take_lines<R: Read, S: PageStore>(
     unreachable!()
 }
 
-/// Reads the opening of a history from its first line.
+/// Reads the first line of a history, which describes the machine.
 pub fn opening_in<R: Read>(
     lines: &mut Lines,
     input: &mut Told<R>,

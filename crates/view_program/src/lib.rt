@@ -1,5 +1,5 @@
-//! The parts of `realmview`, which shows plans and histories. They are its texts, its subcommands, and the reasons why
-//! it stops.
+//! The library of the program `realmview`, which shows plans and histories. It has the program's texts, its
+//! subcommands, and the reasons why it stops.
 //!
 //! `Histories`, `Reasons`, `Documents`, `Pages` and `Exploring` are the texts of plans that `print` writes. `apply`
 //! goes from the lines of a history to the map of its machine. `check` goes from bytes to the findings on them as a

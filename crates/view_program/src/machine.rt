@@ -9,7 +9,7 @@ use realm_host::{Host, Settings};
 use realm_program::boot_by;
 use std::alloc::{AllocError, Global};
 
-/// Boots a host with the settings in a history's opening. All pages of the host are free.
+/// Boots a host with the settings in the first line of a history. All pages of the host are free.
 pub fn boot(alloc: Global, opening: &Opening) -> Result<Host<BuddyArena>, AllocError>
     requires { IsSize opening.now }
     ensures { IfOk result (λ host. host ≡ host_of_opening opening.now) }

@@ -11,24 +11,25 @@ use toml_parser::{Key, ParseError, dotted_key, quoted, starts_string, unquoted};
 pub struct OrderPlace {
     pub from: usize,
     pub to: usize,
-    /// Whether this part is the value of a key `order`. If not, a line with the key can be put there.
+    /// Whether a plan's text has a key `order`, whose value is this part. If not, a line with the key can be put at the
+    /// place of this part.
     pub is_value: bool,
 }
 
-/// The reason why a key or its value cannot be read.
+/// The reason why a key or value of a plan's text cannot be read.
 #[derive(Drop)]
-enum Lost {
+enum KeyReadError {
     /// A failed allocation.
     Memory,
-    /// An item other than the expected one.
+    /// A syntax error in a key or value of a plan's text.
     Unread,
 }
 
-impl From<ParseError> for Lost {
-    fn from(error: ParseError) -> Lost {
+impl From<ParseError> for KeyReadError {
+    fn from(error: ParseError) -> KeyReadError {
         match error {
-            ParseError::OutOfMemory => Lost::Memory,
-            ParseError::At(..) => Lost::Unread,
+            ParseError::OutOfMemory => KeyReadError::Memory,
+            ParseError::At(..) => KeyReadError::Unread,
         }
     }
 }
@@ -48,8 +49,8 @@ pub fn order_place(alloc: Global, text: &str) -> Result<OrderPlace, AllocError> 
                 below = before(text, line_below(after));
                 rest = skip_blank(after, true);
             }
-            Err(Lost::Unread) => break,
-            Err(Lost::Memory) => return Err(AllocError),
+            Err(KeyReadError::Unread) => break,
+            Err(KeyReadError::Memory) => return Err(AllocError),
         }
     }
     Ok(OrderPlace {
@@ -86,7 +87,7 @@ fn line_below(s: &str) -> &str {
 }
 
 // A key, the text from its value on, and the text after the value.
-fn pair(alloc: Global, s: &str) -> Result<(Key, &str, &str), Lost> {
+fn pair(alloc: Global, s: &str) -> Result<(Key, &str, &str), KeyReadError> {
     let (key, equals) = dotted_key(alloc, s)?;
     let value = skip_ws(after_byte(equals)?);
     let after = after_value(alloc, value)?;
@@ -94,7 +95,7 @@ fn pair(alloc: Global, s: &str) -> Result<(Key, &str, &str), Lost> {
 }
 
 // The text after a value.
-fn after_value(alloc: Global, s: &str) -> Result<&str, Lost> {
+fn after_value(alloc: Global, s: &str) -> Result<&str, KeyReadError> {
     let mut rest = s;
     let mut depth: usize = 0;
     for _ in 0..s.len() {
@@ -105,12 +106,12 @@ fn after_value(alloc: Global, s: &str) -> Result<&str, Lost> {
         }
         rest = skip_blank(after, true);
     }
-    Err(Lost::Unread)
+    Err(KeyReadError::Unread)
 }
 
 // The text after the next part of a value: a string, a scalar, or one byte. `depth` arrays and tables are open before
 // the part.
-fn after_part(alloc: Global, s: &str, depth: usize) -> Result<&str, Lost> {
+fn after_part(alloc: Global, s: &str, depth: usize) -> Result<&str, KeyReadError> {
     let next = first(s);
     if starts_string(s) {
         behind(quoted(alloc, s))
@@ -122,10 +123,10 @@ fn after_part(alloc: Global, s: &str, depth: usize) -> Result<&str, Lost> {
 }
 
 // The text that is left after a successful read.
-fn behind<T: Drop>(read: Result<(T, &str), ParseError>) -> Result<&str, Lost> {
+fn behind<T: Drop>(read: Result<(T, &str), ParseError>) -> Result<&str, KeyReadError> {
     match read {
         Ok((_, after)) => Ok(after),
-        Err(error) => Err(Lost::from(error)),
+        Err(error) => Err(KeyReadError::from(error)),
     }
 }
 
@@ -139,10 +140,10 @@ fn depth_after(depth: usize, byte: u8) -> usize {
 }
 
 // The text without its first byte, which has to be an ASCII character other than NUL.
-fn after_byte(s: &str) -> Result<&str, Lost> {
+fn after_byte(s: &str) -> Result<&str, KeyReadError> {
     let byte = first(s);
     if byte == 0 || byte >= 128 {
-        return Err(Lost::Unread);
+        return Err(KeyReadError::Unread);
     }
     Ok(skip(s, 1))
 }

@@ -2,13 +2,13 @@
 use std::alloc::{AllocError, Global};
 use std::fmt;
 
-/// The most turns that are written on the line of the key `order`. Such a line has up to 100 columns.
+/// The maximum number of turns in a schedule's text of a single line. Such a line has up to 100 columns.
 const MOST_ON_ONE: usize = 30;
 
-/// The most turns on one line below the key `order`. Such a line has up to 100 columns too.
+/// The maximum number of turns on each line of a longer schedule's text. Such a line has up to 100 columns too.
 const TURNS_A_LINE: usize = 32;
 
-/// Turns that are displayed with commas between them.
+/// The builds of a schedule's turns, displayed as numbers with commas between them.
 #[derive(Clone, Copy)]
 struct Turns<'a>(&'a [usize]);
 
@@ -33,7 +33,8 @@ fn push_lines(text: &mut String, order: &[usize]) -> Result<(), AllocError> {
     text.push_str("]")
 }
 
-/// Returns the text of a schedule as an array. Up to 30 turns are on one line, and more turns are in lines of up to 32.
+/// Returns the text of a schedule as a TOML array of build numbers. Up to 30 turns are on one line, and more turns are
+/// in lines of up to 32.
 pub fn order_array(alloc: Global, order: &[usize]) -> Result<String, AllocError> {
     let mut text = String::new(alloc);
     if order.len() > MOST_ON_ONE {

@@ -6,8 +6,8 @@ use realm_program::boot;
 use serde::Serialize;
 use std::alloc::{AllocError, Global};
 
-/// A refused turn, with the check that fails and a step that helps. Turns are counted from 0 as in the document of the
-/// run, and the step is empty if none helps.
+/// A turn whose step is refused, with the failed check and a step that helps. Turns are counted from 0 as in the
+/// document of the run, and the helping step is empty if there is none.
 #[derive(Drop, Serialize)]
 pub(crate) struct RefusedTurn {
     turn: usize,
@@ -16,7 +16,7 @@ pub(crate) struct RefusedTurn {
     help: String,
 }
 
-/// Returns the refused turns of a plan's run.
+/// Returns the turns of a plan's run in which a step is refused.
 pub(crate) fn refused_turns(alloc: Global, plan: &Plan) -> Result<Vec<RefusedTurn>, AllocError> {
     let mut host = boot::<BuddyArena>(alloc, plan)?;
     let mut refused = Vec::new(alloc);

@@ -1,4 +1,4 @@
-//! A plan with the shortest schedule that answers a question.
+//! A plan with the shortest schedule that shows a given effect, such as a refusal.
 ghost use Rattle.std.specs.Prelude.{◌≡◌, true, IfOk, IfErr, string_bytes};
 ghost use Rattle.realm_plan.specs.PlanView.{plan_view};
 ghost use Rattle.plan_states.specs.Exploration.{HasNoGraph};
@@ -39,7 +39,7 @@ fn question_of_options(asked: ScheduleQuestion) -> TurnQuestion
 }
 
 // Whether `order` is the plan's own schedule and the last turn of that schedule answers the question.
-fn goes_to(
+fn ends_with_answer(
     alloc: Global,
     plan: &Plan,
     order: &[usize],
@@ -73,7 +73,7 @@ fn plan_to(
 {
     let text = with_order(alloc, source, order)?;
     match Plan::from_bytes(alloc, &text) {
-        Ok(plan) if goes_to(alloc, &plan, order, question)? => Ok(text),
+        Ok(plan) if ends_with_answer(alloc, &plan, order, question)? => Ok(text),
         Err(PlanError::Memory) => Err(Fault::Memory),
         _ => Err(Fault::Mismatch),
     }
@@ -119,8 +119,9 @@ fn never_text(alloc: Global, asked: ScheduleQuestion) -> Result<String, AllocErr
     }
 }
 
-/// Returns the text of a plan whose schedule answers a question. It is the shortest schedule whose last turn answers
-/// the question. If there is none, or if there are more than `most` states, returns a line that says so.
+/// Returns a plan's text with the shortest schedule whose last turn shows a requested effect. The effect is the answer
+/// to the question `asked`. If there is no such schedule, or if there are more than `most` states, returns a line that
+/// says so.
 ///
 /// Errors. `Memory`: allocation failed. `Mismatch`: with its new schedule the plan has more than 1,048,576 bytes. Or a
 /// run does not go on as another one said, which never happens on a host that gives the same answers to the same calls.

@@ -1,4 +1,4 @@
-//! The calls of a plan's run, as a trace or a C table.
+//! The RMM calls of a plan's run, as a trace or a C table.
 ghost use Rattle.std.specs.Prelude.{◌<◌, None, vec_len};
 ghost use Rattle.realm_program.specs.Replay.{IsWithoutText};
 ghost use Rattle.view_program.specs.Calls.{IsCallsText};
@@ -37,7 +37,7 @@ fn is_beside_ram(host: &Host<BuddyArena>, event: &Event) -> bool {
     }
 }
 
-/// The text of the calls so far. `runs` has the pages for the exits from running RECs.
+/// The text of the RMM calls in a plan's run so far. `runs` has the pages for the exits from running RECs.
 #[derive(Drop)]
 struct CallsText {
     text: String,
@@ -182,7 +182,7 @@ fn calls_text(
     Ok(calls.text)
 }
 
-/// The texts of the calls that plans' runs make to an RMM. A plan has none only if allocation failed.
+/// The text of the calls that a plan's run makes to an RMM. A plan has none only if allocation failed.
 #[derive(Drop)]
 pub struct Calls {
     /// The address of granule 0, in bytes.

@@ -1,4 +1,4 @@
-//! The text of the history of a run.
+//! The text of the history of a plan's run.
 ghost use Rattle.std.specs.Prelude.{◌≡◌, IfOk, IfErr, string_bytes};
 ghost use Rattle.realm_plan.specs.PlanView.{plan_view};
 ghost use Rattle.realm_program.specs.Replay.{opening_host, IsWithoutText};
@@ -73,7 +73,7 @@ fn run_text(alloc: Global, plan: &Plan, erase: Option<BuildId>) -> Result<String
 /// own (EraseNamesNoBuild), or if allocation failed.
 #[derive(Drop)]
 pub struct Histories {
-    /// The build to leave out, if any.
+    /// The build whose events the history leaves out, if any.
     pub erase: Option<BuildId>,
 }
 

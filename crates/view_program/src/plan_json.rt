@@ -1,4 +1,4 @@
-//! The JSON documents of runs.
+//! The JSON documents of plans' runs.
 ghost use Rattle.std.specs.Prelude.{None, IfOk};
 ghost use Rattle.realm_plan.specs.PlanView.{plan_view};
 ghost use Rattle.realm_program.specs.Replay.{IsWithoutText, opening_host};
@@ -13,7 +13,7 @@ use realm_program::{Fault, boot};
 use run_json::{Document, json_text, run_document};
 use std::alloc::{AllocError, Global};
 
-/// Returns the document of a plan's run, and the ledger after the run.
+/// Runs a plan, and returns the run's JSON document and the host's ledger after it.
 pub(crate) fn run_of(alloc: Global, plan: &Plan) -> Result<(Document, HostLedger), AllocError>
     ensures { IfOk result (λ ran. IsDocument (plan_view plan.now) (opening_host (plan_view plan.now)) ran.1 ran.0) }
 {

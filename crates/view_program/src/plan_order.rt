@@ -1,4 +1,5 @@
-//! The subcommand `order`. It rewrites a plan with a schedule that gives each build all the turns that it needs.
+//! The subcommand `order`, which gives a plan a new schedule. The schedule gives each build all the turns that it
+//! needs.
 ghost use Rattle.std.specs.Prelude.{◌≡◌, ◌+◌, ◌≤◌, ◌↔◌, ◌⊎◌, false, true, Err, IfOk, IfErr, OnOk};
 ghost use Rattle.realm_plan.specs.PlanView.{plan_view};
 ghost use Rattle.view_program.specs.Reordered.{IsOrderOf, IsWholeText, IsNotWhole, IsNotReordered, IsReorderEnd};

@@ -1,4 +1,4 @@
-//! The browser pages that show runs.
+//! The browser pages that show the runs of plans.
 ghost use Rattle.std.specs.Prelude.{◌≡◌, ◌<◌, None, IfOk, vec_len};
 ghost use Rattle.realm_plan.specs.PlanView.{plan_view};
 ghost use Rattle.realm_host.specs.Recorded.{fresh_like, IsWithout};
@@ -18,8 +18,8 @@ use run_json::{Document, WorldItem, json_text, page_of, world_item};
 use serde::Serialize;
 use std::alloc::{AllocError, Global};
 
-/// The data of a browser page. They have a run and its refused turns. For each build, they have the machine as it would
-/// be without that build's events. The title of the plan is empty if it has none.
+/// The data of a browser page that shows a plan's run and its refused turns. For each build, they also have the machine
+/// as it would be without that build's events. The title of the plan is empty if it has none.
 #[derive(Drop, Serialize)]
 struct PageData {
     run: Document,

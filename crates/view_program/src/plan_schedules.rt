@@ -1,4 +1,4 @@
-//! The outcomes of the schedules of plans.
+//! The text of the outcomes of a plan's possible schedules.
 ghost use Rattle.std.specs.Prelude.{◌≡◌, IfOk, IfErr, string_bytes};
 ghost use Rattle.realm_plan.specs.PlanView.{plan_view};
 ghost use Rattle.view_program.specs.Lines.{drawn_text};
@@ -44,13 +44,13 @@ fn orders_text_of<P: Progress>(
     alloc: Global,
     plan: &Plan,
     source: &[u8],
-    orders: Schedules,
+    schedule_count: Schedules,
     progress: &P,
 ) -> Result<Vec<u8>, Fault>
-    ensures ok { IfOk result (λ text. IsSchedulesText orders (plan_view plan.now) text.items) }
-    ensures err { IfErr result (IsWithoutSchedules orders (plan_view plan.now)) }
+    ensures ok { IfOk result (λ text. IsSchedulesText schedule_count (plan_view plan.now) text.items) }
+    ensures err { IfErr result (IsWithoutSchedules schedule_count (plan_view plan.now)) }
 {
-    match orders {
+    match schedule_count {
         Schedules::All(most) => Ok(states_text(alloc, plan, most as usize)?.into_bytes()),
         Schedules::Drawn(count, seed) => {
             Ok(run_drawn_of(alloc, plan, count, seed, progress)?.into_bytes())
@@ -69,15 +69,15 @@ fn plan_after(after: AfterRefusal, plan: Plan) -> Plan
     }
 }
 
-/// The outcomes of schedules of a plan's builds. The plan's own schedule has no effect on them. They are the number of
-/// schedules, and counts of the steps' outcomes, of builds without a refusal, and of final maps. Each outcome has the
-/// first schedule that shows it.
+/// A text that counts the outcomes of a plan's possible schedules. The plan's own schedule has no effect on the
+/// outcomes. It has the number of schedules, and counts of the steps' outcomes, of builds without a refusal, and of
+/// final maps. Each outcome has the first schedule that shows it.
 ///
 /// A plan has no such text if a run does not go on as another one said (Mismatch), or if allocation failed.
 #[derive(Drop)]
 pub struct Exploring<'a, P> {
-    /// The schedules whose outcomes are asked for.
-    pub orders: Schedules,
+    /// The schedules to explore: all of them, randomly drawn ones, or a shortest one.
+    pub schedule_count: Schedules,
     /// Whether the builds go on or give up after a refusal.
     pub after: AfterRefusal,
     /// The receiver of progress reports. Each schedule that is drawn and run is reported to it.
@@ -85,12 +85,12 @@ pub struct Exploring<'a, P> {
 }
 
 impl<P: Progress> ViewText for Exploring<'_, P> {
-    ghost is_text = { λ asked. IsExploredText asked.orders asked.after };
+    ghost is_text = { λ asked. IsExploredText asked.schedule_count asked.after };
 
-    ghost is_without = { λ asked. IsWithoutExplored asked.orders asked.after };
+    ghost is_without = { λ asked. IsWithoutExplored asked.schedule_count asked.after };
 
     fn text_of(&self, alloc: Global, plan: Plan, source: &[u8]) -> Result<Vec<u8>, Fault> {
         let plan = plan_after(self.after, plan);
-        orders_text_of(alloc, &plan, source, self.orders, self.progress)
+        orders_text_of(alloc, &plan, source, self.schedule_count, self.progress)
     }
 }

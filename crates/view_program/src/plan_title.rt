@@ -1,4 +1,4 @@
-//! The title of a plan.
+//! The title of a plan: the comment at the beginning of the plan's text.
 use std::alloc::{AllocError, Global};
 use std::str::from_utf8;
 
@@ -7,8 +7,8 @@ fn comment_in(line: &str) -> Option<&str> {
     Some(line.trim().strip_prefix('#')?.trim())
 }
 
-/// Returns the title of a plan. It is the comment at the beginning, with its lines joined by spaces. The title is empty
-/// if there is no comment.
+/// Returns the title of a plan, which is the comment at its beginning. The comment's lines are joined by spaces. The
+/// title is empty if there is no comment.
 pub(crate) fn plan_title(alloc: Global, source: &[u8]) -> Result<String, AllocError> {
     let text = from_utf8(source).unwrap_or("");
     let text = text.strip_prefix('\u{feff}').unwrap_or(text);

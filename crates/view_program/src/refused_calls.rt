@@ -1,9 +1,9 @@
-//! The calls for commands that the RMM refuses.
+//! The RMI calls for a host's commands that the RMM refuses.
 //!
 //! This project's RMM refuses some commands that RMM 1.0 accepts, or refuses with another word.
 use buddy::BuddyArena;
 use granule_addr::{BuildId, IpaGran, is_protected};
-use history_calls::{Actions, Frame, MOST_RUNS, actions_asked};
+use history_calls::{Actions, Frame, RUN_PAGE_COUNT, actions_asked};
 use host_commands::Cmd;
 use realm_host::Host;
 use realm_model::{Rmi, Status};
@@ -39,8 +39,8 @@ fn is_of_the_standard(host: &Host<BuddyArena>, build: BuildId, cmd: &Cmd, rmi: R
     }
 }
 
-/// Returns the operations for a command that the RMM has just refused. `None` if RMM 1.0 has no such call or may answer
-/// otherwise. The page for exits is one that no REC uses before all others are in use.
+/// Returns the RMM 1.0 operations for a host's command that was just refused. `None` if RMM 1.0 has no such call or may
+/// answer otherwise. The page for exits is one that no REC uses before all others are in use.
 pub(crate) fn refused_calls(
     frame: Frame,
     host: &Host<BuddyArena>,
@@ -51,5 +51,5 @@ pub(crate) fn refused_calls(
     if !is_of_the_standard(host, build, cmd, rmi) {
         return None;
     }
-    actions_asked(frame, host, build, MOST_RUNS - 1, cmd).ok()
+    actions_asked(frame, host, build, RUN_PAGE_COUNT - 1, cmd).ok()
 }

@@ -1,4 +1,4 @@
-//! The dispatch of the command line's subcommands.
+//! The dispatch of the subcommands of `realmview`.
 ghost use Rattle.std.specs.Prelude.{◌≡◌, ◌↔◌, ◌⊎◌, false, true, Err};
 ghost use Rattle.view_program.specs.Printed.{IsRunEnd};
 ghost use Rattle.view_program.specs.declared.fault.ViewError.TheVariants.{Device};
@@ -13,8 +13,8 @@ use checked_io::Told;
 use std::alloc::Global;
 use std::io::{Read, Write};
 
-/// Performs a subcommand. Its input is any reader, and its output is any writer. Findings on a plan name the input by
-/// `source`. `progress` receives the progress of an exploration of schedules.
+/// Performs the requested subcommand of `realmview`. Its input is any reader, and its output is any writer. Findings on
+/// a plan name the input by `source`. `progress` receives the progress of an exploration of schedules.
 pub fn run<R: Read, W: Write, P: Progress>(
     alloc: Global,
     asked: ViewSubcommand,
@@ -40,9 +40,9 @@ pub fn run<R: Read, W: Write, P: Progress>(
         ViewSubcommand::Json => print(&Documents, alloc, source, input, output)?,
         ViewSubcommand::Page => print(&Pages, alloc, source, input, output)?,
         ViewSubcommand::Check => return check(alloc, source, input, output),
-        ViewSubcommand::Explore(orders, after) => {
+        ViewSubcommand::Explore(schedule_count, after) => {
             let exploring = Exploring {
-                orders,
+                schedule_count,
                 after,
                 progress,
             };

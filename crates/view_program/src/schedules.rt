@@ -1,4 +1,4 @@
-//! Schedules of a plan. Some are drawn at random, and others give each build all the turns that it needs.
+//! Schedules of a plan: drawn at random, in rotation, or one build after another.
 mod add;
 mod choice;
 mod count;

@@ -1,4 +1,4 @@
-//! The counting of one more run in the totals.
+//! The addition of the outcomes of one schedule's run to the totals.
 ghost use Rattle.std.specs.Prelude.{◌≡◌, ◌++◌, ℕ, nat_eq, [], ◌∷◌, List, map, filter, OnOk};
 ghost use Rattle.std.specs.List.{list_any, range_with_len};
 ghost use Rattle.view_program.specs.Same.{same_end};
@@ -51,7 +51,7 @@ fn has_refusal(ends: &[EndOfStep]) -> bool
 }
 
 // Counts each build that had no refusal in a run.
-fn count_smooth(
+fn count_never_refused(
     alloc: Global,
     tallies: &mut Vec<PathTally<usize>>,
     builds: usize,
@@ -76,17 +76,17 @@ impl Totals {
     {
         Totals {
             steps: StepOutcomes {
-                orders: Count::zero(alloc),
-                wholes: Vec::new(alloc),
+                schedule_count: Count::zero(alloc),
+                by_refusal: Vec::new(alloc),
                 ends: Vec::new(alloc),
-                smooth: Vec::new(alloc),
+                never_refused: Vec::new(alloc),
             },
             maps: Vec::new(alloc),
         }
     }
 
-    /// Counts the run of one more schedule. The plan has `builds` builds. At an `Err` allocation failed, and a part of
-    /// the run may be counted: the totals are then those of no list of runs.
+    /// Adds the outcomes of one more schedule's run to the totals. The plan has `builds` builds. At an `Err` allocation
+    /// failed, and a part of the run may be counted: the totals are then those of no list of runs.
     pub fn add(
         &mut self,
         alloc: Global,
@@ -99,11 +99,11 @@ impl Totals {
             → AreTotals builds (visits ++ record { choices = choices.now; ends = ends.now; map = map } ∷ []) self.new) }
     {
         let steps = &mut self.steps;
-        count(alloc, &mut steps.wholes, has_refusal(ends), choices)?;
+        count(alloc, &mut steps.by_refusal, has_refusal(ends), choices)?;
         count_ends(alloc, &mut steps.ends, choices, ends)?;
-        count_smooth(alloc, &mut steps.smooth, builds, choices, ends)?;
+        count_never_refused(alloc, &mut steps.never_refused, builds, choices, ends)?;
         count(alloc, &mut self.maps, map, choices)?;
-        self.steps.orders.add_one()?;
+        self.steps.schedule_count.add_one()?;
         Ok(())
     }
 }

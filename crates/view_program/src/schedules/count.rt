@@ -8,7 +8,7 @@ use plan_states::PathTally;
 use schedule_graph::Count;
 use std::alloc::{AllocError, Global};
 
-/// Returns the builds that were chosen for the turns, in sequence. At an `Err` allocation failed.
+/// Returns the build that was chosen for each turn of a schedule, in sequence. At an `Err` allocation failed.
 pub(crate) fn builds_of(alloc: Global, order: &[Choice]) -> Result<Vec<usize>, AllocError>
     ensures { IfOk result (λ builds. builds.items ≡ map (λ choice. choice.build) order.now) }
 {
@@ -16,13 +16,13 @@ pub(crate) fn builds_of(alloc: Global, order: &[Choice]) -> Result<Vec<usize>, A
 }
 
 // Adds 1 to the tally of an outcome if it has one, and returns whether it has one.
-fn bump<K: Eq>(tallies: &mut [PathTally<K>], thing: &K) -> Result<bool, AllocError>
-    ensures bumped { OnOk result (map count_of_tally tallies.new ≡ map (bump K.eq thing.now) (map count_of_tally tallies.old)) }
-    ensures known { IfOk result (λ known. known ≡ is_known K.eq thing.now tallies.old) }
+fn bump<K: Eq>(tallies: &mut [PathTally<K>], outcome: &K) -> Result<bool, AllocError>
+    ensures bumped { OnOk result (map count_of_tally tallies.new ≡ map (bump K.eq outcome.now) (map count_of_tally tallies.old)) }
+    ensures known { IfOk result (λ known. known ≡ is_known K.eq outcome.now tallies.old) }
 {
     let mut is_known = false;
     for tally in tallies.iter_mut() {
-        if tally.thing == *thing {
+        if tally.outcome == *outcome {
             tally.count.add_one()?;
             is_known = true;
         }
@@ -30,24 +30,24 @@ fn bump<K: Eq>(tallies: &mut [PathTally<K>], thing: &K) -> Result<bool, AllocErr
     Ok(is_known)
 }
 
-/// Counts an outcome of a schedule. At an `Err` allocation failed.
+/// Counts an outcome of a schedule in the tally of that outcome. At an `Err` allocation failed.
 pub(crate) fn count<K: Eq + Drop>(
     alloc: Global,
     tallies: &mut Vec<PathTally<K>>,
-    thing: K,
+    outcome: K,
     order: &[Choice],
 ) -> Result<(), AllocError>
     ensures { OnOk result ((seen : List (Sighting _)) → map count_of_tally tallies.old.items ≡ counted K.eq seen
-        → map count_of_tally tallies.new.items ≡ counted K.eq (seen ++ record { thing = thing; order = map (λ choice. choice.build) order.now } ∷ [])) }
+        → map count_of_tally tallies.new.items ≡ counted K.eq (seen ++ record { outcome = outcome; order = map (λ choice. choice.build) order.now } ∷ [])) }
 {
-    let is_known = bump(tallies, &thing)?;
+    let is_known = bump(tallies, &outcome)?;
     if is_known {
         return Ok(());
     }
     let first = builds_of(alloc, order)?;
     let count = Count::one(alloc)?;
     tallies.push(PathTally {
-        thing,
+        outcome,
         count,
         first,
     })?;

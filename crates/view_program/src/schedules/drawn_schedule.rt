@@ -68,9 +68,9 @@ fn go_on_drawn<S: PageStore, R: Rng>(
     Ok(())
 }
 
-/// Runs a plan on a host until no build has a step left. The build of each turn is drawn from those that have one left.
-/// The choices are then those of the whole schedule, and the outcome of each step is recorded. At an `Err` allocation
-/// failed.
+/// Runs a plan on a host in a schedule that is drawn at random. The build of each turn is drawn from those that have a
+/// step left, until none has one. The choices are then those of the whole schedule, and the outcome of each step is
+/// recorded. At an `Err` allocation failed.
 pub fn run_drawn<S: PageStore, R: Rng>(
     host: &mut Host<S>,
     plan: &Plan,

@@ -1,4 +1,4 @@
-//! Theorems on schedules.
+//! Theorems on the schedules of a plan, and on their outcomes.
 ghost use Rattle.std.specs.Prelude.{◌≡◌, ◌↔◌, ℕ, Bool, true, List, [], length};
 ghost use Rattle.host_ledger.specs.View.{HostView};
 ghost use Rattle.realm_plan.specs.Plan.{Plan};
@@ -17,42 +17,43 @@ ghost use Rattle.plan_states.specs.declared.graph.Graph.{Graph};
 ghost use Rattle.plan_states.specs.declared.tally.Outcomes.{Outcomes};
 ghost use Rattle.plan_states.specs.declared.step_end.EndOfStep.{EndOfStep};
 
-/// `explore` prints the number of all schedules that follow a rule. The rule is any that agrees with the paths of the
-/// plan's graph. The rule says which of eight builds have a step left after which turns. In a plan without aborts and
-/// rollbacks that does not give up, a build has a step left if it had fewer turns than steps.
+/// The subcommand `explore` prints the number of all schedules that a plan allows. They are those that follow a rule.
+/// The rule is any that agrees with the paths of the plan's graph. The rule says which of eight builds have a step left
+/// after which turns. In a plan without aborts and rollbacks that does not give up, a build has a step left if it had
+/// fewer turns than steps.
 pub fn all_schedules_are_counted()
     ensures by_rule { (plan : Plan) (most : ℕ) (graph : Graph) (outcomes : Outcomes) (left : List ℕ → ℕ → Bool)
         → IsGraphWithin plan most graph → AreOutcomes (length plan.builds) graph outcomes → IsRuleOf plan graph left
-        → IsNumberOf (IsSchedule left []) outcomes.steps.orders }
+        → IsNumberOf (IsSchedule left []) outcomes.steps.schedule_count }
     ensures single_turns { (plan : Plan) (most : ℕ) (graph : Graph) (outcomes : Outcomes)
         → IsGraphWithin plan most graph → AreOutcomes (length plan.builds) graph outcomes → HasSingleTurns plan
-        → IsNumberOf (IsSchedule (by_turns plan) []) outcomes.steps.orders }
+        → IsNumberOf (IsSchedule (by_turns plan) []) outcomes.steps.schedule_count }
 {}
 
-/// A run in a chosen schedule is the run of a plan. It is the run of the same plan with its own schedule replaced by
-/// the chosen one.
+/// A run in a chosen schedule is a run of the plan with that schedule. The plan's own schedule is replaced by the
+/// chosen one.
 pub fn a_run_is_one_of_the_plan()
     ensures { (plan : Plan) (host : HostView) (choices : List Choice) (to : HostView) (ends : List EndOfStep)
         → IsChosenRun plan host choices to ends
         → (text : List ℕ) × IsReportedRun (record plan { order = chosen_schedule choices }) host to [] text }
 {}
 
-/// A run records the outcomes of steps that its lines report. The sequence is the same. Each outcome is that of a turn
-/// of the same build, with the refusal of its line.
+/// The step outcomes that a plan's run records are those in its output lines. The sequence is the same. Each outcome is
+/// that of a turn of the same build, with the refusal in its line.
 pub fn ends_are_reported()
     ensures { (plan : Plan) (host : HostView) (choices : List Choice) (to : HostView) (ends : List EndOfStep)
         → IsChosenRun plan host choices to ends
         → AreTold (record plan { order = chosen_schedule choices }) host to ends }
 {}
 
-/// Two outcomes of steps are counted as one exactly when they are equal. Equal outcomes are of the same step of the
+/// Two step outcomes are counted as the same if and only if they are equal. Equal outcomes are of the same step of the
 /// same build, with the same refusal and its numbers, or with none.
 pub fn end_texts_are_injective()
     ensures { (one other : EndOfStep) → (same_end one other ≡ true) ↔ (one ≡ other) }
 {}
 
-/// A build without open operations does not affect a host's map. If the history is legal, the map is that of the
-/// history without the build.
+/// Leaving out a build without open operations does not change a host's map. If the history is legal, the map is that
+/// of the history without the build.
 pub fn builds_with_nothing_open_are_not_seen()
     ensures { (host : HostView) (build : ℕ) → IsUnseen host build }
 {}

@@ -2,6 +2,6 @@
 
 /// A receiver of progress reports from a sample of schedules. Nothing in the sample depends on what it does.
 pub trait Progress {
-    /// Reports that `orders` of `most` schedules have been run.
-    fn told(&self, orders: u32, most: u32);
+    /// Reports that `schedule_count` of `most` schedules have been run.
+    fn told(&self, schedule_count: u32, most: u32);
 }

@@ -26,7 +26,7 @@ fn place_at(places: &[PlanCursor; 8], build: usize) -> PlanCursor
     places[build]
 }
 
-/// Returns which builds have a step left.
+/// Returns, for each of eight builds, whether it has a step left.
 #[tactic(auto, unfolding(crate::specs::Chosen::builds_left))]
 pub(crate) fn builds_left(plan: &Plan, places: &[PlanCursor; 8]) -> [bool; 8]
     ensures { result ≡ builds_left (plan_view plan.now) places.now }
@@ -38,7 +38,7 @@ pub(crate) fn builds_left(plan: &Plan, places: &[PlanCursor; 8]) -> [bool; 8]
     left
 }
 
-/// Finds the lowest build that has a step left.
+/// Finds the build with the lowest number that has a step left.
 #[tactic(auto, unfolding(crate::specs::Chosen::lowest_of))]
 pub(crate) fn lowest_of(left: &[bool; 8]) -> Option<usize>
     ensures { result ≡ lowest_of left.now }
@@ -106,7 +106,7 @@ fn go_on<S: PageStore>(
     Ok(())
 }
 
-/// Runs a plan on a host until no build has a step left. Each turn goes to the lowest build that has one left. The
+/// Runs the builds of a plan on a host, one after another. Each turn goes to the lowest build that has a step left. The
 /// choices are then those of the whole schedule, and the outcome of each step is recorded. At an `Err` allocation
 /// failed.
 pub(crate) fn run_one_by_one<S: PageStore>(

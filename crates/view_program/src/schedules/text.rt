@@ -11,11 +11,11 @@ use schedule_graph::Count;
 use std::alloc::AllocError;
 
 // Appends the line with the number of schedules.
-fn push_drawn_count(text: &mut String, orders: &Count) -> Result<(), AllocError>
-    ensures { OnOk result (string_bytes text.new ≡ string_bytes text.old ++ drawn_line orders.now) }
+fn push_drawn_count(text: &mut String, schedule_count: &Count) -> Result<(), AllocError>
+    ensures { OnOk result (string_bytes text.new ≡ string_bytes text.old ++ drawn_line schedule_count.now) }
 {
     text.push_str("orders drawn ")?;
-    orders.push_to(text)?;
+    schedule_count.push_to(text)?;
     text.push_str("\n")?;
     Ok(())
 }
@@ -23,24 +23,24 @@ fn push_drawn_count(text: &mut String, orders: &Count) -> Result<(), AllocError>
 // Appends the lines of the final maps.
 fn push_maps(
     text: &mut String,
-    orders: &Count,
+    schedule_count: &Count,
     maps: &[PathTally<String>],
 ) -> Result<(), AllocError>
-    ensures { OnOk result (string_bytes text.new ≡ string_bytes text.old ++ flat_map (map_lines orders.now) maps.now) }
+    ensures { OnOk result (string_bytes text.new ≡ string_bytes text.old ++ flat_map (map_lines schedule_count.now) maps.now) }
 {
     for map in maps {
-        push_map(text, orders, &map.thing, map)?;
+        push_map(text, schedule_count, &map.outcome, map)?;
     }
     Ok(())
 }
 
-/// Appends the outcomes of drawn schedules. They are the number of schedules, the outcomes of steps, and the final
-/// maps. At an `Err` allocation failed, and the text may have a part of it.
+/// Appends the text of the outcomes of randomly drawn schedules. It has the number of schedules, the outcomes of steps,
+/// and the final maps. At an `Err` allocation failed, and the text may have a part of it.
 pub fn push_drawn(text: &mut String, plan: &Plan, totals: &Totals) -> Result<(), AllocError>
     ensures { OnOk result (string_bytes text.new ≡ string_bytes text.old ++ drawn_text (plan_view plan.now) totals.now) }
 {
-    push_drawn_count(text, &totals.steps.orders)?;
+    push_drawn_count(text, &totals.steps.schedule_count)?;
     push_step_outcomes(text, plan, &totals.steps)?;
-    push_maps(text, &totals.steps.orders, &totals.maps)?;
+    push_maps(text, &totals.steps.schedule_count, &totals.maps)?;
     Ok(())
 }

@@ -26,8 +26,8 @@ pub fn schedule_in_rotation(alloc: Global, plan: &Plan) -> Result<Vec<usize>, Al
     builds_of(alloc, &choices)
 }
 
-/// Returns a schedule in which one build follows another. Each build has all its turns before the next build has one.
-/// The schedule has the index of each turn's build. It is the schedule of a run on a fresh host. The plan's own
+/// Returns a schedule that runs the builds one after another. Each build has all its turns before the next build has
+/// one. The schedule has the index of each turn's build. It is the schedule of a run on a fresh host. The plan's own
 /// schedule is not used. At an `Err` allocation failed.
 pub fn schedule_one_by_one(alloc: Global, plan: &Plan) -> Result<Vec<usize>, AllocError>
     ensures { IfOk result (λ order. IsWholeSchedule AreOneByOne (plan_view plan.now)

@@ -7,4 +7,4 @@ use Rattle.plan_states.proofs.lines.push_give_ups.Given as goal
 
 abbrev pub invariant-loop-tally : goal.invariant-loop-tally
 invariant-loop-tally l =
-    string_bytes l.text ≡ string_bytes l.fn.text ++ flat_map (give_up_shown l.outcomes.orders) (filter (is_of_step l.build giving_up) (take l.tally-index l.outcomes.ends.items))
+    string_bytes l.text ≡ string_bytes l.fn.text ++ flat_map (give_up_shown l.outcomes.schedule_count) (filter (is_of_step l.build giving_up) (take l.tally-index l.outcomes.ends.items))

@@ -6,5 +6,5 @@ use Rattle.plan_states.proofs.lines.push_never_refused.Goals as goal
 
 pub returns : goal.returns
 returns c =
-    joined (string_bytes c.args.text.now) (codes "never refused " ++ decimal c.args.tally.now.thing) (share_text c.args.orders.now c.args.tally.now.count c.args.tally.now.first.items)
+    joined (string_bytes c.args.text.now) (codes "never refused " ++ decimal c.args.tally.now.outcome) (share_text c.args.schedule_count.now c.args.tally.now.count c.args.tally.now.first.items)
     (string_bytes c.write.new.self) (string_bytes c.push_shown.new.text) c.in_ok-write.ensures.bytes (rw c.deref.ensures.value at c.in_ok-push_shown.ensures)

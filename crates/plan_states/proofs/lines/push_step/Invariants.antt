@@ -6,4 +6,4 @@ use Rattle.plan_states.proofs.lines.push_step.Given as goal
 
 abbrev pub invariant-loop-tally : goal.invariant-loop-tally
 invariant-loop-tally l =
-    string_bytes l.text ≡ string_bytes l.fn.text ++ flat_map (end_shown l.outcomes.orders l.step) (filter (is_of_step l.build l.place) (take l.tally-index l.outcomes.ends.items))
+    string_bytes l.text ≡ string_bytes l.fn.text ++ flat_map (end_shown l.outcomes.schedule_count l.step) (filter (is_of_step l.build l.place) (take l.tally-index l.outcomes.ends.items))

@@ -4,7 +4,7 @@ use Rattle.std.proofs.lemmas.Option.{slice_get-get_or, slice_get_past}
 use Rattle.schedule_graph.specs.First.{ArePathNumbers, any_path, layers_in, path_numbers_in}
 use Rattle.schedule_graph.specs.Paths.{paths, shows}
 use Rattle.schedule_graph.specs.declared.graph.Edge.{Edge}
-use Rattle.plan_states.specs.Signs.{has_number}
+use Rattle.plan_states.specs.LabelProperties.{has_number}
 use Rattle.plan_states.specs.Tallies.{layers_of, count_of_tally, tally_of, tally_of_end}
 use Rattle.plan_states.specs.declared.edges.Label.{Label}
 use Rattle.plan_states.specs.declared.step_end.EndOfStep.{EndOfStep}

@@ -3,7 +3,7 @@ use Rattle.std.specs.Prelude.{option_map}
 use Rattle.schedule_graph.specs.First.{ArePathNumbers, any_path, layers_in, path_numbers_in}
 use Rattle.schedule_graph.specs.Paths.{paths, shows}
 use Rattle.schedule_graph.specs.declared.graph.Edge.{Edge}
-use Rattle.plan_states.specs.Signs.{has_number}
+use Rattle.plan_states.specs.LabelProperties.{has_number}
 use Rattle.plan_states.specs.Tallies.{count_of_tally, tally_of}
 use Rattle.plan_states.specs.declared.edges.Label.{Label}
 use Rattle.plan_states.proofs.outcomes.map_tally.Goals as goal

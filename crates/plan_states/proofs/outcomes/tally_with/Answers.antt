@@ -8,9 +8,9 @@ use Rattle.plan_states.proofs.outcomes.tally_with.Goals as goal
 
 pub returns : goal.returns
 returns g c = λ are.
-    let like = shows (g.S.Sign.is_on c.args.sign.now) in
+    let like = shows (g.S.LabelProperty.holds_for c.args.property.now) in
     let layers = layers_in c.args.layers.now in
-    tally-first like c.args.thing layers (path_numbers_in c.in_ok-with.with.items) c.in-Some.path.items c.in_ok-count.count c.in_ok-first.first.items
+    tally-first like c.args.outcome layers (path_numbers_in c.in_ok-with.with.items) c.in-Some.path.items c.in_ok-count.count c.in_ok-first.first.items
     (c.in_ok-with.ensures are)
     (c.in_ok-path.ensures are (subst (λ (ns : List (Vec ℕ Global)). ArePathNumbers like layers (path_numbers_in ns)) (sym c.deref.ensures.value) (c.in_ok-with.ensures are)) ∙ ap (option_map vec_items) c.in-Some.is)
     (c.in_ok-count.ensures ∙ ap (λ (ns : List (Vec ℕ Global)). count_at (slice_index_or (path_numbers_in ns) 0 []) 0) c.deref-2.ensures.value)

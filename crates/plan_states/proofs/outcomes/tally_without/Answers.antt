@@ -8,9 +8,9 @@ use Rattle.plan_states.proofs.outcomes.tally_without.Goals as goal
 
 pub returns : goal.returns
 returns g c =
-    let like = shows_none (g.S.Sign.is_on c.args.sign.now) in
+    let like = shows_none (g.S.LabelProperty.holds_for c.args.property.now) in
     let layers = layers_in c.args.layers.now in
-    tally-first like c.args.thing layers (path_numbers_in c.in_ok-without.without.items) c.in-Some.path.items c.in_ok-count.count c.in_ok-first.first.items
+    tally-first like c.args.outcome layers (path_numbers_in c.in_ok-without.without.items) c.in-Some.path.items c.in_ok-count.count c.in_ok-first.first.items
     (c.in_ok-without.ensures)
     (c.in_ok-path.ensures (subst (λ (ns : List (Vec ℕ Global)). ArePathNumbers like layers (path_numbers_in ns)) (sym c.deref.ensures.value) (c.in_ok-without.ensures)) ∙ ap (option_map vec_items) c.in-Some.is)
     (c.in_ok-count.ensures ∙ ap (λ (ns : List (Vec ℕ Global)). count_at (slice_index_or (path_numbers_in ns) 0 []) 0) c.deref-2.ensures.value)

@@ -4,4 +4,4 @@ use Rattle.plan_states.specs.Lines.{map_shown_by}
 use Rattle.plan_states.proofs.text.push_maps.Given as goal
 
 abbrev pub invariant-loop-map : goal.invariant-loop-map
-invariant-loop-map l = string_bytes l.text ≡ string_bytes l.fn.text ++ flat_map (map_shown_by l.orders l.maps) (take l.map-index l.tallies)
+invariant-loop-map l = string_bytes l.text ≡ string_bytes l.fn.text ++ flat_map (map_shown_by l.schedule_count l.maps) (take l.map-index l.tallies)

@@ -8,9 +8,9 @@ use Rattle.plan_states.proofs.text.push_outcomes.Goals as goal
 pub returns : goal.returns
 returns c =
     let steps = c.args.outcomes.now.steps in
-    let first = orders_line steps.orders in
+    let first = orders_line steps.schedule_count in
     let middle = step_outcomes_text (plan_view c.args.plan.now) steps in
-    let maps = flat_map (map_shown_by steps.orders c.args.maps.now) c.args.outcomes.now.maps.items in
+    let maps = flat_map (map_shown_by steps.schedule_count c.args.maps.now) c.args.outcomes.now.maps.items in
     let one = string_bytes c.push_count.new.text in
     let two = string_bytes c.push_step_outcomes.new.text in
     let three = string_bytes c.push_maps.new.text in

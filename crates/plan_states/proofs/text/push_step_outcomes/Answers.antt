@@ -11,11 +11,11 @@ returns c =
     let plan = plan_view c.args.plan.now in
     let outcomes = c.args.outcomes.now in
     let are = builds_are c.args.plan.now c.len-builds.result c.len-builds.ensures in
-    let wholes = flat_map (refusals_line outcomes.orders) outcomes.wholes.items in
+    let by_refusal = flat_map (refusals_line outcomes.schedule_count) outcomes.by_refusal.items in
     let builds = flat_map (ends_of_build plan outcomes) (range_with_len 0 (length plan.builds)) in
-    let smooth = flat_map (never_refused_lines outcomes.orders outcomes.smooth.items) (range_with_len 0 (length plan.builds)) in
-    let one = string_bytes c.push_wholes.new.text in
+    let never_refused = flat_map (never_refused_lines outcomes.schedule_count outcomes.never_refused.items) (range_with_len 0 (length plan.builds)) in
+    let one = string_bytes c.push_by_refusal.new.text in
     let two = string_bytes c.push_builds.new.text in
-    let three = string_bytes c.push_smooths.new.text in
-    joined (string_bytes c.args.text.now) wholes (builds ++ smooth) one three (rw c.deref.ensures.value at c.in_ok-push_wholes.ensures)
-    (joined one builds smooth two three (rw are at c.in_ok-push_builds.ensures) (rw (are, c.deref-2.ensures.value) at c.in_ok-push_smooths.ensures))
+    let three = string_bytes c.push_all_never_refused.new.text in
+    joined (string_bytes c.args.text.now) by_refusal (builds ++ never_refused) one three (rw c.deref.ensures.value at c.in_ok-push_by_refusal.ensures)
+    (joined one builds never_refused two three (rw are at c.in_ok-push_builds.ensures) (rw (are, c.deref-2.ensures.value) at c.in_ok-push_all_never_refused.ensures))

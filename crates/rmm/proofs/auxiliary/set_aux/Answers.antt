@@ -12,8 +12,8 @@ unfolding with_aux
 loop-k-preserved g c =
     let kept = c.args.kept.now in
     record {
-      made = c.set_one.ensures.one
+      made = c.set_aux_granule.ensures.one
           ∙ ap (λ (old : Machine). with_wiped_if old (aux_granule old c.args.rec c.loop-k.k) kept) c.loop-k.invariant.made
           ∙ ap (with_aux c.args.granules.now c.args.rec kept) (sym (add-one c.loop-k.k));
-      count = c.set_one.ensures.count ∙ c.loop-k.invariant.count;
+      count = c.set_aux_granule.ensures.count ∙ c.loop-k.invariant.count;
     }

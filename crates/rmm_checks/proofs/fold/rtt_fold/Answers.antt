@@ -37,9 +37,9 @@ returns g c =
     let both = c.add_entry.ensures.passed (absent_in cs WalkEnds before refl) (absent_in cs RtteState before refl) made in
     let can = (may both.0).0 in
     let some = ap is_some (sym c.table_below-table.ensures.value) ∙ sym c.is_some.ensures ∙ both.1 in
-    let own = c.lower_level-own.ensures.value (one_below (realm.start_level) c.args.level (may both.0).2) (may both.0).1 in (
+    let own = c.level_or_one-own.ensures.value (one_below (realm.start_level) c.args.level (may both.0).2) (may both.0).1 in (
       ap not (c.is_homogeneous_below-same.ensures some
-          ∙ ap (λ (e : RmmRttEntry). is_homogeneous (page_in m (unwrap_or (table_below m e) 0)) c.lower_level-own.result) (entry_is can)
+          ∙ ap (λ (e : RmmRttEntry). is_homogeneous (page_in m (unwrap_or (table_below m e) 0)) c.level_or_one-own.result) (entry_is can)
           ∙ ap (is_homogeneous (page_in m (unwrap_or (table_below m entry) 0))) own),
       ap error_rtt own,
     ))
@@ -48,9 +48,9 @@ returns g c =
     let both = c.add_entry.ensures.passed (absent_in cs WalkEnds before refl) (absent_in cs RtteState before refl) homo.0 in
     let can = (may both.0).0 in
     let some = ap is_some (sym c.table_below-table.ensures.value) ∙ sym c.is_some.ensures ∙ both.1 in
-    let own = c.lower_level-own.ensures.value (one_below (realm.start_level) c.args.level (may both.0).2) (may both.0).1 in (
+    let own = c.level_or_one-own.ensures.value (one_below (realm.start_level) c.args.level (may both.0).2) (may both.0).1 in (
       c.is_too_high_below-high.ensures some
-          ∙ ap (λ (e : RmmRttEntry). is_block_too_high m.settings (page_in m (unwrap_or (table_below m e) 0)) c.lower_level-own.result) (entry_is can)
+          ∙ ap (λ (e : RmmRttEntry). is_block_too_high m.settings (page_in m (unwrap_or (table_below m e) 0)) c.level_or_one-own.result) (entry_is can)
           ∙ ap (is_block_too_high m.settings (page_in m (unwrap_or (table_below m entry) 0))) own,
       ap (λ (n : ℕ). error_rtt (n - 1)) own,
     ))

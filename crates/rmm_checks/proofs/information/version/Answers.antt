@@ -7,4 +7,4 @@ pub returns : goal.returns
 unfolding version
 returns g c =
     from_none c.new-checks.ensures
-    (told_answer c.refused_versions.ensures (told (ap not c.is_version.ensures) c.add.ensures.rows))
+    (told_answer c.version_error.ensures (told (ap not c.is_version.ensures) c.add.ensures.rows))

@@ -40,6 +40,6 @@ returns g c =
     let can = (may both.0).0 in
     let some = ap is_some (sym c.table_below-table.ensures.value) ∙ sym c.is_some.ensures ∙ both.1 in (
       c.is_live_below-live.ensures some ∙ ap (λ (e : RmmRttEntry). has_live (page_in m (unwrap_or (table_below m e) 0))) (entry_is can),
-      c.rtt_top-refused.ensures ∙ ap (λ (t : ℕ). error_rtt_top t c.low_level-own.result) (top_is can) ∙ ap (error_rtt_top (top m found c.args.ipa)) (c.low_level-own.ensures.value (may both.0).1),
+      c.rtt_top-refused.ensures ∙ ap (λ (t : ℕ). error_rtt_top t c.level_or_zero-own.result) (top_is can) ∙ ap (error_rtt_top (top m found c.args.ipa)) (c.level_or_zero-own.ensures.value (may both.0).1),
     ))
     c.add.ensures.rows))

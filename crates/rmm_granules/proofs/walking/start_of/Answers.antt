@@ -25,5 +25,5 @@ pub returns-clause-inside : goal.returns-clause-inside
 returns-clause-inside c =
     let within = start_inside c.args.realm.now.start_level c.args.ipa c.args.realm.now.s2sz c.args.realm.now.table_count c.requires.in_space c.requires.served.served in
     let inside = c.requires.served.inside in
-    let few : c.number.result + c.start_offset.result < c.args.count = omega arith in
+    let few : c.number.result + c.start_table_index.result < c.args.count = omega arith in
     grind (arith, common_steps)

@@ -8,7 +8,7 @@ use Rattle.schedule_graph.proofs.first.first_without.Goals as goal
 
 pub returns-then-not-has_paths : goal.returns-then-not-has_paths
 returns-then-not-has_paths g c = λ are_without.
-    no_first (shows_none (g.S.Sign.is_on c.args.sign.now)) (layers_in c.args.layers.now) (path_numbers_in c.args.without_it.now) are_without
+    no_first (shows_none (g.S.LabelProperty.holds_for c.args.property.now)) (layers_in c.args.layers.now) (path_numbers_in c.args.without_it.now) are_without
     (sym (c.has_paths.ensures ∙ ap (λ ns. nat_lt 0 (count_at ns 0)) c.numbers_at.ensures) ∙ c.if-not-has_paths.true)
 
 pub returns : goal.returns

@@ -9,6 +9,6 @@ abbrev pub invariant-loop-depth : goal.invariant-loop-depth
 invariant-loop-depth g l =
     (accept : Bool → Bool)
     → ArePathNumbers (λ path. accept true) (layers_in l.layers) (path_numbers_in l.with_it)
-    → ArePathNumbers (λ path. accept (shows (g.S.Sign.is_on l.sign) path)) (layers_in l.layers) (path_numbers_in l.without_it)
+    → ArePathNumbers (λ path. accept (shows (g.S.LabelProperty.holds_for l.property) path)) (layers_in l.layers) (path_numbers_in l.without_it)
     → 0 < count_at (slice_index_or (path_numbers_in l.without_it) 0 []) 0
-    → IsOnWay (g.S.Sign.is_on l.sign) accept (layers_in l.layers) l.depth l.state l.shown l.labels.items
+    → IsOnWay (g.S.LabelProperty.holds_for l.property) accept (layers_in l.layers) l.depth l.state l.shown l.labels.items

@@ -8,6 +8,6 @@ pub returns : goal.returns
 returns g c = λ layers are are_with state.
     ap (λ (counts : List ℕ). slice_index_or counts state 0)
     (c.loop-edges.invariant
-    ∙ ap (map (λ edges. with_count (g.S.Sign.is_on c.args.sign.now) c.args.next.now c.args.next_with.now (vec_items edges)))
+    ∙ ap (map (λ edges. with_count (g.S.LabelProperty.holds_for c.args.property.now) c.args.next.now c.args.next_with.now (vec_items edges)))
     (take_all c.loop-edges.edges-index c.args.layer.now c.loop-edges-test.false))
-    ∙ counts_with_of_layer (g.S.Sign.is_on c.args.sign.now) layers c.args.next.now c.args.next_with.now are are_with c.args.layer.now state
+    ∙ counts_with_of_layer (g.S.LabelProperty.holds_for c.args.property.now) layers c.args.next.now c.args.next_with.now are are_with c.args.layer.now state

@@ -8,6 +8,6 @@ pub returns : goal.returns
 returns g c = λ layers are_without state.
     ap (λ (counts : List ℕ). slice_index_or counts state 0)
     (c.loop-edges.invariant
-    ∙ ap (map (λ edges. without_count (g.S.Sign.is_on c.args.sign.now) c.args.next_without.now (vec_items edges)))
+    ∙ ap (map (λ edges. without_count (g.S.LabelProperty.holds_for c.args.property.now) c.args.next_without.now (vec_items edges)))
     (take_all c.loop-edges.edges-index c.args.layer.now c.loop-edges-test.false))
-    ∙ counts_without_of_layer (g.S.Sign.is_on c.args.sign.now) layers c.args.next_without.now are_without c.args.layer.now state
+    ∙ counts_without_of_layer (g.S.LabelProperty.holds_for c.args.property.now) layers c.args.next_without.now are_without c.args.layer.now state

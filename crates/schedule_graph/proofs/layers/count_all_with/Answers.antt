@@ -7,7 +7,7 @@ use Rattle.schedule_graph.proofs.layers.count_all_with.Goals as goal
 
 pub loop-done-preserved : goal.loop-done-preserved
 loop-done-preserved g c =
-    let is = g.S.Sign.is_on c.args.sign.now in
+    let is = g.S.LabelProperty.holds_for c.args.property.now in
     let at = c.loop-done in
     let layers = c.args.layers.now in
     let below : at.done < length layers = omega (arith, c.loop-done-test.true) in
@@ -31,4 +31,4 @@ loop-done-preserved g c =
 
 pub returns : goal.returns
 returns g c = λ are.
-    all_in (shows (g.S.Sign.is_on c.args.sign.now)) c.args.layers.now c.loop-done.counts.items c.loop-done.done c.loop-done-test.false (c.loop-done.invariant.1 are) c.reverse.new.self.items c.reverse.ensures.items
+    all_in (shows (g.S.LabelProperty.holds_for c.args.property.now)) c.args.layers.now c.loop-done.counts.items c.loop-done.done c.loop-done-test.false (c.loop-done.invariant.1 are) c.reverse.new.self.items c.reverse.ensures.items

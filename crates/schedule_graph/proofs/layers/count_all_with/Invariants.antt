@@ -8,4 +8,4 @@ abbrev pub invariant-loop-done : goal.invariant-loop-done
 invariant-loop-done g l =
     (length l.counts.items ≡ l.done)
     × (ArePathNumbers any_path (layers_in l.layers) (path_numbers_in l.all)
-    → ArePathNumbers (shows (g.S.Sign.is_on l.sign)) (drop (length l.layers - l.done) (layers_in l.layers)) (reverse (path_numbers_in l.counts.items)))
+    → ArePathNumbers (shows (g.S.LabelProperty.holds_for l.property)) (drop (length l.layers - l.done) (layers_in l.layers)) (reverse (path_numbers_in l.counts.items)))

@@ -34,20 +34,20 @@ returns-in_err-numbers c =
     c.in_ok-order.order.items (rw (count, c.deref-2.ensures.value) at c.in_ok-order.ensures.value)
     c.in_err-numbers.field-0.0 c.in_err-numbers.ensures.value)
 
-pub returns-in_err-lengths_of : goal.returns-in_err-lengths_of
-returns-in_err-lengths_of c =
-    let told = err_from_is_err_and c.from_residual-in_err-lengths_of.result c.from_residual-in_err-lengths_of.ensures.1 in
+pub returns-in_err-check_lengths : goal.returns-in_err-check_lengths
+returns-in_err-check_lengths c =
+    let told = err_from_is_err_and c.from_residual-in_err-check_lengths.result c.from_residual-in_err-check_lengths.ensures.1 in
     let contents = contents_view c.args.contents.now in
     let count = counted c.in_ok-builds.builds c.len.result c.len.ensures in
     rw (told.1, told.2) (fails_at_lengths contents (steps c.in_ok-builds.builds.items) (rw c.deref.ensures.value at c.in_ok-builds.ensures)
     c.in_ok-order.order.items (rw (count, c.deref-2.ensures.value) at c.in_ok-order.ensures.value)
     c.in_ok-numbers.numbers c.in_ok-numbers.ensures.value
-    c.in_err-lengths_of.field-0.0 (rw (c.deref-3.ensures.value, c.deref-4.ensures.value) at c.in_err-lengths_of.ensures.value))
+    c.in_err-check_lengths.field-0.0 (rw (c.deref-3.ensures.value, c.deref-4.ensures.value) at c.in_err-check_lengths.ensures.value))
 
 pub invariant_of-result : goal.invariant_of-result
 invariant_of-result c =
     let limits = c.in_ok-numbers.ensures in
-    let short = c.in_ok-lengths_of.ensures in
+    let short = c.in_ok-check_lengths.ensures in
     let same = c.in_ok-turns.ensures ∙ c.deref-5.ensures.value in
     record {
       pages_in_limits = limits.pages;
@@ -69,4 +69,4 @@ returns c =
     plan_read contents (steps c.in_ok-builds.builds.items) (rw c.deref.ensures.value at c.in_ok-builds.ensures)
     c.in_ok-turns.turns.items (rw same (rw (count, c.deref-2.ensures.value) at c.in_ok-order.ensures.value))
     c.in_ok-numbers.numbers c.in_ok-numbers.ensures.value
-    (rw same (rw (c.deref-3.ensures.value, c.deref-4.ensures.value) at c.in_ok-lengths_of.ensures.value))
+    (rw same (rw (c.deref-3.ensures.value, c.deref-4.ensures.value) at c.in_ok-check_lengths.ensures.value))

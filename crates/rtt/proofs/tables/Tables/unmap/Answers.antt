@@ -8,7 +8,7 @@ use Rattle.realm_model.specs.declared.states.GranuleState.TheVariants.{Delegated
 use Rattle.realm_model.specs.Rows.{Row, is_assigned, unmapped_ripas}
 use Rattle.rtt.specs.Tables.{rows}
 use Rattle.rtt.specs.Word.{entry_word}
-use Rattle.rtt.proofs.DataPages.{Unmapped, unmapped}
+use Rattle.rtt.proofs.DataPages.{Unmapped, ripas_after_unmap}
 use Rattle.rtt.proofs.EntryKinds.{data_of-none, data_of-leads}
 use Rattle.rtt.proofs.FoundRows.{row_passed, row_refused}
 use Rattle.rtt.proofs.Kept.{data_used, page_inside, page_taken, table_beside, keeps_moved}
@@ -43,13 +43,13 @@ done : (g : Over) (c : goal.After-shift g) → Unmapped (g.S.PageStore.page_byte
     c.args.granules.now c.shift.new.self c.args.self.now.rd c.args.self.now.root c.args.ipa
 done g c =
     let lies = c.find-table.ensures.page c.in-Some.page (sym c.in-Some.ensures) in
-    unmapped (g.S.PageStore.page_bytes c.args.store.now) (g.S.PageStore.page_bytes c.fill.new.self) (g.S.PageStore.page_bytes c.write.new.store)
+    ripas_after_unmap (g.S.PageStore.page_bytes c.args.store.now) (g.S.PageStore.page_bytes c.fill.new.self) (g.S.PageStore.page_bytes c.write.new.store)
     (g.S.PageStore.free_flags c.args.store.now) (g.S.PageStore.free_flags c.fill.new.self)
     c.args.granules.now c.shift.new.self c.args.self.now.rd c.args.self.now.root c.find-table.result.level c.args.ipa c.find-table.result.table
-    c.index_at.result c.in-Some.page c.find-table.result.entry c.unassigned.result c.unmapped-ripas.result
+    c.index_at.result c.in-Some.page c.find-table.result.entry c.unassigned.result c.ripas_after_unmap-ripas.result
     (g.met.S.PageStore.sized c.fill.new.self) c.requires.backed c.requires.tables c.find-table.ensures.inside (omega arith) c.find-table.ensures.table
     c.find-table.ensures.within c.index_at.ensures.value
-    c.find-table.ensures.entry c.in-Some.ensures lies (c.unmapped-ripas.ensures ∙ ap (λ (r : Row). unmapped_ripas r.ripas) c.entry.view_is) c.unassigned.ensures
+    c.find-table.ensures.entry c.in-Some.ensures lies (c.ripas_after_unmap-ripas.ensures ∙ ap (λ (r : Row). unmapped_ripas r.ripas) c.entry.view_is) c.unassigned.ensures
     c.fill.ensures.filled c.write.ensures.written (granules_are g c)
 
 pub returns : goal.returns

@@ -10,9 +10,9 @@ pub returns : goal.returns
 returns c =
     let steps = c.args.totals.now.steps in
     let middle = step_outcomes_text (plan_view c.args.plan.now) steps in
-    let maps = flat_map (map_lines steps.orders) c.args.totals.now.maps.items in
+    let maps = flat_map (map_lines steps.schedule_count) c.args.totals.now.maps.items in
     let one = string_bytes c.push_drawn_count.new.text in
     let two = string_bytes c.push_step_outcomes.new.text in
     let three = string_bytes c.push_maps.new.text in
-    joined (string_bytes c.args.text.now) (drawn_line steps.orders) (middle ++ maps) one three c.in_ok-push_drawn_count.ensures
+    joined (string_bytes c.args.text.now) (drawn_line steps.schedule_count) (middle ++ maps) one three c.in_ok-push_drawn_count.ensures
     (joined one middle maps two three c.in_ok-push_step_outcomes.ensures (rw c.deref.ensures.value at c.in_ok-push_maps.ensures))

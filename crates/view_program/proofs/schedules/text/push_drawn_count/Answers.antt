@@ -5,7 +5,7 @@ use Rattle.view_program.proofs.schedules.text.push_drawn_count.Goals as goal
 
 pub returns : goal.returns
 returns c =
-    let number = numeral c.args.orders.now in
+    let number = numeral c.args.schedule_count.now in
     let one = string_bytes c.push_str.new.self in
     let two = string_bytes c.push_to.new.text in
     let three = string_bytes c.push_str-2.new.self in

@@ -12,10 +12,10 @@ pub returns : goal.returns
 returns c = λ visits are.
     let visit : Visit = record { choices = c.args.choices.now; ends = c.args.ends.now; map = c.args.map } in
     record {
-      orders = (let so_far = are.orders in let more = c.in_ok-add_one.ensures in omega (arith, length-append visits (visit ∷ [])));
-      wholes = c.in_ok-count.ensures (map whole_seen visits) are.wholes
+      schedule_count = (let so_far = are.schedule_count in let more = c.in_ok-add_one.ensures in omega (arith, length-append visits (visit ∷ [])));
+      by_refusal = c.in_ok-count.ensures (map whole_seen visits) are.by_refusal
           ∙ ap (counted beq) (ap (λ b. map whole_seen visits ++ sighting_in c.args.choices.now b ∷ []) c.has_refusal.ensures ∙ sym (map-append whole_seen visits (visit ∷ [])));
       ends = c.in_ok-count_ends.ensures (flat_map ends_seen visits) are.ends ∙ ap (counted same_end) (flat_map_more ends_seen [] visits visit);
       maps = c.in_ok-count-2.ensures (map map_seen visits) are.maps ∙ ap (counted same_text) (sym (map-append map_seen visits (visit ∷ [])));
-      smooth = c.in_ok-count_smooth.ensures (flat_map (smooth_seen c.args.builds) visits) are.smooth ∙ ap (counted nat_eq) (flat_map_more (smooth_seen c.args.builds) [] visits visit);
+      never_refused = c.in_ok-count_never_refused.ensures (flat_map (smooth_seen c.args.builds) visits) are.never_refused ∙ ap (counted nat_eq) (flat_map_more (smooth_seen c.args.builds) [] visits visit);
     }

@@ -1,5 +1,0 @@
-use Rattle.std.proofs.Common.{refl}
-use Rattle.explain.proofs.of_step.has_mark.Goals as goal
-
-pub returns : goal.returns
-returns c = refl

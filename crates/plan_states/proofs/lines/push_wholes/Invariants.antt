@@ -1,7 +1,0 @@
-use Rattle.std.proofs.Common.{◌≡◌, ◌++◌, take, string_bytes}
-use Rattle.std.specs.List.{flat_map}
-use Rattle.plan_states.specs.Lines.{refusals_line}
-use Rattle.plan_states.proofs.lines.push_wholes.Given as goal
-
-abbrev pub invariant-loop-tally : goal.invariant-loop-tally
-invariant-loop-tally l = string_bytes l.text ≡ string_bytes l.fn.text ++ flat_map (refusals_line l.orders) (take l.tally-index l.wholes)

@@ -1,0 +1,32 @@
+-- Properties of edge labels, by which schedules are counted.
+use Rattle.std.specs.Prelude.{ℕ, ◌==◌, Bool, true, false, ◌&&◌, List, Option, Some, None, is_some, slice_get}
+use Rattle.plan_states.specs.declared.edges.Label.{Label}
+use Rattle.plan_states.specs.declared.step_end.EndOfStep.{EndOfStep}
+
+-- it has a number, and it is this one
+abbrev pub has_number : ℕ → Option ℕ → Bool
+has_number number None = false
+has_number number (Some other) = other == number
+
+-- the build is the one that is asked for, if one is
+abbrev pub is_asked : Option ℕ → ℕ → Bool
+is_asked None build = true
+is_asked (Some one) build = one == build
+
+-- a refusal, of the build that is asked for
+abbrev pub refuses_asked : Option ℕ → Option EndOfStep → Bool
+refuses_asked asked None = false
+refuses_asked asked (Some end) = is_some end.refusal && is_asked asked end.build
+
+-- the turn uses up a step that was refused
+abbrev pub end_is_refused : List EndOfStep → Option ℕ → Option ℕ → Bool
+end_is_refused ends asked None = false
+end_is_refused ends asked (Some number) = refuses_asked asked (slice_get ends number)
+
+abbrev pub is_refusal_of : List EndOfStep → Option ℕ → Label → Bool
+is_refusal_of ends asked label = end_is_refused ends asked label.end
+
+-- a refusal of one step of a build
+abbrev pub refuses_step : ℕ → ℕ → Option EndOfStep → Bool
+refuses_step build step None = false
+refuses_step build step (Some end) = is_some end.refusal && end.build == build && end.step == step

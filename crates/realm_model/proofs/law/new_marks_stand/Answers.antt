@@ -1,5 +1,0 @@
-use Rattle.realm_model.proofs.Marks.{valid_now}
-use Rattle.realm_model.proofs.law.new_marks_stand.Goals as goal
-
-pub returns : goal.returns
-returns c = valid_now
