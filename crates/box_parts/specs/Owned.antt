@@ -11,7 +11,7 @@ use Rattle.std_heap.specs.contracts.GlobalAllocator.TheImpl.{ghosts}
 abbrev pub right : Ty → Ptr → Fml
 right = ghosts.dealloc_token (record { memory = record { seal = tt } })
 
--- the value at the pointer, and the right to give its block back, where there is one
+-- ownership of the value at the pointer, if any, and the right to free its block
 abbrev pub held_owns : (R : RattleType) → Ptr → Option R.Denot → Fml
 held_owns R at (Some x) = box_owns right R at x
 held_owns R at None = ftrue

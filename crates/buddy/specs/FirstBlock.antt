@@ -18,6 +18,6 @@ pub record IndexView : Type 0 where
 abbrev pub has_head : List ℕ → ℕ → Bool
 has_head heads order = list_any (λ head. head == order + 1) heads
 
--- The first block of the first list that has one, of the lists from the order's own up to that of order 9.
+-- The first block of the first non-empty list, from the given order's list up to that of order 9.
 unfoldable pub first_block : ListsView → ℕ → Option ℕ
 first_block lists order = option_map (at lists.firsts) (find (has_head lists.heads) (range_with_len order (10 - order)))

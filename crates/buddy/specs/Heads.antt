@@ -7,15 +7,15 @@ use Rattle.buddy.specs.MaximalBlock.{IsMaximalBlock}
 abbrev pub head_at : List ℕ → ℕ → ℕ
 head_at heads granule = slice_index_or heads granule 0
 
--- the first granule of the block of an order that holds a granule
+-- the first granule of the aligned block that has this order and holds the granule
 abbrev pub start_at : ℕ → ℕ → ℕ
 start_at granule order = granule / 2 ^ order * 2 ^ order
 
--- the other half of the block of the next order
+-- the first granule of a block's buddy, which is the other half of the next larger block
 abbrev pub buddy_at : ℕ → ℕ → ℕ
 buddy_at first order = bit_xor first (2 ^ order)
 
--- the block of an order that holds a granule is one of the heads'
+-- the heads have a block of this order that holds the granule
 abbrev pub is_held_at : List ℕ → ℕ → ℕ → Bool
 is_held_at heads granule order = head_at heads (start_at granule order) == order + 1
 
@@ -28,7 +28,7 @@ pub record AreMaximal (heads : List ℕ) (flags : List Bool) : Type 0 where
   pub sized : length heads ≡ length flags
   pub each : (order first : ℕ) → (head_at heads first ≡ order + 1) ↔ IsMaximalBlock flags order first
 
--- The heads of a machine, with the number of its free granules.
+-- The heads have the maximal blocks of the free granules, which are `count` of at most 4096.
 pub record IsIndex (count : ℕ) (heads : List ℕ) : Type 0 where
   pub few : length heads ≤ 4096
   pub lists : AreMaximal heads (held heads)

@@ -8,7 +8,7 @@ use Rattle.buddy.specs.Heads.{start_at, AreMaximal}
 abbrev pub LiesIn : ℕ → ℕ → ℕ → Type 0
 LiesIn granule order first = (first ≤ granule) × (granule < first + 2 ^ order)
 
--- The lists have the maximal blocks of what is free without the block in hand.
+-- The block in hand is free, and the lists have the maximal blocks of all other free granules.
 pub record InHand (heads : List ℕ) (flags : List Bool) (order first : ℕ) : Type 0 where
   pub free : IsFreeBlock flags order first
   pub others : AreMaximal heads (with_taken flags order first)

@@ -12,7 +12,7 @@ pub record IsMaximalBlock (flags : List Bool) (order first : ℕ) : Type 0 where
   pub free : IsFreeBlock flags order first
   pub widest : (larger start : ℕ) → order < larger → larger ≤ 9 → IsFreeBlock flags larger start → ¬ (LiesWithin order first larger start)
 
--- The maximal block that holds a block. `turns` counts the orders from the block's own up to that of the maximal block.
+-- A maximal block holds the block. `turns` counts the orders from the block's own up to that of the maximal block.
 pub record TurnsUp (flags : List Bool) (order first turns : ℕ) : Type 0 where
   pub larger : ℕ
   pub start : ℕ

@@ -49,8 +49,8 @@ impl Links {
         })
     }
 
-    /// Returns a granule's head: one more than the order of the free block beginning there. The head is 0 if no listed
-    /// block begins there.
+    /// Returns a granule's head: one more than the order of the listed block beginning there. The head is 0 if no
+    /// listed block begins there.
     pub(crate) fn head(&self, granule: usize) -> u8
         ensures { result ≡ head_at self.now.heads granule }
     {

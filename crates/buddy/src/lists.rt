@@ -1,5 +1,4 @@
-//! The free list of each order, and a mask of the nonempty ones. The mask has a bit set for each order with a free
-//! block.
+//! The lists of free blocks, one for each block order. A mask has a bit set for each order with a free block.
 ghost use Rattle.std.specs.Prelude.{◌≡◌, ℕ, ◌+◌, ◌<◌, ◌≤◌, ◌≢◌, length, replicate, slice_set, IfOk, IfSome, IfNone};
 ghost use Rattle.buddy.specs.Heads.{head_at};
 ghost use Rattle.buddy.specs.Links.{HasHead, at};
@@ -8,9 +7,9 @@ use crate::links::Links;
 use std::alloc::{AllocError, Global};
 use std::marker::Model;
 
-/// The free list of each order, and a mask of the nonempty ones. The mask has a bit set for each order with a free
-/// block. The view is the table of heads, and the first block of each list. The head of a granule is one more than the
-/// order of the block that it heads, or 0 if it heads none.
+/// The lists of free blocks, one for each block order. A mask has a bit set for each order with a free block. The view
+/// is the table of heads, and the first block of each list. The head of a granule is one more than the order of the
+/// block that it heads, or 0 if it heads none.
 #[derive(Drop)]
 pub(crate) struct FreeLists {
     links: Links,
@@ -38,8 +37,8 @@ impl FreeLists {
         Ok(FreeLists { links, mask: 0 })
     }
 
-    /// Returns a granule's head: one more than the order of the free block beginning there. The head is 0 if no listed
-    /// block begins there.
+    /// Returns a granule's head: one more than the order of the listed block beginning there. The head is 0 if no
+    /// listed block begins there.
     pub(crate) fn head(&self, granule: usize) -> u8
         ensures { result ≡ head_at self.now.heads granule }
     {

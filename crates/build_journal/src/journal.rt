@@ -1,4 +1,4 @@
-//! The stack of a build's open operations.
+//! The stack of the operations that a build can still undo.
 ghost use Rattle.std.specs.Prelude.{◌≡◌, ◌≤◌, [], length, drop, nat_le, IfOk, IfSome, option_map, true};
 ghost use Rattle.std.specs.List.{last_or};
 ghost use Rattle.realm_model.specs.Act.{is_paired};
@@ -43,7 +43,8 @@ impl Journal {
         self.entries.len() as u16
     }
 
-    /// Whether at least `count` operations are open. A build can go back to a mark of `count` operations exactly then.
+    /// Whether at least `count` operations can still be undone. A build can go back to a mark of `count` operations
+    /// exactly then.
     pub fn has(&self, count: u16) -> bool
         ensures { result ≡ nat_le count (length self.now) }
     {
@@ -63,7 +64,7 @@ impl Journal {
         }
     }
 
-    /// Returns the build's newest open operation, if there is one.
+    /// Returns the newest operation that the build can still undo, if there is one.
     pub fn newest(&self) -> Option<&Act>
         ensures value { option_map (λ a. a.now) result ≡ last_or None (self.now) }
         ensures paired { IfSome result (λ a. is_paired a.now ≡ true) }
@@ -71,7 +72,7 @@ impl Journal {
         self.entries.last()
     }
 
-    /// Returns the build's open operations without the oldest `count`. The newest is last.
+    /// Returns the operations that the build can still undo, except the oldest `count`. The newest is last.
     pub fn above(&self, count: u16) -> &[Act]
         requires { count ≤ length self.now }
         ensures { result.now ≡ drop count self.now }

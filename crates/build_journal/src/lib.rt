@@ -1,5 +1,5 @@
-//! The open operations and leased pages of builds, and the VMIDs in use. They are kept apart from the history. The
-//! history grows by one event at a time.
+//! Data structures that record undoable operations, leased pages, and VMIDs in use. They are kept apart from the
+//! history. The history grows by one event at a time.
 //!
 //! The journal of a build is a stack of its open operations. Each operation that is open has a reverse.
 //!

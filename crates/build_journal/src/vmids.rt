@@ -7,7 +7,7 @@ ghost use Rattle.build_journal.specs.Vmids.{is_free, IsLowestFree, IsClaimed};
 use granule_addr::{Vmid, VmidSet};
 use std::marker::Model;
 
-/// The VMIDs of a machine, and the set of those in use. The VMIDs are the numbers from 1 to a maximum.
+/// A pool of a machine's VMIDs that records the ones in use. The VMIDs are the numbers from 1 to a maximum.
 #[derive(Drop)]
 pub struct VmidPool {
     vmids: u8,

@@ -11,8 +11,8 @@ use Rattle.build_seats.specs.declared.ask.Question.TheVariants as question
 use Rattle.build_seats.specs.declared.ask.Ending.{Ending}
 use Rattle.build_seats.specs.declared.ask.Ending.TheVariants as ending
 
--- The answer of a line: the teller's own. The answer to an open way back is in a line if it has nothing to undo, as
--- Nothing.
+-- The answer of an exchange as its report line has it: the teller's own. The answer to an open way back is in a
+-- line if it has nothing to undo, as Nothing.
 abbrev pub told : Exchange → Answer
 told (Did cmd (Ok reply)) = Replied reply
 told (Did cmd (Err refusal)) = Refused refusal

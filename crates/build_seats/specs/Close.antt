@@ -18,7 +18,7 @@ seats_of build seats = length (filter (λ seat. seat.build == build) seats)
 unfoldable pub AreSeatsWhole : ℕ → List SeatView → Type 0
 AreSeatsWhole builds seats = (build : ℕ) → build < builds → seats_of build seats ≡ 1
 
--- the lowest build of a host that does not have exactly one seat
+-- `build` is the lowest build that does not have exactly one seat
 pub record IsMissing (builds build : ℕ) (seats : List SeatView) : Type 0 where
   pub there : build < builds
   pub not_one : seats_of build seats ≢ 1
@@ -33,7 +33,7 @@ Fits build history seats = All (λ seat. seat.build ≡ build → seat.trail ≡
 unfoldable pub FitsAll : List Event → List SeatView → Type 0
 FitsAll history seats = (build : ℕ) → build < 8 → Fits build history seats
 
--- the lowest build with a seat whose trail is not that
+-- `build` is the lowest build with a seat whose trail differs from its part of the history
 pub record Differs (build : ℕ) (history : List Event) (seats : List SeatView) : Type 0 where
   pub number : build < 8
   pub differs : ¬ (Fits build history seats)
@@ -41,14 +41,14 @@ pub record Differs (build : ℕ) (history : List Event) (seats : List SeatView) 
 
 -- ---- the host that comes back
 
--- The host was behind the lock, its machine is that of the start, and each seat counts as many events as it has of the
--- seat's build.
+-- The host is one that the lock can hold, on the machine of the start. Each seat's count is the number of its
+-- build's events in the host's history.
 pub record IsHostGivenBack (opened host : HostView) (seats : List SeatView) : Type 0 where
   pub shared : IsShared host
   pub of_start : IsOfStart opened host
   pub counted : All (λ seat. length (events_of seat.build host.history) ≡ seat.count) seats
 
--- Each build's seat is there, and each trail is its build's part of the history.
+-- Each build has exactly one seat, and each seat's trail is its build's part of the history.
 pub record IsClosed (host : HostView) (seats : List SeatView) : Type 0 where
   pub whole : AreSeatsWhole host.limits.builds seats
   pub trails : All (λ seat. seat.trail ≡ events_of seat.build host.history) seats

@@ -1,4 +1,4 @@
--- The lines of a report that have an event of the build.
+-- The accepted lines of a report, matched with the events of the build.
 use Rattle.std.specs.Prelude.{◌≡◌, Bool, true, false, List, filter, Option, Some, slice_get, option_map}
 use Rattle.std.specs.List.{AllZip}
 use Rattle.host_commands.specs.declared.cmd.Cmd.TheVariants as cmd

@@ -6,7 +6,7 @@ use Rattle.build_seats.specs.declared.close.CloseFault.TheVariants.{SeatMissing,
 use Rattle.build_seats.specs.Close.{IsMissing, AreSeatsWhole, Differs}
 use Rattle.build_seats.specs.Seats.{SeatView}
 
--- The lowest build is named: of those without exactly one seat or, if there are none, of those whose trail differs.
+-- The fault names the lowest build without exactly one seat or, if none, the lowest with a differing trail.
 abbrev pub IsFault : CloseFault → HostView → List SeatView → Type 0
 IsFault (SeatMissing build) host seats = IsMissing host.limits.builds build seats
 IsFault (RecordMismatch build) host seats = AreSeatsWhole host.limits.builds seats × Differs build host.history seats

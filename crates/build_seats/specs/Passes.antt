@@ -5,6 +5,6 @@ pub record PassView : Type 0 where
   pub build : ℕ
   pub count : ℕ
 
--- the pass of a build that has counted nothing
+-- a build's pass that has counted no event
 abbrev pub unused : ℕ → PassView
 unused build = record { build = build; count = 0 }

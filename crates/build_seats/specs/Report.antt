@@ -34,7 +34,7 @@ pub record IsAnswerReported (place : ℕ) (answer : Answer) (exchanges : List Ex
 abbrev pub IsQuestionAsked : ℕ → Question → List Exchange → List ReportLine → Ending → Type 0
 IsQuestionAsked place question exchanges lines end = ArePut ((asked.Step place, question) ∷ []) exchanges lines end
 
--- A step undoes that many operations, with a line for each. If it undoes none, its line says so.
+-- A step asks for up to the given number of undos, with a line for each. If the number is 0, its line says so.
 abbrev pub AreUndone : ℕ → ℕ → List Exchange → List ReportLine → Ending → Type 0
 AreUndone place zero exchanges lines end = IsAnswerReported place Nothing exchanges lines end
 AreUndone place (suc more) exchanges lines end =
@@ -45,8 +45,8 @@ abbrev pub IsAbort : ℕ → List ℕ → ℕ → List Exchange → List ReportL
 IsAbort place [] journal exchanges lines end = AreUndone place journal exchanges lines end
 IsAbort place (number ∷ numbers) journal exchanges lines end = IsAnswerReported place (Refused RecRunning) exchanges lines end
 
--- The way back to a mark is asked for first. If it is open, that many operations are undone, but no more than the
--- journal has.
+-- A step back first asks for the number of operations above its mark. If the way is open, up to that number of undos
+-- are asked for, but no more than the journal has.
 pub data IsWayBack (place : ℕ) (mark : Mark) (journal : ℕ) : List Exchange → List ReportLine → Ending → Type 0 where
   cut_short : IsWayBack place mark journal [] [] ending.Cut
   refused : (refusal : Refusal)
@@ -77,7 +77,7 @@ exit_of number = (asked.Exit number, question.Do (cmd.Exit number))
 abbrev pub clearing : StandingView → List (Asked × Question)
 clearing standing = map exit_of standing.running ++ replicate standing.journal (asked.Undo, question.Undo)
 
--- whether it came to its end, and was not stopped for want of a turn
+-- the questions ended, by acceptance or refusal, and were not cut short for lack of a turn
 abbrev pub is_over : Ending → Bool
 is_over ending.Done = true
 is_over ending.Refused = true

@@ -7,7 +7,7 @@ pub record SeatView : Type 0 where
   pub count : ℕ
   pub trail : List Event
 
--- a seat of a build that has asked nothing
+-- a build's seat that has counted no event
 abbrev pub new_seat : ℕ → SeatView
 new_seat build = record { build = build; count = 0; trail = [] }
 

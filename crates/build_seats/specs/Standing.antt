@@ -16,11 +16,11 @@ pub record StandingView : Type 0 where
   -- the last mark
   pub mark : Option Mark
 
--- nothing was asked
+-- the standing of a build before its first question
 abbrev pub first_standing : StandingView
 first_standing = record { turn = 0; journal = 0; running = []; mark = None }
 
--- rising numbers, and this one among them
+-- the rising numbers with this one inserted, unless they already have it
 abbrev pub with_number : ℕ → List ℕ → List ℕ
 with_number number [] = number ∷ []
 with_number number (first ∷ rest) =
@@ -35,7 +35,8 @@ numbers_running_after (Enter number) running = with_number number running
 numbers_running_after (Exit number) running = without_number number running
 numbers_running_after _ running = running
 
--- An accepted command: a paired one is one more to undo, an entered REC runs until it exits.
+-- The standing after an accepted command. A paired command adds an open operation; an entered REC runs until it
+-- exits.
 unfoldable pub standing_after_command : Cmd → StandingView → StandingView
 standing_after_command cmd standing = record standing {
   journal = if (needs_of cmd).paired then standing.journal + 1 else standing.journal;
@@ -60,6 +61,6 @@ abbrev pub standing_after : List Exchange → StandingView → StandingView
 standing_after [] standing = standing
 standing_after (exchange ∷ more) standing = standing_after more (after_exchange exchange standing)
 
--- the number of questions that leave nothing running and nothing open
+-- the number of questions that clear the build: one for each running REC and each open operation
 abbrev pub left_to_clear : StandingView → ℕ
 left_to_clear standing = length standing.running + standing.journal

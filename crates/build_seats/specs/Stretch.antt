@@ -17,7 +17,8 @@ pub record IsExchange (before after : List Exchange → Type 0) (question : Ques
   pub counted : new ≡ after_exchange exchange old
   pub answer_is : answer ≡ told exchange
 
--- These exchanges took place, the gate let the turn of each pass, and these lines were added; `AreThose` holds of both.
+-- These exchanges took place, the gate let the turn of each pass, and these lines were added. `AreThose` holds of
+-- the exchanges and the lines.
 pub record IsStretch (before after : List Exchange → Type 0) (passes stops : ℕ → Type 0) (old new : StandingView) (old_lines new_lines : List ReportLine)
     (end : Ending) (AreThose : List Exchange → List ReportLine → Type 0) : Type 0 where
   pub exchanges : List Exchange

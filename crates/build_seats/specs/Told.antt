@@ -18,14 +18,14 @@ use Rattle.realm_model.specs.History.{events_of}
 use Rattle.build_seats.specs.Seats.{SeatView, with_noted}
 use Rattle.build_seats.specs.Start.{IsOfStart}
 
--- A host that can be behind the lock of builds that were started with `opened`, and has as many events of the seat's
--- build as the seat counts.
+-- The lock of builds started with `opened` can hold the host. The host has as many events of the seat's build as
+-- the seat counts.
 pub record IsBehind (opened host : HostView) (seat : SeatView) : Type 0 where
   pub shared : IsShared host
   pub of_start : IsOfStart opened host
   pub counted : length (events_of seat.build host.history) ≡ seat.count
 
--- An accepted call: there was a host that answers so, and the event that ends its history then ends the trail.
+-- An accepted call: there was a host that answers so, with one event more, also in the trail.
 pub record IsCallTold (opened : HostView) (call : Call) (answer : HostAnswer) (seat new_seat : SeatView) : Type 0 where
   pub host : HostView
   pub new : HostView

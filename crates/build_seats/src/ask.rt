@@ -21,12 +21,12 @@ pub enum Question {
     Mark,
 }
 
-/// The outcome of the questions that a build's worker asks the host.
+/// The outcome of a list of a worker's requests to the host: all accepted, one refused, or cut short.
 #[derive(Clone, Copy)]
 pub enum Ending {
-    /// The outcome if the host accepted all questions of a build's worker.
+    /// The outcome when every step, exit or undo of the list is accepted.
     Done,
-    /// The outcome if the host refused a question of a build's worker.
+    /// The outcome when a step, exit or undo of the list is refused.
     Refused,
     /// The outcome if a build's worker did not get a turn to ask its next question. The gate did not give the turn, and
     /// the question was not asked.
@@ -101,7 +101,7 @@ pub fn tell(report: &mut Report, asked: Asked, answer: Answer) -> Ending
     end
 }
 
-/// Asks the host to perform a command, once a build's worker gets its next turn. The answer is added to the report. The
+/// Waits for a worker's next turn, and then asks the host to perform a command. The answer is added to the report. The
 /// command is borrowed and not copied: a copy between two calls would take time in which others wait for the lock.
 pub fn ask_command<T: Teller, G: Gate>(
     report: &mut Report,
@@ -131,7 +131,7 @@ pub fn ask_command<T: Teller, G: Gate>(
     }
 }
 
-/// Asks the host a question, once a build's worker gets its next turn. The answer is added to the report.
+/// Waits for a worker's next turn, then asks the host for a command, undo or mark. The answer is added to the report.
 pub fn ask<T: Teller, G: Gate>(
     report: &mut Report,
     standing: &mut Standing,

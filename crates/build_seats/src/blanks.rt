@@ -1,9 +1,9 @@
-//! Blanks: ghost ledgers that are not yet bound to a type.
+//! Blank ghost ledgers, whose types are chosen when they are opened.
 ghost use Rattle.std.specs.Prelude.{◌≡◌};
 
 use std::sync::ledger::Blank;
 
-/// A ghost ledger for each build, not yet bound to a type. Each ledger has a single part.
+/// A blank ghost ledger for each build, whose type is chosen when it is opened. Each ledger has a single part.
 #[derive(Drop)]
 pub struct Blanks {
     pub blank0: Blank,

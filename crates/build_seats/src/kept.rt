@@ -93,9 +93,9 @@ impl<S: PageStore, L: Ledgers> Kept<S, L> {
         Ok(reply)
     }
 
-    /// Undoes the newest open operation of the build whose session handle is `seat`. The answer is the host's. An
-    /// accepted undo appends one event of the build to the history and to the trail. A refusal leaves both as they are.
-    /// No memory is taken.
+    /// Undoes the newest open (not yet undone) operation of the build with session handle `seat`. The answer is the
+    /// host's. An accepted undo appends one event of the build to the history and to the trail. A refusal leaves both
+    /// as they are. No memory is taken.
     pub fn undo(&mut self, seat: &mut Seat<L>) -> Result<Undone, Refusal>
         ensures answer { IsAnswer self.old.host seat.old.build Undo (undone result) self.new.host }
         ensures noted { IfOk result (λ _. IsNoted self.old seat.old self.new seat.new) }

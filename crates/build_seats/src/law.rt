@@ -1,4 +1,4 @@
-//! A theorem on the match between a worker's report and the events of its build.
+//! A theorem that the accepted lines of a worker's report match its build's events.
 ghost use Rattle.std.specs.Prelude.{List, Bool};
 ghost use Rattle.host_commands.specs.declared.cmd.Step.{Step};
 ghost use Rattle.build_seats.specs.Events.{AcceptedMatchEvents};

@@ -17,7 +17,7 @@ use std::sync::ledger::{Book, Ledger, Share};
 pub trait Ledgers {
     ghost opened: { HostView };
 
-    /// The name of each build's ghost ledger, by the number of the build.
+    /// Maps the number of a build to the name of its ghost ledger.
     ghost names: { ℕ → ℕ };
 }
 
@@ -36,7 +36,7 @@ impl<L: Ledgers, const BUILD: u8> Ledger for LedgerOf<L, BUILD> {
     ghost parts = { 1 };
 }
 
-/// The event counts of the builds, which the lock of a shared host protects. The view is the list of their totals.
+/// The number of events of each build, kept under the lock of a shared host. The view is the list of these numbers.
 #[derive(Drop)]
 pub struct Books<L: Ledgers> {
     book0: Book<LedgerOf<L, 0>>,
@@ -109,7 +109,7 @@ enum Whole<L: Ledgers> {
     Build7(Share<LedgerOf<L, 7>>),
 }
 
-/// The sole share of the ghost ledger that counts one build's events. The view is the build and the count.
+/// The only share of a build's ghost ledger, which counts the build's events. The view is the build and the count.
 #[derive(Drop)]
 pub struct Pass<L: Ledgers> {
     whole: Whole<L>,
@@ -128,7 +128,7 @@ impl<L: Ledgers> Model for Pass<L> {
 }
 
 impl<L: Ledgers> Pass<L> {
-    /// Returns the build whose ghost ledger this share belongs to.
+    /// Returns the build whose events are counted by this share of a ghost ledger.
     pub fn build(&self) -> BuildId
         ensures build { result ≡ self.now.build }
         ensures range { self.now.build < 8 }

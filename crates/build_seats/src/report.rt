@@ -2,25 +2,25 @@
 use granule_addr::{BuildId, RecNo};
 use host_commands::{Refusal, Reply, Undone};
 
-/// The question that one line of a worker's report answers: a step, exit or undo.
+/// The step, exit or undo that a worker asked for, as a line of its report has it.
 #[derive(Clone, Copy, PartialEq, Eq)]
 pub enum Asked {
     /// A step of a build in the plan, by its index from 0.
     Step(usize),
-    /// An exit of a running REC, asked for after a refused step.
+    /// A worker's request to exit a running REC after a step was refused.
     Exit(RecNo),
-    /// An undo of the newest open operation, asked for after a refused step.
+    /// A worker's request, after a refused step, to undo the build's newest reversible operation not yet undone.
     Undo,
 }
 
-/// The answer to a worker's question, as a line of the report gives it.
+/// The answer to a step, exit or undo, as a worker's report records it.
 #[derive(Clone, Copy, PartialEq, Eq)]
 pub enum Answer {
     /// The reply to an accepted command.
     Replied(Reply),
-    /// The kind of an undone operation, and the number of operations left open.
+    /// An accepted undo, with the operation's kind and the number of operations left to undo.
     Undone(Undone),
-    /// The number of open operations at a mark that was set.
+    /// The number of open (not yet undone) operations when a rollback mark was set.
     Marked(u16),
     /// The answer to a step that has nothing to undo. The step is an abort or a `back`.
     Nothing,

@@ -119,8 +119,8 @@ impl<L: Ledgers> Seat<L> {
     }
 }
 
-/// Makes the session handles (seats) of the lowest builds, one for each list of events. Each seat has its build's pass
-/// too, and the lowest build comes first. The passes that are left are dropped.
+/// Makes a session handle (seat) from each event list, for builds 0, 1 and so on. Each seat has its build's pass too,
+/// and the lowest build comes first. The passes that are left are dropped.
 pub(crate) fn seats_of_trails<L: Ledgers>(
     mut seats: Vec<Seat<L>>,
     passes: [Pass<L>; 8],

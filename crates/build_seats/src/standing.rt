@@ -1,5 +1,5 @@
-//! A worker's record of its build's open operations, running RECs and last mark. The teller's replies keep the record
-//! up to date.
+//! The record by which a worker follows the state of its build. It has the number of the build's open operations, its
+//! running RECs and its last mark. The teller's replies keep the record up to date.
 ghost use Rattle.std.specs.Prelude.{◌≡◌, ◌+◌, ◌-◌, ◌^◌, ◌<◌, ◌≤◌, ◌++◌, length, take, drop, slice_index, Some};
 ghost use Rattle.build_seats.specs.Standing.{first_standing, with_number, without_number, standing_after_command, left_to_clear};
 
@@ -11,8 +11,8 @@ use std::marker::Model;
 /// The maximum number of running RECs that a worker records for its build. It is equal to the limit on a build's steps.
 pub const MOST: usize = 1024;
 
-/// A worker's record of its build: turns, open operations, running RECs and last mark. The teller's replies keep the
-/// record up to date.
+/// A worker's own record of the progress and state of its build. It has the number of turns taken, the number of open
+/// operations, the running RECs and the last mark. The teller's replies keep the record up to date.
 #[derive(Drop)]
 pub struct Standing {
     turn: usize,
@@ -75,14 +75,15 @@ impl Standing {
         }
     }
 
-    /// Returns the number of the worker's next turn, counted from 0.
+    /// Returns the index of the worker's next turn, which is the number of its questions so far. Turns are counted from
+    /// 0.
     pub fn turn(&self) -> usize
         ensures { result ≡ self.now.turn }
     {
         self.turn
     }
 
-    /// Adds one to the number of the worker's next turn.
+    /// Records that the worker has taken one more turn. A turn is for one question.
     pub(crate) fn take_turn(&mut self)
         requires { self.old.turn + 1 < 2 ^ 64 }
         ensures { self.new ≡ record self.old { turn = self.old.turn + 1 } }
@@ -114,28 +115,29 @@ impl Standing {
         }
     }
 
-    /// Returns the number of open operations of the worker's build.
+    /// Returns how many operations of the worker's build are open (not undone yet).
     pub fn journal(&self) -> usize
         ensures { result ≡ self.now.journal }
     {
         self.journal
     }
 
-    /// Subtracts one from the number of open operations, after an accepted undo. The number stays 0 if it is 0.
+    /// Records an accepted undo: one operation fewer is open (not undone yet). The number of open operations stays 0 if
+    /// it is 0.
     pub(crate) fn count_undo(&mut self)
         ensures { self.new ≡ record self.old { journal = self.old.journal - 1 } }
     {
         self.journal = self.journal.saturating_sub(1);
     }
 
-    /// Returns the last mark that was set for the worker's build, if any.
+    /// Returns the last mark (rollback point) that the worker set for its build, if any.
     pub fn mark(&self) -> Option<Mark>
         ensures { result ≡ self.now.mark }
     {
         self.mark
     }
 
-    /// Records a new mark as the last mark of the worker's build.
+    /// Records a newly set mark, to which the worker's build can be rolled back.
     pub(crate) fn count_mark(&mut self, mark: Mark)
         ensures { self.new ≡ record self.old { mark = Some mark } }
     {

@@ -13,8 +13,8 @@ use crate::teller::{Gate, Teller};
 use host_commands::{Refusal, Step};
 use host_ledger::Mark;
 
-/// Asks the host for `count` undos of a build's operations, in sequence. Each answer is added to the report. A refusal
-/// ends the sequence, and so does a turn that the gate does not give.
+/// Asks the host, up to `count` times, to undo the build's newest open operation. Each answer is added to the report. A
+/// refusal ends the sequence, and so does a turn that the gate does not give.
 pub(crate) fn undo_each<T: Teller, G: Gate>(
     report: &mut Report,
     standing: &mut Standing,

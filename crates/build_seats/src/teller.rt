@@ -1,4 +1,4 @@
-//! The traits by which a build's worker asks the host and waits for its turns. A `Teller` answers the worker's
+//! Traits through which a worker sends its requests to a host and waits for turns. A `Teller` answers the worker's
 //! questions, and a `Gate` gives the worker turns.
 ghost use Rattle.std.specs.Prelude.{◌≡◌, ℕ, List, [], ◌∷◌, ◌++◌, OnOk, OnErr};
 ghost use Rattle.build_seats.specs.Exchange.{Exchange, Did, Undid, KeptMark, CheckedBack};
@@ -8,14 +8,15 @@ use granule_addr::BuildId;
 use host_commands::{Cmd, Refusal, Reply, Undone};
 use host_ledger::Mark;
 
-/// The client side of a host, for the worker of one build. A teller asks the host the worker's questions, and returns
-/// the answers. A seat with its shared host is a teller.
+/// A client of a host, which passes on the requests of one build's worker. A teller asks the host the worker's
+/// questions, and returns the answers. A seat with its shared host is a teller.
 pub trait Teller {
-    /// States that a list has all questions to this teller so far, with their answers. The list is in sequence. An
+    /// Whether a list has all questions to this host client so far, with their answers. The list is in sequence. An
     /// exchange is a question that the teller was asked, with its answer.
     ghost tells: { Self → List Exchange → Type 0 };
 
-    /// A number that identifies the teller's mutable borrow. The teller writes through that borrow, if there is one.
+    /// A number that identifies the mutable borrow through which this host client writes. A teller need not have such a
+    /// borrow.
     ghost loan: { Self → ℕ };
 
     /// Asks the host to perform a command. The command is borrowed from the worker.
@@ -23,7 +24,7 @@ pub trait Teller {
         ensures told { (earlier : List Exchange) → tells self.old earlier → tells self.new (earlier ++ Did cmd.now result ∷ []) }
         ensures loan { loan self.new ≡ loan self.old };
 
-    /// Asks the host to reverse the build's newest open operation.
+    /// Asks the host to undo the build's newest reversible operation that is not undone yet.
     fn undo(&mut self) -> Result<Undone, Refusal>
         ensures told { (earlier : List Exchange) → tells self.old earlier → tells self.new (earlier ++ Undid result ∷ []) }
         ensures loan { loan self.new ≡ loan self.old };
@@ -49,8 +50,8 @@ pub trait Gate {
     /// of the turn.
     ghost stops: { Self → ℕ → ℕ → Type 0 };
 
-    /// Waits until a build's worker gets the turn with the number `turn`. The build's worker calls this function before
-    /// each question. Turns are counted from 0.
+    /// Waits for the scheduler to give a build's worker the turn with number `turn`. `Err` comes if the turn is
+    /// withheld. The build's worker calls this function before each question. Turns are counted from 0.
     fn pass(&self, build: BuildId, turn: usize) -> Result<(), Stuck>
         ensures ok { OnOk result (passes self.now build turn) }
         ensures stuck { OnErr result (stops self.now build turn) };

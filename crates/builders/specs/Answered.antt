@@ -7,8 +7,8 @@ use Rattle.build_seats.specs.Exchange.{Exchange, Did, Undid, KeptMark, CheckedBa
 use Rattle.build_seats.specs.Seats.{SeatView}
 use Rattle.build_seats.specs.Told.{IsCallTold, IsCallRefused, IsMarkTold, IsBackTold}
 
--- There was a host that can be behind the lock of builds that were started with `opened`, and it answers like this. An
--- accepted command or undo makes a new seat; any other question leaves the seat as it is.
+-- This is an answer of a host that the lock can hold, for builds started with `opened`. An accepted command or undo
+-- makes a new seat; any other question leaves the seat as it is.
 abbrev pub IsAnswered : HostView → SeatView → Exchange → SeatView → Type 0
 IsAnswered opened seat (Did cmd (Ok reply)) new = IsCallTold opened (Ask cmd) (Replied reply) seat new
 IsAnswered opened seat (Did cmd (Err refusal)) new = IsCallRefused opened (Ask cmd) refusal seat × (new ≡ seat)
@@ -17,7 +17,7 @@ IsAnswered opened seat (Undid (Err refusal)) new = IsCallRefused opened Undo ref
 IsAnswered opened seat (KeptMark result) new = IsMarkTold opened seat result × (new ≡ seat)
 IsAnswered opened seat (CheckedBack mark result) new = IsBackTold opened seat mark result × (new ≡ seat)
 
--- each with the seat that the one before it left
+-- the exchanges are answered in sequence, each with the seat that the one before it left
 abbrev pub AreAnswered : HostView → SeatView → List Exchange → SeatView → Type 0
 AreAnswered opened seat [] new = new ≡ seat
 AreAnswered opened seat (exchange ∷ exchanges) new =

@@ -22,8 +22,9 @@ pub record IsNew (worker : WorkerView) : Type 0 where
   pub no_event : worker.seat.trail ≡ []
   pub not_ended : worker.ended ≡ false
 
--- The exchanges are those of the report of the steps. Since the seat was new, they were answered by hosts that can be
--- behind the lock of builds started with `opened`. The accepted ones are the trail's events, which the seat counts.
+-- The worker's lines are the report of its steps, with these exchanges. Since the seat was new, they were answered by
+-- hosts that can be behind the lock of builds started with `opened`. The accepted ones are the trail's events, which
+-- the seat counts.
 pub record HasWorked (opened : HostView) (worker : WorkerView) : Type 0 where
   pub exchanges : List Exchange
   pub is_report : IsWorkerReport 0 first_standing worker.steps exchanges worker.lines worker.ended
@@ -31,7 +32,7 @@ pub record HasWorked (opened : HostView) (worker : WorkerView) : Type 0 where
   pub is_trail : IsTrailOf worker.seat.build exchanges worker.seat.trail
   pub counted : worker.seat.count ≡ length worker.seat.trail
 
--- the invariant of a worker
+-- the invariant of a worker: it is new, or it has worked on its steps
 abbrev pub IsFaithful : HostView → WorkerView → Type 0
 IsFaithful opened worker = IsNew worker ⊎ HasWorked opened worker
 

@@ -1,4 +1,4 @@
-//! A realm host under a lock, which the threads of its builds share. Each build of the host has a seat, and workers run
+//! A realm host that the threads of its builds share under a lock. Each build of the host has a seat, and workers run
 //! the builds in threads.
 //!
 //! A call through `Shared` takes the lock, and asks the host that is kept behind it (`build_seats::Kept`). So a caller

@@ -1,4 +1,4 @@
-//! The parallel run of builds' workers. Each has a thread of its own.
+//! Runs the workers of several builds in parallel, each in a thread of its own.
 ghost use Rattle.std.specs.Prelude.{◌≡◌, [], true, All, MatchOption, MatchResult};
 ghost use Rattle.builders.specs.Runs.{AreRun, IsLowestWaiting};
 ghost use Rattle.builders.specs.Workers.{IsWorkerRun};
@@ -13,7 +13,7 @@ use std::sync::Wait;
 use std::thread;
 use std::thread::Threads;
 
-/// Runs the worker of each build in a thread of its own. The call waits for all workers. If no thread can be made, the
+/// Runs each of the given workers in a thread of its own. The call waits for all workers. If no thread can be made, the
 /// workers run one after another. An `Err` has the lowest build whose worker has not ended: the gate stopped one of its
 /// turns.
 pub fn run_builds<

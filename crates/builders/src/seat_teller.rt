@@ -1,4 +1,4 @@
-//! An implementation of the trait `Teller` by calls to a shared host.
+//! A client (`Teller`) that calls a shared host for the worker of one build.
 ghost use Rattle.std.specs.Prelude.{◌+◌, ◌*◌};
 ghost use Rattle.builders.specs.Answered.{AreAnswered};
 ghost use Rattle.build_seats.specs.Seats.{new_seat};
@@ -10,8 +10,8 @@ use page_arena::PageStore;
 use realm_host::{Cmd, Mark, Refusal, Reply, Undone};
 use std::sync::Wait;
 
-/// A `Teller` that passes the commands of one build to a shared host. Each of its calls takes the host's lock once. The
-/// accepted commands and undos are the events of the seat's trail.
+/// A client (`Teller`) that passes one build's commands to a shared host. Each of its calls takes the host's lock once.
+/// The accepted commands and undos are the events of the seat's trail.
 #[derive(Drop)]
 pub struct SeatTeller<'a, R: Wait, S: PageStore, L: Ledgers> {
     pub rt: &'a R,

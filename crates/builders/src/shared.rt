@@ -46,7 +46,8 @@ impl<S: PageStore, L: Ledgers> Shared<S, L> {
         }
     }
 
-    /// Performs a command on the shared host for the build of `seat`. Returns the reply, or the host's refusal.
+    /// Performs a command on the shared host for the build with the session `seat`. Returns the reply, or the host's
+    /// refusal.
     pub fn call(&self, rt: &impl Wait, seat: &mut Seat<L>, cmd: Cmd) -> Result<Reply, Refusal>
         ensures told { IfOk result (λ reply. IsCallTold L.opened (Ask cmd) (Replied reply) seat.old seat.new) }
         ensures refused { IfErr result (λ refusal. IsCallRefused L.opened (Ask cmd) refusal seat.old × (seat.new ≡ seat.old)) }
@@ -54,7 +55,8 @@ impl<S: PageStore, L: Ledgers> Shared<S, L> {
         self.kept.lock(rt).call(seat, cmd)
     }
 
-    /// Undoes the newest open operation of the build that has the session `seat`.
+    /// Undoes a build's newest open operation: the newest that has a reverse and is not undone yet. The build is that
+    /// of the session `seat`.
     pub fn undo(&self, rt: &impl Wait, seat: &mut Seat<L>) -> Result<Undone, Refusal>
         ensures told { IfOk result (λ done. IsCallTold L.opened Undo (WasUndone done) seat.old seat.new) }
         ensures refused { IfErr result (λ refusal. IsCallRefused L.opened Undo refusal seat.old × (seat.new ≡ seat.old)) }
@@ -62,8 +64,9 @@ impl<S: PageStore, L: Ledgers> Shared<S, L> {
         self.kept.lock(rt).undo(seat)
     }
 
-    /// Sets a mark to which the build of `seat` can later be rolled back. Returns the mark, or the host's refusal. The
-    /// seat is borrowed mutably, since its count is compared with the one under the lock; it stays as it is.
+    /// Sets a mark to which a build can later be rolled back. The build is that of the session `seat`. Returns the
+    /// mark, or the host's refusal. The seat is borrowed mutably, since its count is compared with the one under the
+    /// lock; it stays as it is.
     pub fn mark(&self, rt: &impl Wait, seat: &mut Seat<L>) -> Result<Mark, Refusal>
         ensures told { IsMarkTold L.opened seat.old result }
         ensures seat { seat.new ≡ seat.old }
@@ -71,8 +74,8 @@ impl<S: PageStore, L: Ledgers> Shared<S, L> {
         self.kept.lock(rt).mark(seat)
     }
 
-    /// Returns the number of undos that would roll back the build of `seat` to a mark. The error is the host's refusal.
-    /// The seat is borrowed as for `mark`.
+    /// Returns the number of undos that would roll a build back to a mark. The build is that of the session `seat`. The
+    /// error is the host's refusal. The seat is borrowed as for `mark`.
     pub fn check_back(&self, rt: &impl Wait, seat: &mut Seat<L>, mark: Mark) -> Result<u16, Refusal>
         ensures told { IsBackTold L.opened seat.old mark result }
         ensures seat { seat.new ≡ seat.old }

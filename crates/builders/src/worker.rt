@@ -35,8 +35,8 @@ impl<L: Ledgers> Model for Worker<L> {
 }
 
 impl<L: Ledgers> Worker<L> {
-    /// Creates a worker for the build of `seat`, with the given steps. Its report is empty. If there is no memory for
-    /// the report, seat and steps come back.
+    /// Creates a worker that performs `steps` for the build with the session `seat`. Its report is empty. If there is
+    /// no memory for the report, seat and steps come back.
     pub fn build(
         alloc: Global,
         seat: Seat<L>,
@@ -69,15 +69,17 @@ impl<L: Ledgers> Worker<L> {
         self.seat.build()
     }
 
-    /// Whether the worker has run to its end, without being stopped by a gate. The gate then gave it every turn that it
-    /// waited for.
+    /// Whether the worker has run to its end, without being stopped by the scheduler (gate). The gate then gave it
+    /// every turn that it waited for.
     pub fn has_ended(&self) -> bool
         ensures { result ≡ self.now.ended }
     {
         self.ended
     }
 
-    /// Performs the steps of the worker's build, in turns that `gate` gives.
+    /// Performs the steps of the worker's build, in turns that the scheduler `gate` gives. After the first refusal the
+    /// remaining steps are left out, the running RECs exit, and what is open is undone. The worker stops when the gate
+    /// stops a turn.
     pub fn run<R: Wait, S: PageStore, G: Gate>(&mut self, rt: &R, shared: &Shared<S, L>, gate: &G)
         requires { self.old.lines ≡ [] }
         ensures { IsWorkerRun L.opened (G.passes gate.now self.old.seat.build) (G.stops gate.now self.old.seat.build) self.old self.new }

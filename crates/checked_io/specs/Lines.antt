@@ -23,7 +23,7 @@ lines_in bytes = without_empty_last (parts_of bytes)
 
 -- ---- the next item, if it is known what the input has left
 
--- a line was read
+-- the line read was the input's next, and the lines after it are left, if the input is known
 abbrev pub IsLine : Option (List ℕ) → List ℕ → Option (List ℕ) → Type 0
 IsLine None line new = Unit {0}
 IsLine (Some xs) line None = ⊥

@@ -1,4 +1,4 @@
--- The end of a program that has not stopped, and the exit status of each end.
+-- The ways in which a program ends, and their exit statuses.
 use Rattle.std.specs.Prelude.{◌≡◌, ◌⊎◌, ℕ, Bool, true, false, Result, Ok, Err}
 use Rattle.clap.specs.declared.error.kind.ErrorKind.{ErrorKind}
 use Rattle.clap.specs.declared.error.kind.ErrorKind.TheVariants.{DisplayHelp, DisplayVersion}
@@ -8,7 +8,7 @@ use Rattle.command_line.specs.declared.ended.Ended.TheVariants.{Done, Shown, Clo
 use Rattle.command_line.specs.declared.stop.Stop.{Stop}
 use Rattle.command_line.specs.declared.stop.Stop.TheVariants.{Run}
 
--- a run that fails is at its end, where nobody reads its output any more
+-- the end of a run: a failed run has ended, not stopped, if nobody reads its output any more
 abbrev pub end_of_run : {V F : Type 0} → Result V F → Bool → Result (Ended V) (Stop F)
 end_of_run (Ok verdict) is_closed = Ok (Done verdict)
 end_of_run (Err fault) true = Ok Closed

@@ -21,7 +21,7 @@ realmhost_alone =
 unfoldable pub realmhost : App
 realmhost = with_subcommand (with_subcommand realmhost_alone replay_subcommand.top) run_subcommand.top
 
--- what the words ask for, by what `clap` says of their subcommand
+-- the command line asks for the subcommand that `clap` found, with its option
 abbrev pub IsHostSubcommand : Option (Text × List Row) → Line → Type 0
 IsHostSubcommand None line = ⊥
 IsHostSubcommand (Some found) (Replay erase) = (found.0 ≡ codes "replay") × IsErase (one_of (codes "erase") found.1) erase

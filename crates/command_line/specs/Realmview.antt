@@ -31,7 +31,7 @@ after_refusal true _ = Err GiveUpInPlan
 
 -- ---- questions
 
--- from one granule to the most that a machine has
+-- the question about leased granules, if their number is from 1 to the most that a machine has
 abbrev pub question_of_leased : ℕ → Result ScheduleQuestion BadOption
 question_of_leased granules = if granules == 0 || nat_lt 4096 granules then Err (GranulesOutOfRange granules) else Ok (Leased granules)
 

@@ -13,11 +13,11 @@ use std::io::Write;
 /// The outcome of a program that stops without an error.
 #[derive(Clone, Copy)]
 pub enum Ended<V> {
-    /// The outcome in which the request was carried out, with the given verdict.
+    /// The outcome in which the request was carried out. The value is the verdict.
     Done(V),
     /// The outcome in which a help or version text was printed.
     Shown,
-    /// The outcome in which nobody reads the output any more, because it is closed.
+    /// The outcome in which the program stopped because its output was closed.
     Closed,
 }
 

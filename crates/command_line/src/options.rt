@@ -1,5 +1,5 @@
-//! Proved `clap` definitions of parts of a command line. The parts are a program, a subcommand, and the option
-//! `--erase`.
+//! Functions that define parts of a command line for `clap`, with proved contracts. The parts are a program, a
+//! subcommand, and the option `--erase`.
 ghost use Rattle.std.specs.Prelude.{◌≡◌, IfOk, None, Some, codes, false, if◌then◌else◌, map, nat_lt, option_and_then, option_map, string_bytes, true};
 ghost use Rattle.clap.specs.Words.{FailsBy, app_of, fault_of, found_of, is_simple_and_free, new_app, one_of, rows_of, rule_of, subcommand_of, subcommand_rows_of};
 ghost use Rattle.clap.specs.declared.builder.command.Command.TheViews.{out-Command as fields_of};

@@ -4,7 +4,7 @@ ghost use Rattle.command_line.specs.Painted.{code_of, shown_by, AddsPainted, IsP
 
 use std::alloc::{AllocError, Global};
 
-/// The kind of a text, by which its lines are coloured.
+/// The kind of a text, which determines how the text's lines are coloured.
 #[derive(Clone, Copy)]
 pub enum TextKind {
     /// A text of program messages, such as errors and warnings. The labels `error:`, `warning:` and `help:` are
@@ -20,7 +20,7 @@ pub enum TextKind {
 pub enum Colour {
     /// Bold red, the colour of the label `error:`.
     Error,
-    /// The colour red, used for refusals and for the verdict `wrong`.
+    /// The colour red, used for refused turns, for lines of carets and for the verdict `wrong`.
     Red,
     /// The colour green, used for the model's answers.
     Green,

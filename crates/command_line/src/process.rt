@@ -1,4 +1,4 @@
-//! The command line arguments of a program, and its exit status.
+//! Functions that return a program's command line arguments and its exit status.
 ghost use Rattle.std.specs.Prelude.{◌≡◌, ◌⊎◌, IfErr};
 ghost use Rattle.std.specs.Process.{exit_status};
 ghost use Rattle.command_line.specs.Stop.{status_of_stop};
@@ -26,7 +26,7 @@ pub fn arguments<R: Env + AllocGlobal, F: Reason>(rt: &R) -> Result<Vec<String>,
 }
 
 impl<F: Reason> Stop<F> {
-    /// Prints to standard error why the program stops. Returns the exit status.
+    /// Prints the reason for the stop to standard error, and returns the exit status.
     pub fn end<R: Eprint>(&self, rt: &R) -> ExitCode
         ensures { exit_status result ≡ status_of_stop F.status_of self.now }
     {

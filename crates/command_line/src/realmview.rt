@@ -15,7 +15,7 @@ use std::alloc::{AllocError, Global};
 pub enum ViewSubcommand {
     /// Writes the history that a plan's run leads to. A build may be left out.
     History(Option<BuildId>),
-    /// Applies a history, and writes the resulting map of the host. A build may be left out.
+    /// Applies a history, and writes the host's resulting map of pages and realms. A build may be left out.
     Apply(Option<BuildId>),
     /// Writes the JSON document of a plan's run.
     Json,
@@ -23,12 +23,12 @@ pub enum ViewSubcommand {
     Page,
     /// Checks a plan, and writes the mistakes found in it.
     Check,
-    /// Writes a plan's run, and explains each refused turn of a build. The failed check is below the turn. If `all`,
-    /// the checks that passed are written too.
+    /// Writes the run of a plan, and explains each refusal of a step. The failed check is below the step's turn. If
+    /// `all`, the checks that passed are written too.
     Why { all: bool },
     /// Explores schedules of a plan, and writes their outcomes.
     Explore(Schedules, AfterRefusal),
-    /// Writes a plan with a complete schedule. The schedule gives each build all the turns that the build needs.
+    /// Writes the given plan with a schedule that lets each build take all its steps.
     Order(SchedulingPolicy),
     /// Writes the run of a plan as calls to an RMM. The memory of the RMM begins at the given address.
     Calls(BaseAddress, CallsForm),
@@ -46,23 +46,23 @@ pub enum CallsForm {
 /// The schedules that are explored for a plan.
 #[derive(Clone, Copy, Drop)]
 pub enum Schedules {
-    /// All schedules, within a limit on the number of explored states.
+    /// All schedules, if their runs have at most the given number of states.
     All(u32),
     /// A given number of schedules drawn at random. The values are the number of schedules, and the seed of the random
     /// numbers.
     Drawn(u32, u32),
-    /// The shortest schedule whose last turn meets a given condition. The runs may have at most the given number of
+    /// The shortest schedule at whose end a given condition holds. The runs may have at most the given number of
     /// states.
     Shortest(u32, ScheduleQuestion),
 }
 
-/// A condition on the last turn of a schedule that is searched for.
+/// A condition that a search requires to hold at the end of a schedule.
 #[derive(Clone, Copy, Drop)]
 pub enum ScheduleQuestion {
     /// The condition that the given step of a build is refused.
     Refused(StepPlace),
-    /// The condition that the given build waits for a resource while another holds no page. A build waits if its step
-    /// is refused for want of a block or a VMID.
+    /// The condition that the given build waits for resources while another build holds no page. A build waits if its
+    /// step is refused for want of a block or a VMID.
     Waiting(u32),
     /// The condition that at least the given number of granules is leased.
     Leased(u32),
@@ -73,7 +73,7 @@ pub enum ScheduleQuestion {
 pub enum AfterRefusal {
     /// Goes on with the build's next step.
     GoOn,
-    /// Leaves out the build's remaining steps, and aborts.
+    /// Skips the build's remaining steps, and aborts the build by undoing its operations.
     GiveUp,
 }
 
@@ -94,12 +94,12 @@ pub enum BadOption {
     NoBase,
     /// An option value that does not name a step of a build.
     NoStep,
-    /// The option `--give-up` together with a question about schedules. The answer to a question is a plan, and a plan
-    /// cannot say that its builds give up.
+    /// The option `--give-up` together with a search for the shortest schedule. The search results in a plan, and a
+    /// plan cannot say that its builds give up.
     GiveUpInPlan,
     /// A number of granules that is 0 or too large for a machine.
     GranulesOutOfRange { granules: u32 },
-    /// More than one question about schedules on a command line.
+    /// More than one of the options `--refused`, `--waiting` and `--leased`.
     TwoQuestions,
 }
 
@@ -108,8 +108,7 @@ pub enum BadOption {
 pub enum SchedulingPolicy {
     /// Gives turns in rotation to the builds that have a step left.
     InRotation,
-    /// Gives all turns to one build before the next build begins. A build begins when the previous build has no step
-    /// left.
+    /// Lets each build take all its steps before the next build begins.
     OneByOne,
 }
 

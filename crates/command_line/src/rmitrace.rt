@@ -26,9 +26,9 @@ pub struct Comparison {
     pub is_each: bool,
     /// Whether the check stops at the first wrong line.
     pub stops: bool,
-    /// The names to which the comparison is restricted, if any are given. Other lines are then not compared.
+    /// The names to which the comparison is restricted, if given: those of commands, of other questions and of checks.
     pub only: Option<NameSet>,
-    /// The names of the lines that are not compared.
+    /// The names of the commands, other questions and checks whose trace lines are not compared.
     pub skip: Option<NameSet>,
 }
 
@@ -39,7 +39,7 @@ pub enum TraceSubcommand {
     Answer,
     /// Compares the answers in a trace with those of the model.
     Check(Comparison),
-    /// Writes a trace, with its raw calls written by name.
+    /// Writes a trace, and rewrites its raw calls with the names of commands and outputs.
     Names,
     /// Writes a trace with the model's answers, and explains each refusal.
     Why,
@@ -132,7 +132,7 @@ const RMITRACE: Program = Program {
 // ---- names
 
 impl NameSet {
-    /// Whether the set has the name with the index `place` in `rmm_trace`.
+    /// Whether the set has the name to which the crate `rmm_trace` gives index `place`.
     pub fn has(&self, place: usize) -> bool
         ensures { result ≡ is_name_in self.now place }
     {

@@ -8,7 +8,7 @@ use clap::error::ErrorKind;
 use std::fmt;
 use std::fmt::Display;
 
-/// A reason why a program has not carried out its command line. Its text is a line for standard error.
+/// A reason why a program has not done what its command line asks for. Its text is a line for standard error.
 pub trait Reason: Display + Drop {
     /// The function from each reason to its exit status.
     ghost status_of: { Self → ℕ };

@@ -19,7 +19,8 @@ pub(crate) enum Opt {
     Text(&'static str, &'static str, &'static str),
 }
 
-/// A subcommand of a program. It has a name, a description, examples, the help for its argument FILE, and options.
+/// Describes a subcommand of a program by its name, help texts and options. The help texts are a description, examples,
+/// and the help for its argument FILE.
 #[derive(Clone, Copy)]
 pub(crate) struct Subcommand {
     pub name: &'static str,
@@ -29,8 +30,8 @@ pub(crate) struct Subcommand {
     pub options: &'static [Opt],
 }
 
-/// A program with subcommands. It also has a name, a description, and examples. A command line has to name a
-/// subcommand.
+/// Describes the command line of a program by its name, help texts and subcommands. The help texts are a description
+/// and examples. A command line has to name a subcommand.
 #[derive(Clone, Copy)]
 pub(crate) struct Program {
     pub name: &'static str,

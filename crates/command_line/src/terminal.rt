@@ -14,7 +14,7 @@ use std::io::{IsTerminal, Read, Stdin, Stdout, Write};
 use std::process::ExitCode;
 use std::{env, io};
 
-/// The input of a program. It is standard input, or the file that the command line names.
+/// The input of a program: standard input, or the file that the command line names.
 #[derive(Drop)]
 pub enum Input<'a> {
     /// Standard input.
@@ -133,8 +133,8 @@ impl Write for Output<'_> {
 }
 
 impl<F: Reason> Stop<F> {
-    /// Prints why the program stops, and returns the exit status. The message goes to standard error. It is in colour
-    /// if standard error is a terminal and the environment allows colours.
+    /// Prints why the program stops, in colour if possible, and returns the exit status. The message goes to standard
+    /// error. It is in colour if standard error is a terminal and the environment allows colours.
     pub fn end_in_colour(&self, rt: &HostRuntime) -> ExitCode
         ensures { exit_status result ≡ status_of_stop F.status_of self.now }
     {

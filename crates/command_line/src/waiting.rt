@@ -16,7 +16,7 @@ pub struct WaitingStream<'a, D> {
 }
 
 impl<'a, D> WaitingStream<'a, D> {
-    /// Creates a waiting stream over `stream`.
+    /// Creates a stream that waits when `stream` is not ready.
     pub fn new(rt: &'a HostRuntime, stream: D) -> WaitingStream<'a, D> {
         WaitingStream { rt, stream }
     }

@@ -5,7 +5,7 @@ use Rattle.std.specs.Fmt.{decimal}
 use Rattle.std.specs.Str.{bytes_eq}
 use Rattle.std.specs.Str.Parse.{digits_value}
 
--- no `+`, and a zero only alone
+-- a number's text does not begin with `+`, and begins with 0 only if it is `0`
 abbrev pub IsPlain : List ℕ → Type 0
 IsPlain bytes = (slice_index bytes 0 ≢ 43) × (slice_index bytes 0 ≡ 48 → length bytes ≡ 1)
 
@@ -13,7 +13,7 @@ IsPlain bytes = (slice_index bytes 0 ≢ 43) × (slice_index bytes 0 ≡ 48 → 
 abbrev pub spelled_numbers : List ℕ → List ℕ
 spelled_numbers ns = flat_map (λ n. 32 ∷ decimal n) ns
 
--- no more than that many, and each of 32 bits
+-- the list has at most a given number of items, each below 2^32
 abbrev pub AreNumbers : ℕ → List ℕ → Type 0
 AreNumbers most ns = (length ns ≤ most) × AllByRecursion (λ n. n < 2 ^ 32) ns
 
@@ -26,7 +26,7 @@ abbrev pub from_space : List ℕ → List ℕ
 from_space [] = []
 from_space (b ∷ bs) = if b == 32 then b ∷ bs else from_space bs
 
--- the number of 32 bits that the field is the decimal of
+-- the number below 2^32 whose decimal form the field is, if there is one
 abbrev pub number_of_digits : List ℕ → Option ℕ
 number_of_digits field =
     let n = digits_value 10 field in

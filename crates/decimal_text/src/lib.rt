@@ -1,4 +1,4 @@
-//! Spelling and parsing of a word followed by decimal numbers.
+//! Writes and parses texts that consist of a word and decimal numbers.
 //!
 //! A number is written in decimal, without a sign and without leading zeros, and one space is before it. A function
 //! that returns a value returns the one that the text spells; if it returns none, the text spells none.

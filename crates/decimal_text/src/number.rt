@@ -1,4 +1,4 @@
-//! Decimal numbers in a text, without a sign and without leading zeros.
+//! Parses decimal numbers without a sign and without leading zeros.
 ghost use Rattle.std.specs.Prelude.{◌≡◌, ◌≢◌, ◌↔◌, ℕ, ◌<◌, ◌^◌, List, IfSome, IfNone, IsTrue, IsUtf8};
 ghost use Rattle.std.specs.Fmt.{decimal};
 ghost use Rattle.decimal_text.specs.Numbers.{IsPlain, AreNumbers, spelled_numbers, before_space, from_space};

@@ -1,10 +1,9 @@
-//! The conversion of numbers to typed operands. There are as many numbers as operands, each in the range of its
-//! operand's type.
+//! Converts numbers to typed operands. There are as many numbers as operands, each in the range of its operand's type.
 ghost use Rattle.std.specs.Prelude.{◌≡◌, ℕ, nat_le, ◌&&◌, if◌then◌else◌, Some, None};
 ghost use Rattle.decimal_text.specs.Rows.{one, two, three, four};
 ghost use Rattle.decimal_text.specs.Written.{u8, u16, u32};
 
-/// An operand's type, whose values are made from the numbers up to `maximum`.
+/// An operand type whose values are made from numbers up to `maximum`.
 pub trait Operand: Copy {
     ghost maximum: { ℕ };
 

@@ -1,4 +1,4 @@
-//! Checks that numbers are at most given maxima.
+//! Checks that numbers do not exceed given maxima.
 ghost use Rattle.std.specs.Prelude.{◌≡◌, IfSome, IfNone};
 ghost use Rattle.decimal_text.specs.Ranges.{AreAtMost};
 ghost use Rattle.decimal_text.specs.Rows.{up_to};

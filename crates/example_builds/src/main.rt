@@ -1,5 +1,6 @@
-//! A program with three examples of builds on a host. One build: commands, a refusal that is matched on, an undo, an
-//! abort, and the history. Two builds in threads of their own. A history from standard input, applied to a host.
+//! An example program that performs realm builds on a host in three ways. One build: commands, a refusal that is
+//! matched on, an undo, an abort, and the history. Two builds in threads of their own. A history from standard input,
+//! applied to a host.
 #![tactic(auto)]
 
 mod history;

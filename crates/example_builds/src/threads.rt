@@ -1,5 +1,5 @@
-//! An example of two builds that share a host, each in its own thread. A lock guards the host. Each build has a seat,
-//! and the seats close the host.
+//! An example of two realm builds on a shared host, each in its own thread. A lock guards the host. Each build has a
+//! seat, and the seats close the host.
 ghost use Rattle.std.specs.Prelude.{◌≡◌, [], IfOk};
 ghost use Rattle.build_seats.specs.Names.{AreNamed};
 
@@ -62,8 +62,8 @@ fn run<R: Print + AllocGlobal + Threads + Wait + Sync, L: Ledgers + Send + Sync>
     }
 }
 
-/// Runs two builds in threads on a new host, and prints the number of events. The host's map of pages and realms is
-/// printed too.
+/// Runs two realm builds in threads on a new host, and prints the result. The result is the number of events in the
+/// host's history, and the map of the host's pages and realms.
 pub(crate) fn both<R: Print + AllocGlobal + Threads + Wait + Sync>(rt: &R) -> Result<()> {
     let host = booted(rt.alloc())?;
     run::<R, Brand>(rt, Blanks::new(), host)

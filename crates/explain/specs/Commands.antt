@@ -54,14 +54,14 @@ guest_write_checks host build number ipa =
 
 -- ---- the table
 
--- the checks of commands on RECs that are there
+-- the checks of commands on existing RECs
 abbrev pub recs_checks : HostView → ℕ → Cmd → List Check
 recs_checks host build (Enter number) = enter_checks host build number
 recs_checks host build (Exit number) = exit_checks host build number
 recs_checks host build (Poke number ipa offset value) = guest_write_checks host build number ipa
 recs_checks host build _ = []
 
--- the checks of commands on the tables, the pages and the state of a realm that is there
+-- the checks of commands on an existing realm: its tables, pages, state and RECs
 abbrev pub tables_checks : HostView → ℕ → Cmd → List Check
 tables_checks host build (Rtt page ipa level) = rtt_create_checks host build page ipa level
 tables_checks host build (Ripas ipa count) = init_ripas_checks host build ipa count

@@ -29,7 +29,7 @@ pub record TurnReport : Type 0 where
 abbrev pub report_of_reason : Explanation → Step × List Check
 report_of_reason reason = (reason.step, reason.checks.items)
 
--- the report that an explained turn is; its wordings are no part of it
+-- the report of an explained turn, without its wordings
 abbrev pub report_of : ExplainedTurn → TurnReport
 report_of turn = record { line = string_bytes turn.line; reason = option_map report_of_reason turn.reason }
 
@@ -40,7 +40,7 @@ abbrev pub up_to_failing : List Check → List Check
 up_to_failing [] = []
 up_to_failing (check ∷ checks) = check ∷ cond check.fails [] (up_to_failing checks)
 
--- the step and its checks, if it is refused
+-- the step and its checks up to the first that fails, if the step is refused
 abbrev pub reason_for : TurnAnswer → Step → List Check → Option (Step × List Check)
 reason_for (Refused refusal) step checks = Some (step, up_to_failing checks)
 reason_for _ step checks = None
@@ -66,7 +66,7 @@ idle_report build = record { line = idle_line build; reason = None }
 
 -- ---- turns and runs
 
--- the turn of a build's step in a plan that gives up or does not, and its report
+-- A turn of the step leads to this new host and cursor, with this report, under the plan's `gives_up`.
 pub record IsExplainedStep (gives_up : Bool) (host : HostView) (build : ℕ) (place : PlanCursor) (step : PlanStep) (new : HostView) (after : PlanCursor) (report : TurnReport) : Type 0 where
   pub answer : TurnAnswer
   pub left : PlanCursor
@@ -74,7 +74,7 @@ pub record IsExplainedStep (gives_up : Bool) (host : HostView) (build : ℕ) (pl
   pub moved : after ≡ moved_on gives_up answer left
   pub reported : report ≡ record { line = turn_line build step answer; reason = reason_of_step host build place step answer }
 
--- The turn of a build leads here, and this is its report.
+-- A turn of the build leads from one position to the other, and this is its report.
 pub record IsExplainedTurn (plan : Plan) (from : Position) (build : ℕ) (to : Position) (report : TurnReport) : Type 0 where
   pub turn : Turn
   pub of_build : turn.build ≡ build
@@ -88,7 +88,7 @@ AreExplained plan (build ∷ order) from (e ∷ rest) to =
     (e.at ≡ from) × (e.turn.build ≡ build) × (between : Position) × IsTurn plan from e.turn between × AreExplained plan order between rest to
 AreExplained plan _ from _ to = ⊥
 
--- Some run of the plan's turns leads here, and these are the reports of its turns.
+-- Some run of the plan leads from one host to the other, with these reports of its turns.
 pub record IsExplainedRun (plan : Plan) (from to : HostView) (reports : List TurnReport) : Type 0 where
   pub turns : List Explained
   pub end : Position

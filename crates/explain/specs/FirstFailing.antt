@@ -1,4 +1,4 @@
--- The refusal of the first check of a step that fails, beside the one that the host gives.
+-- The refusal of a step's first failing check, compared with the refusal that the host gives.
 use Rattle.std.specs.Prelude.{◌≡◌, ℕ, ◌+◌, nat_le, List, map, true, Option, Some, None}
 use Rattle.host_commands.specs.Checks.{Check as HostCheck, build_checks as host_build_checks, checks_of, first_that_holds}
 use Rattle.host_commands.specs.Needs.{tables_named}
@@ -37,7 +37,7 @@ ChecksDecideMark host build = first_refusal (checks_of_build host build) ≡ fir
 abbrev pub ChecksDecideBegin : HostView → ℕ → Type 0
 ChecksDecideBegin host build = first_refusal (begin_checks host build) ≡ first_that_holds (checks_of_begin host build)
 
--- the refusal of a way back, without a mark or to one
+-- the host's refusal of a way back to a mark, if any; without a mark, NothingToUndo
 abbrev pub refusal_of_back : HostView → ℕ → Option Mark → Option Refusal
 refusal_of_back host build None = Some NothingToUndo
 refusal_of_back host build (Some mark) = first_that_holds (checks_of_back host build mark)

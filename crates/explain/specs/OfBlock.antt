@@ -15,7 +15,7 @@ is_unleased host granule = nat_lt granule host.limits.pages && is_none (slice_in
 abbrev pub are_unleased : HostView → ℕ → ℕ → Bool
 are_unleased host first count = list_all (is_unleased host) (range_with_len first count)
 
--- a block of the order begins there, and is free
+-- an aligned block of the order begins at this granule, and is free
 abbrev pub is_free_at : HostView → ℕ → ℕ → Bool
 is_free_at host order first = first % 2 ^ order == 0 && are_unleased host first (2 ^ order)
 

@@ -14,7 +14,7 @@ use Rattle.explain.specs.declared.host_facts.RoomFact.TheVariants as room_fact
 use Rattle.explain.specs.declared.check.Fact.TheVariants as fact
 use Rattle.explain.specs.declared.check.Check.{Check}
 
--- 1 and 2
+-- refusals 1 and 2: there is no such build, and the build is being aborted
 abbrev pub build_there : HostView → ℕ → Check
 build_there host build = record { fact = fact.Build (build_fact.There host.limits.builds); fails = nat_le host.limits.builds build; refusal = NoBuild }
 
@@ -24,12 +24,12 @@ not_aborting host build = record { fact = fact.Build build_fact.NotAborting; fai
 abbrev pub checks_of_build : HostView → ℕ → List Check
 checks_of_build host build = build_there host build ∷ not_aborting host build ∷ []
 
--- 3
+-- refusal 3: the order of a Take is above 9
 abbrev pub checks_of_order : Cmd → List Check
 checks_of_order (Take order) = record { fact = fact.Build (build_fact.Order order); fails = nat_lt 9 order; refusal = BadOrder } ∷ []
 checks_of_order _ = []
 
--- 4
+-- refusal 4: the build does not have the page
 abbrev pub page_there : HostView → ℕ → ℕ → Check
 page_there host build page = record {
   fact = fact.Build (build_fact.Page page (granule_of_page host build page) (length (pages_of_build host build)));
@@ -37,31 +37,31 @@ page_there host build page = record {
   refusal = NotLeased page;
 }
 
--- 5 and 6
+-- refusals 5 and 6: the build has a realm, or none, against the requirement of the command
 abbrev pub checks_of_realm : HostView → ℕ → RealmRequirement → List Check
 checks_of_realm host build Either = []
 checks_of_realm host build NoneOf = record { fact = fact.Build (build_fact.NoRealm (rd_of build (world_of host))); fails = is_some (rd_of build (world_of host)); refusal = RealmThere } ∷ []
 checks_of_realm host build ARealm = record { fact = fact.Build (build_fact.Realm (rd_of build (world_of host))); fails = not (is_some (rd_of build (world_of host))); refusal = NoRealm } ∷ []
 
--- 9
+-- refusal 9: the build has 512 open operations already, and the command is paired
 abbrev pub checks_of_journal : HostView → ℕ → Bool → List Check
 checks_of_journal host build true = record { fact = fact.Room (room_fact.Journal (length (open_of host build))); fails = nat_le 512 (length (open_of host build)); refusal = JournalFull } ∷ []
 checks_of_journal host build false = []
 
--- how much of its room a build has left; nothing where there is no such build
+-- the room that a build has left in the history; 0 if there is no such build
 abbrev pub room_left : HostView → ℕ → ℕ
 room_left host build = if nat_lt build host.limits.builds then host.capacity - used host build else 0
 
--- 10
+-- refusal 10: the build has too little of its room left for the command
 abbrev pub room_check : HostView → ℕ → ℕ → Check
 room_check host build needed = record { fact = fact.Room (room_fact.History (room_left host build) needed); fails = nat_lt (room_left host build) needed; refusal = HistoryFull }
 
--- 12
+-- refusal 12: no VMID is free, and the command needs one
 abbrev pub checks_of_vmid : HostView → Bool → List Check
 checks_of_vmid host true = record { fact = fact.Room (room_fact.Vmid (lowest_vmid host)); fails = not (is_some (lowest_vmid host)); refusal = NoVmid } ∷ []
 checks_of_vmid host false = []
 
--- those that apply to a command on these pages, in the order of their numbers
+-- the checks of a build that apply to a command on these pages, in the order of their numbers
 unfoldable pub needs_checks : HostView → ℕ → Cmd → List ℕ → List Check
 needs_checks host build cmd pages =
     checks_of_build host build

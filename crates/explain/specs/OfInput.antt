@@ -30,7 +30,7 @@ abbrev pub is_undelegated_state : Option GranuleState → Bool
 is_undelegated_state (Some Undelegated) = true
 is_undelegated_state _ = false
 
--- a check of the state that was found, against the one that is required
+-- the check of a page's state: the state found, the state required, and whether the check fails
 abbrev pub page_check : ℕ → Option GranuleState → GranuleState → Bool → Check
 page_check page found wanted fails = input_check (fact.Input (input.Page page wanted found)) fails
 
@@ -51,14 +51,14 @@ width_of host build = unwrap_or (option_map (λ (realm : RealmRow). realm.root.w
 abbrev pub protected : HostView → ℕ → ℕ → Check
 protected host build ipa = input_check (fact.Input (input.Protected ipa (width_of host build))) (not (is_protected_at ipa (width_of host build)))
 
--- a level that a table may have, and an IPA granule that it may begin at
+-- checks of a table to be created: its level is 2 or 3, and its IPA aligned
 abbrev pub table_level : ℕ → Check
 table_level level = input_check (fact.Input (input.Level level)) (not (level == 2 || level == 3))
 
 abbrev pub table_start : ℕ → ℕ → Check
 table_start ipa level = input_check (fact.Input (input.Start ipa level)) (not (ipa % (if level == 2 then 262144 else 512) == 0))
 
--- the count of pages may become RAM at once, and they lie in one table
+-- checks of pages that become RAM at once: 1 to 512 of them, in one table
 abbrev pub run_count : ℕ → Check
 run_count count = input_check (fact.Input (input.Count count)) (not (nat_le 1 count && nat_le count 512))
 

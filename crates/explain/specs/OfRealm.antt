@@ -1,4 +1,4 @@
--- Checks of a realm that is to be made, and of the state of one that is there, with what they read.
+-- Checks of a realm to be created, and of an existing realm's state, with what they read.
 -- RMM 1.0, RMI_REALM_CREATE, Realm attributes.
 use Rattle.std.specs.Prelude.{ℕ, ◌+◌, ◌%◌, ◌==◌, ◌&&◌, List, [], ◌∷◌, ◌++◌, length, map, Bool, true, false, not, Option, Some, option_map}
 use Rattle.granule_addr.specs.Ipa.{is_width}
@@ -27,7 +27,7 @@ abbrev pub is_active_state : Option RealmState → Bool
 is_active_state (Some Active) = true
 is_active_state _ = false
 
--- a check of the state that was found, against the one that is required
+-- the check of a realm's state: the state found, the state required, and whether the check fails
 abbrev pub state_check : Option RealmState → RealmState → Bool → Check
 state_check found wanted fails = rmi_check (fact.Realm (realm_fact.State wanted found)) fails error_realm
 
@@ -57,7 +57,7 @@ abbrev pub are_adjacent : List ℕ → Bool
 are_adjacent [] = true
 are_adjacent (first ∷ rest) = follow (first + 1) rest
 
--- the first of them is a multiple of their count
+-- the number of the first granule is a multiple of the number of granules
 abbrev pub begins_right : List ℕ → Bool
 begins_right [] = true
 begins_right (first ∷ rest) = first % length (first ∷ rest) == 0
@@ -75,7 +75,7 @@ start_checks rd tables =
     ∷ input_check (fact.Realm (realm_fact.Multiple (length tables))) (not (begins_right tables))
     ∷ apart_check rd tables ∷ []
 
--- All checks of RMI_REALM_CREATE have one answer, so the order of these is this profile's own.
+-- The checks of RMI_REALM_CREATE. All have one answer, so their order is this profile's own.
 unfoldable pub realm_create_checks : HostView → ℕ → ℕ → List ℕ → List ℕ → List Check
 realm_create_checks host build width pages [] = []
 realm_create_checks host build width pages (rd ∷ tables) = width_check width ∷ (start_checks rd tables ++ map (page_delegated host build) pages)

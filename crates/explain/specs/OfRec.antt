@@ -1,4 +1,4 @@
--- Checks of a REC that is to be made, and of one that is there, with what they read. RMM 1.0, RMI_REC_CREATE, REC
+-- Checks of a REC to be created, and of an existing REC, with what they read. RMM 1.0, RMI_REC_CREATE, REC
 -- attributes.
 use Rattle.std.specs.Prelude.{ℕ, ◌-◌, ◌==◌, List, [], ◌∷◌, ◌++◌, length, map, Bool, true, false, not, Option, Some, is_none, option_map}
 use Rattle.realm_model.specs.Command.Check.{error_rec, are_distinct}
@@ -14,7 +14,7 @@ use Rattle.explain.specs.declared.rmi_facts.RecFact.TheVariants as rec_fact
 use Rattle.explain.specs.declared.check.Fact.TheVariants as fact
 use Rattle.explain.specs.declared.check.Check.{Check}
 
--- the checks of RMI_REC_CREATE, of the pages of the REC and its auxiliaries, and their granules
+-- the checks of RMI_REC_CREATE, given the pages of the REC and its auxiliaries, and the pages' granules
 unfoldable pub rec_create_checks : HostView → ℕ → List ℕ → List ℕ → List Check
 rec_create_checks host build pages granules =
     map (page_delegated host build) pages
@@ -38,7 +38,7 @@ is_running_state _ = false
 abbrev pub rec_there : HostView → ℕ → ℕ → Check
 rec_there host build number = input_check (fact.Rec (rec_fact.There number)) (is_none (state_of_rec host build number))
 
--- a check of the state that was found, against the one that is required
+-- the check of a REC's state: the state found, the state required, and whether the check fails
 abbrev pub rec_check : ℕ → Option RecState → RecState → Bool → Check
 rec_check number found wanted fails = rmi_check (fact.Rec (rec_fact.State number wanted found)) fails error_rec
 

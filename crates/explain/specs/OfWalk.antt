@@ -67,7 +67,7 @@ entry_leads host build ipa =
     let granule = granule_of_row (row_at (world_of host) build ipa 3) in
     input_check (fact.Walk (walk.Leads granule)) (is_none granule)
 
--- the entry of level 3 of an IPA granule is UNASSIGNED
+-- the walk of an IPA granule to level 3 ends at an UNASSIGNED entry
 abbrev pub is_free_entry : HostView → ℕ → ℕ → Bool
 is_free_entry host build ipa = is_unassigned_entry (state_of (row_at (world_of host) build ipa 3))
 

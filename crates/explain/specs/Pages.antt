@@ -5,7 +5,7 @@ use Rattle.host_commands.specs.Needs.{operands, tables_named}
 use Rattle.host_commands.specs.declared.cmd.Cmd.{Cmd}
 use Rattle.host_commands.specs.declared.cmd.Cmd.TheVariants.{Realm}
 
--- the number of starting tables that are named: only the first, if no pages have the numbers of the last ones
+-- the number of starting tables named; 1 if the last page numbers would exceed 16 bits
 abbrev pub tables_within : ℕ → ℕ → ℕ
 tables_within root width = if nat_le (root + tables_named width) 65536 then tables_named width else 1
 

@@ -27,7 +27,7 @@ undo_checks host build =
 
 -- ---- an abort that begins
 
--- how many RECs of a build run; none where there is no such build
+-- the number of a build's running RECs; 0 if there is no such build
 abbrev pub running_of : HostView → ℕ → ℕ
 running_of host build = if nat_lt build host.limits.builds then running_count (realm_of build (world_of host)) else 0
 
@@ -58,7 +58,8 @@ back_checks host build (Some mark) =
 
 -- ---- the turn of a step
 
--- The first turn of an abort or of a way back has checks of its own; each later turn is an undo.
+-- The checks of a step's turn. The first turn of an abort or of a way back has checks of its own; each later turn
+-- is an undo.
 unfoldable pub step_checks : HostView → ℕ → PlanCursor → Step → List Check
 step_checks host build place (Ask cmd) = command_checks host build cmd
 step_checks host build place Undo = undo_checks host build

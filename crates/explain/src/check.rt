@@ -29,7 +29,7 @@ pub struct Check {
     pub refusal: Refusal,
 }
 
-/// Creates a check that the RMM makes. `rmi` is the RMI result that a failure gives.
+/// Creates a check whose failure gives the RMI result `rmi`.
 pub(crate) fn rmi_check(fact: Fact, fails: bool, rmi: Rmi) -> Check
     ensures { result ≡ rmi_check fact fails rmi }
 {

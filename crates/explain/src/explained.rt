@@ -1,8 +1,8 @@
-//! Turns of a plan's run, with the reasons for refusals.
+//! Types that describe the turns of a plan's run, and explain the refused steps.
 use crate::check::Check;
 use host_commands::Step;
 
-/// The reason why a host refuses a turn of a plan's run.
+/// The reason why a host refuses a step of a plan.
 #[derive(Drop)]
 pub struct Explanation {
     /// The refused step of the plan.
@@ -15,11 +15,11 @@ pub struct Explanation {
     pub help: String,
 }
 
-/// A turn of a plan's run, with the reason for a refusal, if any.
+/// The printed line of one turn in a plan's schedule, with the reason for any refusal.
 #[derive(Drop)]
 pub struct ExplainedTurn {
-    /// The text of the turn, as a replay of the plan prints it.
+    /// The line of the turn, as a replay prints it.
     pub line: String,
-    /// The reason for the refusal, if the turn is refused.
+    /// The reason for the refusal, if the host refuses the step.
     pub reason: Option<Explanation>,
 }

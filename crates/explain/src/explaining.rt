@@ -1,4 +1,4 @@
-//! The run of a plan, with the checks of each refused turn.
+//! Runs a plan on a host, and explains each refused step.
 ghost use Rattle.std.specs.Prelude.{◌≡◌, ◌<◌, ◌≤◌, IfOk, map, option_map, vec_len};
 ghost use Rattle.realm_plan.specs.Asked.{asked};
 ghost use Rattle.realm_plan.specs.PlanView.{plan_view};
@@ -117,8 +117,9 @@ fn explain_turn<S: PageStore>(
     Ok(turn)
 }
 
-/// Runs a plan, and returns its turns with the reasons for refusals. Each turn has its line too. A reason has the
-/// checks up to and including the first failed check. At an `Err` allocation failed.
+/// Runs a plan on a host, and explains each step that the host refuses. Returns the output line of each turn, and the
+/// reason if the turn is refused. A reason has the checks up to and including the first failed check. At an `Err`
+/// allocation failed.
 pub fn explain_turns<S: PageStore>(
     alloc: Global,
     host: &mut Host<S>,

@@ -1,4 +1,4 @@
-//! Proposals of plan steps, printed as help for a refused step. They are in the notation of plans.
+//! The help for a refused step. Steps that it proposes are in the notation of plans.
 use crate::check::Fact;
 use crate::help_host::{build_help, room_help, undo_help};
 use crate::help_input::input_help;
@@ -19,8 +19,8 @@ pub(crate) enum Help {
     Say(Phrase),
     /// Help that consists of two phrases.
     Both(Phrase, Phrase),
-    /// Help that proposes a number of undos, between leading and closing words. An `exit` step for each RUNNING REC
-    /// comes before the undos.
+    /// Help that proposes to undo a number of operations. The phrase comes before the proposal, and the string after
+    /// it. An `exit` step for each RUNNING REC comes before the undos.
     Undo(Phrase, usize, &'static str),
     /// Help that proposes an `exit` step for each RUNNING REC.
     Exit,

@@ -13,7 +13,7 @@ use page_arena::PageStore;
 use realm_host::{GranuleState, Host};
 
 /// Proposes the smallest `take` step that gives a build at least `count` pages. Returns `None` if no block of its size
-/// is free.
+/// is free, or if `count` is above 512.
 pub(crate) fn take_of<S: PageStore>(host: &Host<S>, build: BuildId, count: u16) -> Option<Phrase> {
     let order = order_for(count)?;
     if !has_block(host, order) {
@@ -127,8 +127,8 @@ fn other_block<S: PageStore>(host: &Host<S>, order: u8) -> Phrase {
     }
 }
 
-/// Returns the help for a failed check on free entries, VMIDs or blocks. The entries are those of the journal or the
-/// history.
+/// Returns the help for a failed check on free capacity, such as a free VMID. The capacity is journal entries, history
+/// entries, VMIDs or blocks.
 pub(crate) fn room_help<S: PageStore>(host: &Host<S>, fact: RoomFact) -> Help {
     Help::Say(match fact {
         RoomFact::Journal(_) => plain(

@@ -19,11 +19,12 @@ pub enum BuildFact {
     NoRealm(Option<Gran>),
 }
 
-/// A required fact about free capacity: entries, VMIDs or blocks. The entries are those of the journal or the history.
-/// Refusals 9 to 12 (`JournalFull` to `NoVmid`) depend on it.
+/// A condition on free capacity that a step has to meet, such as a free VMID. Refusals 9 to 12 (`JournalFull` to
+/// `NoVmid`) depend on it.
 #[derive(Clone, Copy)]
 pub enum RoomFact {
-    /// Requires that fewer than 512 operations of the build are open. The value is the number of open operations.
+    /// Requires that the build has fewer than 512 open operations: reversible ones that are not undone yet. The value
+    /// is the number of open operations.
     Journal(usize),
     /// Requires that the history has enough free entries for the build. The values are the numbers of entries left and
     /// needed.
@@ -39,15 +40,16 @@ pub enum RoomFact {
 /// it.
 #[derive(Clone, Copy)]
 pub enum UndoFact {
-    /// Requires that the build has an open operation. The value is the number of open operations.
+    /// Requires that the build has a reversible operation that is not undone yet. The value is the number of open
+    /// operations.
     Open(usize),
-    /// Requires that no REC created by the newest open operation is RUNNING.
+    /// Requires that the next operation to undo did not create a REC that is RUNNING.
     NewestIsNotRunning,
     /// Requires that all RECs of the build are READY. The value is the number of RUNNING RECs.
     AllAreReady(u16),
-    /// Requires a valid mark to which the build can be rolled back.
+    /// Requires that the build has a valid mark.
     Mark,
-    /// Requires that no REC created after the mark of the build is RUNNING. RECs count only if the operation that
-    /// created them is still open.
+    /// Requires that no REC created after the mark, the target of the rollback, is RUNNING. RECs count only if the
+    /// operation that created them is still open.
     NoneRunsAboveMark,
 }

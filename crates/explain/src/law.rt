@@ -1,12 +1,12 @@
-//! Theorems on checks: the first failed check gives the host's refusal.
+//! Theorems that relate the first failed check of a step to the host's refusal.
 ghost use Rattle.std.specs.Prelude.{ℕ, Option};
 ghost use Rattle.host_commands.specs.declared.cmd.Cmd.{Cmd};
 ghost use Rattle.host_ledger.specs.View.{HostView};
 ghost use Rattle.host_ledger.specs.declared.mark.Mark.{Mark};
 ghost use Rattle.explain.specs.FirstFailing.{ChecksDecideUndo, ChecksDecideMark, ChecksDecideBegin, ChecksDecideBack, ChecksDecideNeeds};
 
-/// Proves that the first failed check of an undo, mark, abort or `back` gives the refusal. The abort is at its
-/// beginning. No check fails exactly if the host does not refuse.
+/// Proves that the first failed check of an `undo`, `mark`, `abort` or `back` determines the refusal. The abort is at
+/// its beginning. No check fails exactly if the host does not refuse.
 pub fn own_steps_decide()
     ensures undo { (host : HostView) (build : ℕ) → ChecksDecideUndo host build }
     ensures mark { (host : HostView) (build : ℕ) → ChecksDecideMark host build }
@@ -14,7 +14,7 @@ pub fn own_steps_decide()
     ensures back { (host : HostView) (build : ℕ) (mark : Option Mark) → ChecksDecideBack host build mark }
 {}
 
-/// Proves that the first failed requirement of a command gives the host's refusal. Checks of requirements are for
+/// Proves that the first failed requirement of a command determines the host's refusal. Checks of requirements are for
 /// refusals 1 to 6, 9, 10 and 12. The host makes these checks before it calls the store or the RMM. No check fails
 /// exactly if the host gives none of these refusals. The page numbers of a `realm` command's starting tables have to be
 /// at most 65,535.

@@ -1,4 +1,4 @@
-//! Checks of a refused step, and messages about the failed check. Each check is evaluated on the host.
+//! Explains why a host refuses a step of a plan, from the first check that fails. Each check is evaluated on the host.
 //!
 //! A `Check` of a step's turn has the fact that it requires, whether it fails on the host as it is, and the refusal
 //! that it gives then. `step_checks` makes the checks of a step in their order. `law` says for which refusals the first

@@ -1,4 +1,5 @@
-//! The names of refusals and states. RMM 1.0 names the states and the RMI results.
+//! The names of refusals, and of states of granules, realms, RECs and table entries. RMM 1.0 names the states and the
+//! RMI results.
 use crate::phrase::Value::Number;
 use crate::phrase::{Phrase, one, plain};
 use realm_host::{EntryState, GranuleState, RealmState, RecState, Refusal, Rmi};

@@ -42,7 +42,7 @@ fn is_free_at<S: PageStore>(host: &Host<S>, order: Order, first: u16) -> bool
     first % count == 0 && are_unleased(host, first, count)
 }
 
-/// Returns whether an aligned block of an order is free.
+/// Returns whether an aligned block of the given order is free.
 pub(crate) fn has_block<S: PageStore>(host: &Host<S>, order: Order) -> bool
     ensures { result ≡ has_block host.now order }
 {
@@ -55,7 +55,7 @@ pub(crate) fn has_block<S: PageStore>(host: &Host<S>, order: Order) -> bool
     false
 }
 
-/// Creates the check that an aligned block of an order is free. The check is for refusal 11 (`NoBlock`).
+/// Creates the check that an aligned block of the given order is free. The check is for refusal 11 (`NoBlock`).
 pub(crate) fn block_check<S: PageStore>(host: &Host<S>, order: Order) -> Check
     ensures { result ≡ block_check host.now order }
 {

@@ -1,4 +1,4 @@
-//! The checks that a plan's step must pass in its next turn.
+//! The checks that a plan's step must pass when the schedule next runs it.
 ghost use Rattle.std.specs.Prelude.{◌≡◌, ◌∷◌, ◌++◌, [], OnOk, IfOk, Some};
 ghost use Rattle.explain.specs.Steps.{undo_checks, running_of, begin_checks, mark_checks, back_checks, step_checks};
 
@@ -123,8 +123,8 @@ fn add_step<S: PageStore>(
     }
 }
 
-/// Returns the checks that a plan's step must pass in its next turn. They are in order. The cursor `place` has the
-/// number of undos that are left of the step, and the build's mark.
+/// Returns the checks that a plan's step must pass when the schedule next runs it. They are in order. The cursor
+/// `place` has the number of undos that are left of the step, and the build's mark.
 pub fn step_checks<S: PageStore>(
     alloc: Global,
     host: &Host<S>,

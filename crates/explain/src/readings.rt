@@ -117,7 +117,7 @@ pub(crate) fn largest_free<S: PageStore>(host: &Host<S>) -> Option<Order> {
     largest
 }
 
-/// Returns the number of pages in a block of an order. It is 1 if no block has the order.
+/// Returns the number of pages in a block of the given order. It is 1 if no block has the order.
 pub(crate) fn size_of_order(order: u8) -> u16 {
     match Order::new(order) {
         Some(order) => order.size(),
@@ -166,7 +166,7 @@ pub(crate) fn undos_of_realm<S: PageStore>(host: &Host<S>, build: BuildId) -> Op
     None
 }
 
-/// Returns the REC number, if the build's newest open operation created a REC.
+/// Returns the number of the REC whose creation is the next operation to undo, if any.
 pub(crate) fn newest_rec<S: PageStore>(host: &Host<S>, build: BuildId) -> Option<u16> {
     match host.open_acts(build).last() {
         Some(Act::Rec { number, .. }) => Some(number.number()),
@@ -212,7 +212,7 @@ pub(crate) fn count_of_recs<S: PageStore>(
     (count, last)
 }
 
-/// Returns whether the entry of an IPA granule is UNASSIGNED at level 3.
+/// Returns whether an IPA granule has a level 3 table entry that is UNASSIGNED.
 pub(crate) fn is_unassigned<S: PageStore>(host: &Host<S>, build: BuildId, ipa: u32) -> bool {
     match host.row(build, ipa, Level::last()) {
         Some(row) => row.level.number() == 3 && matches!(row.entry.state, EntryState::Unassigned),
@@ -220,7 +220,7 @@ pub(crate) fn is_unassigned<S: PageStore>(host: &Host<S>, build: BuildId, ipa: u
     }
 }
 
-/// Finds the first IPA granule with, or without, an UNASSIGNED entry of level 3. The granule has one if `unassigned` is
+/// Finds the first IPA granule that has, or lacks, an UNASSIGNED level 3 entry. The granule has one if `unassigned` is
 /// `true`, and lacks one if not. The search begins at `from`. Only the table of level 3 that serves `from` is searched.
 pub(crate) fn first_entry<S: PageStore>(
     host: &Host<S>,

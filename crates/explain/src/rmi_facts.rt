@@ -15,7 +15,7 @@ pub enum InputFact {
     Level(u8),
     /// Requires that a table's first IPA granule is aligned for its level.
     Start(u32, u8),
-    /// Requires that a `ripas` step sets the RIPAS of 1 to 512 pages. The value is that number.
+    /// Requires that a `ripas` step sets the RIPAS of 1 to 512 pages to RAM. The value is the number of pages.
     Count(u16),
     /// Requires that one table of level 3 covers all the given IPA granules. The values are the first of them and their
     /// number.

@@ -22,7 +22,7 @@ pub(crate) fn role_of(step: &Step, page: u16) -> &'static str {
     }
 }
 
-/// Returns the role of a page from the state that the step requires of it. That state is `wanted`. The page of a `data`
+/// Returns the role of a page in a step, given the page's required state. That state is `wanted`. The page of a `data`
 /// step that has to be UNDELEGATED is the source.
 pub(crate) fn role_by_state(step: &Step, page: u16, wanted: GranuleState) -> &'static str {
     match (wanted, step) {

@@ -11,7 +11,8 @@ use page_arena::PageStore;
 use realm_host::Host;
 use std::alloc::{AllocError, Global};
 
-/// The unfinished abort of a build, with the number of turns still needed. Each open operation needs one turn.
+/// An unfinished abort of a build, with the number of schedule turns that it still needs. Each open operation needs one
+/// turn.
 #[derive(Clone, Copy)]
 pub struct UnfinishedAbort {
     pub build: BuildId,

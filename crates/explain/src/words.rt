@@ -45,8 +45,8 @@ fn push_passed(text: &mut String, step: &Step, check: &Check) -> Result<(), Allo
     text.push_str("\n")
 }
 
-/// Returns the lines that explain a refused turn of a plan's run. They say the error, the help, and the number of
-/// passed checks. If `all` is set, each passed check has a line too.
+/// Returns the lines that explain why the host refused a step of a plan. They say the error, the help, and the number
+/// of passed checks. If `all` is set, each passed check has a line too.
 pub fn reason_lines(alloc: Global, reason: &Explanation, all: bool) -> Result<String, AllocError> {
     let mut text = String::new(alloc);
     push_line(&mut text, "error", &reason.error)?;

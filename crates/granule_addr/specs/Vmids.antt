@@ -5,7 +5,7 @@ use Rattle.std.specs.Prelude.{◌≡◌, ◌≢◌, ℕ, Bool, false, List, slic
 abbrev pub is_used : List Bool → ℕ → Bool
 is_used flags vmid = slice_index_or flags vmid false
 
--- one VMID is used, or not, from now on, and the others are as they were
+-- the VMID's new flag is `used`, and all other VMIDs are as before
 pub record IsMarked (old new : List Bool) (vmid : ℕ) (used : Bool) : Type 0 where
   pub one : is_used new vmid ≡ used
   pub others : (other : ℕ) → other ≢ vmid → is_used new other ≡ is_used old other

@@ -1,4 +1,4 @@
--- The operations of a host for an event, on an RMM by registers. RMM 1.0, RMI commands.
+-- A host's operations for an event, on an RMM that is called by registers. RMM 1.0, RMI commands.
 use Rattle.std.specs.Prelude.{ℕ, ◌+◌, ◌-◌, ◌*◌, ◌/◌, ◌%◌, ◌^◌, List, [], ◌∷◌, ◌++◌, map, Option, Some, None}
 use Rattle.std.specs.Option.{unwrap_or, option_to_list}
 use Rattle.granule_addr.specs.declared.width.Root.{Root}
@@ -13,11 +13,11 @@ use Rattle.history_calls.specs.declared.action.HostAction.{HostAction}
 use Rattle.history_calls.specs.declared.action.HostAction.TheVariants as host
 use Rattle.history_calls.specs.Frame.{Place, address, realm_params, rec_params, run_page}
 
--- the address of a page of a realm's address space
+-- the IPA at which an IPA granule begins
 abbrev pub ipa_of : ℕ → ℕ
 ipa_of ipa = 4096 * ipa
 
--- the affinity of the REC of a number. RMM 1.0, RmiRecMpidr
+-- the MPIDR of the REC with that number. RMM 1.0, RmiRecMpidr
 abbrev pub mpidr_of : ℕ → ℕ
 mpidr_of number = number % 2 ^ 4 + number / 2 ^ 4 * 2 ^ 8
 
@@ -25,19 +25,20 @@ mpidr_of number = number % 2 ^ 4 + number / 2 ^ 4 * 2 ^ 8
 abbrev pub rd_or_first : RealmAndRec → ℕ
 rd_or_first subject = unwrap_or subject.realm 0
 
--- the granule of the REC that an event is about, likewise
+-- the granule of the REC that an event is about; granule 0 if there is no such REC
 abbrev pub rec_or_first : RealmAndRec → ℕ
 rec_or_first subject = unwrap_or subject.rec 0
 
--- a call without an output that is known
+-- a call whose output in X1 is not known beforehand
 abbrev pub plain_call : Call → HostAction
 plain_call call = host.Call call None
 
--- a call with X1
+-- a call whose output in X1 is known to be `x1`
 abbrev pub with_x1 : Call → ℕ → HostAction
 with_x1 call x1 = host.Call call (Some x1)
 
--- An event about a REC that runs or is to run. A byte is written between two entries.
+-- The operations of the host and the guest for an event about a REC that runs or is to run. A byte is written
+-- between two entries.
 abbrev pub on_rec : ℕ → ℕ → Act → List HostAction
 on_rec rec run (Enter number) = host.Spin rec ∷ host.Enter rec run ∷ []
 on_rec rec run (Exit number) = host.Interrupt rec ∷ []
@@ -45,7 +46,7 @@ on_rec rec run (Poke number ipa offset value) =
     host.Interrupt rec ∷ host.Write rec (ipa_of ipa + offset) value ∷ host.Spin rec ∷ host.Enter rec run ∷ host.Saw rec ∷ []
 on_rec rec run _ = []
 
--- An event about a realm's tables and memory, or its activation.
+-- The host's call for an event about a realm's tables and memory, or its activation.
 abbrev pub call_in_realm : Place → ℕ → Act → Option HostAction
 call_in_realm place rd (Rtt granule ipa level) = Some (plain_call (RttCreate rd (address place granule) (ipa_of ipa) level))
 call_in_realm place rd (UnRtt granule ipa level) = Some (with_x1 (RttDestroy rd (ipa_of ipa) level) (address place granule))
@@ -56,7 +57,7 @@ call_in_realm place rd (UnData granule ipa) = Some (with_x1 (DataDestroy rd (ipa
 call_in_realm place rd Activate = Some (plain_call (RealmActivate rd))
 call_in_realm place rd _ = None
 
--- An event about the making of a REC, or its end.
+-- The host's operations for the creation or the destruction of a REC.
 abbrev pub on_rec_granule : Place → ℕ → Act → List HostAction
 on_rec_granule place rd (Rec granule auxiliaries number) =
     host.RecParams (rec_params place) (mpidr_of number) (record { items = map (address place) auxiliaries.items })
@@ -64,7 +65,7 @@ on_rec_granule place rd (Rec granule auxiliaries number) =
 on_rec_granule place rd (UnRec granule auxiliaries number) = plain_call (RecDestroy (address place granule)) ∷ []
 on_rec_granule place rd _ = []
 
--- An event about pages, or about a realm's descriptor.
+-- The host's operations for an event about pages, or about a realm's descriptor.
 abbrev pub on_granules : Place → Act → List HostAction
 on_granules place (UnTake order first) = host.Fill (address place first) (2 ^ order) 0 ∷ []
 on_granules place (Fill granule value) = host.Fill (address place granule) 1 value ∷ []
@@ -77,8 +78,8 @@ on_granules place (Realm rd root vmid) =
 on_granules place (UnRealm rd root vmid) = plain_call (RealmDestroy (address place rd)) ∷ []
 on_granules place _ = []
 
--- The operations of a host for an event about a realm and a REC there, with the number of a page for the exits of its
--- run. An event is of one of the four kinds; a take has none.
+-- The host's operations for an event about a realm and a REC in it. The exits of the REC's run go to the page of the
+-- given number. An event is of one of the four kinds; a take has none.
 abbrev pub actions_of : Place → RealmAndRec → ℕ → Act → List HostAction
 actions_of place subject run act =
     on_granules place act

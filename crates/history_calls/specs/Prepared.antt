@@ -38,7 +38,7 @@ use Rattle.rmi_monitor.specs.Attributes.{RecAttributes}
 abbrev pub subject_of : HostView → ℕ → Act → RealmAndRec
 subject_of host build act = subject_in (world_of host) build act
 
--- the operations on the RMM; the exits of a run go to the page of a number
+-- the host's operations on the RMM; the exits of a run go to the run page with that number
 abbrev pub actions_for : Place → HostView → ℕ → ℕ → Act → ArrayVec HostAction
 actions_for place host build run act = record { items = actions_of place (subject_of host build act) run act }
 
@@ -53,7 +53,7 @@ allocated_before host build = record {
   byte = 0;
 }
 
--- the operation of a command but a Take
+-- the operation of a command other than a Take, before it is performed
 abbrev pub act_before : HostView → ℕ → Cmd → Option Act
 act_before host build cmd = act_of cmd (granules_named host build cmd) (allocated_before host build)
 
@@ -61,7 +61,7 @@ abbrev pub is_peek : Cmd → Bool
 is_peek (Peek page offset) = true
 is_peek _ = false
 
--- It is the operation that the host performs, unless the command is the read of a page.
+-- The prepared operation is the one that the host performs, unless the command is a Peek.
 abbrev pub IsPreparedAsAsked : HostView → ℕ → Cmd → Type 0
 IsPreparedAsAsked host build cmd = is_peek cmd ≡ false → act_before host build cmd ≡ act_asked host build cmd
 
@@ -72,17 +72,17 @@ without_act _ = Err (Rmi error_input)
 
 -- ---- refusals of the model that need no answer of an RMM
 
--- the hypervisor accesses a page only if its granule is UNDELEGATED
+-- the refusal of an access to a page, unless the page's granule is UNDELEGATED
 abbrev pub access_refusal : Option GranuleState → Option Refusal
 access_refusal (Some state) = elim state [ Undelegated ↦ None | _ ↦ Some (Rmi error_input) ]
 access_refusal None = Some (Rmi error_input)
 
--- no call names a REC that there is not
+-- the refusal of a command on a REC that does not exist
 abbrev pub entry_refusal : Option (ℕ × RecAttributes) → Option Refusal
 entry_refusal (Some rec) = None
 entry_refusal None = Some (Rmi error_input)
 
--- only a REC that runs stops running
+-- the refusal of a REC exit, if the REC is READY or does not exist
 abbrev pub exit_refusal : Option (ℕ × RecAttributes) → Option Refusal
 exit_refusal (Some rec) = if is_ready rec.1.state then Some (Rmi error_rec) else None
 exit_refusal None = Some (Rmi error_input)
@@ -103,7 +103,7 @@ refused_before host build _ = None
 
 -- ---- the operations for a command
 
--- a refusal, or what comes without one
+-- the refusal if there is one, else the given result, which may be a refusal too
 abbrev pub unless_refused : Option Refusal → Result (ArrayVec HostAction) Refusal → Result (ArrayVec HostAction) Refusal
 unless_refused (Some refusal) actions = Err refusal
 unless_refused None actions = actions
@@ -123,7 +123,7 @@ actions_asked place host build run cmd =
 
 -- ---- theorems of commands
 
--- A command is refused before its call as the host that is asked for it refuses it.
+-- A refusal of a command before its call is the refusal that the host gives for the command.
 abbrev pub IsRefusedAsAsked : Place → HostView → ℕ → ℕ → Cmd → Type 0
 IsRefusedAsAsked place host build run cmd =
     (refusal : Refusal) → actions_asked place host build run cmd ≡ Err refusal → refusal_of host build (Ask cmd) ≡ Some refusal
@@ -136,7 +136,7 @@ makes_no_call (Peek page offset) = true
 makes_no_call (Exit number) = true
 makes_no_call _ = false
 
--- Once it is prepared, the host that is asked for it does not refuse it.
+-- If operations are prepared for a command that makes no call, the host does not refuse the command.
 abbrev pub IsDecidedBefore : Place → HostView → ℕ → ℕ → Cmd → Type 0
 IsDecidedBefore place host build run cmd =
     makes_no_call cmd ≡ true → (actions : ArrayVec HostAction) → actions_asked place host build run cmd ≡ Ok actions

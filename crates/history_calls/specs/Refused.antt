@@ -48,22 +48,22 @@ is_host_page_undelegated host build (Delegate page) = is_undelegated_page (state
 is_host_page_undelegated host build (Data page ipa source) = is_undelegated_page (state_of_leased host build source)
 is_host_page_undelegated host build _ = true
 
--- a granule can be a starting table beside that RD
+-- a granule can be a starting table of the new realm: it is DELEGATED, and not the RD
 abbrev pub can_start : World → ℕ → ℕ → Bool
 can_start world rd table = is_delegated_in world table && not (table == rd)
 
--- RMM 1.0, RMI_REALM_CREATE, of an RD and its starting tables
+-- the refusal of a new realm with this RD and these starting tables. RMM 1.0, RMI_REALM_CREATE
 abbrev pub realm_refusal : HostView → Root → List ℕ → Option Rmi
 realm_refusal host root [] = Some error_input
 realm_refusal host root (rd ∷ tables) =
     unless (root.first % start_count root.width == 0 && is_delegated_in (world_of host) rd && list_all (can_start (world_of host) rd) tables
     && is_some (lowest_vmid host)) error_input None
 
--- a realm that has to be NEW
+-- the refusal of a command that needs a NEW realm, if the realm is not NEW
 abbrev pub state_refusal : RealmAttributes → Option Rmi
 state_refusal realm = unless (is_new realm.state) error_realm None
 
--- RMM 1.0, RMI_REC_CREATE, of a REC and its auxiliary granules
+-- the refusal of a new REC in the first of these granules, with the others as auxiliaries. RMM 1.0, RMI_REC_CREATE
 abbrev pub rec_refusal : HostView → RealmAttributes → List ℕ → Option Rmi
 rec_refusal host realm [] = Some error_input
 rec_refusal host realm (rec ∷ auxiliaries) =
@@ -76,7 +76,7 @@ rec_refusal host realm (rec ∷ auxiliaries) =
 abbrev pub end_in : Option RealmRow → ℕ → ℕ → Option RowView
 end_in row ipa level = option_map (row_view ipa) (option_and_then (λ (realm : RealmRow). walk_of realm ipa level) row)
 
--- the walk ends at the level above a table, and not at a TABLE
+-- the refusal unless the walk ends at the level above the new table, and not at a TABLE
 abbrev pub new_table_refusal : ℕ → Option RowView → Option Rmi
 new_table_refusal above (Some row) = unless (row.level == above && not (is_table row.entry)) (error_rtt row.level) None
 new_table_refusal above None = Some (error_rtt 0)
@@ -90,19 +90,19 @@ is_free_row None = false
 abbrev pub are_free_rows : Option RealmRow → ℕ → ℕ → Bool
 are_free_rows row ipa count = list_all (λ page. is_free_row (end_in row page 3)) (range_with_len ipa count)
 
--- the walk ends at level 3, and the entries are free
+-- the refusal unless the walk ends at level 3 and the entries are free
 abbrev pub run_refusal : Bool → Option RowView → Option Rmi
 run_refusal free (Some row) = unless (row.level == 3 && free) (error_rtt row.level) None
 run_refusal free None = Some (error_rtt 0)
 
--- the walk ends at an ASSIGNED entry, which leads to a page
+-- the refusal unless the walk ends at an ASSIGNED entry, which leads to a page
 abbrev pub write_refusal : Option RowView → Option Rmi
 write_refusal (Some row) = unless (is_assigned row.entry) (error_rtt row.level) (unless (is_some row.entry.granule) error_input None)
 write_refusal None = Some (error_rtt 0)
 
 -- ---- RECs
 
--- the REC of a number
+-- the granule and the attributes of the realm's REC with that number
 abbrev pub rec_of_number : Option RealmRow → ℕ → Option (ℕ × RecAttributes)
 rec_of_number row number =
     option_map (λ (rec : RecRow). (rec.granule, rec_attributes_of number rec)) (option_and_then (λ (realm : RealmRow). get realm.recs number) row)

@@ -1,8 +1,9 @@
-//! Operations of a host and its guests on an RMM.
+//! Operations that a host or a guest performs on an RMM.
 use arrayvec::ArrayVec;
 use rmi_abi::Call;
 
-/// An operation of a host or a guest on an RMM. Addresses are physical, but for that of a guest.
+/// One action of a host or guest, such as an RMM call or a memory access. Addresses are physical, but for that of a
+/// guest.
 #[derive(Drop)]
 pub enum HostAction {
     /// The host writes `value` to each byte of consecutive granules.
@@ -11,7 +12,7 @@ pub enum HostAction {
         granules: u16,
         value: u8,
     },
-    /// The host reads a word whose bytes are all `byte`.
+    /// The host reads a word from memory and finds `byte` in each of its bytes.
     Load {
         address: u64,
         byte: u8,

@@ -1,4 +1,4 @@
-//! The operations on an RMM by which a host performs an event.
+//! The actions, such as RMM calls, with which a host performs a build's operation.
 ghost use Rattle.std.specs.Prelude.{◌≡◌, ◌<◌, ◌-◌, ◌^◌, ◌++◌, [], ◌∷◌, map, length};
 ghost use Rattle.std.specs.Option.{unwrap_or};
 ghost use Rattle.history_calls.specs.declared.action.HostAction.TheVariants.{Fill, RealmParams, RecParams};
@@ -11,10 +11,10 @@ use granule_addr::{Gran, IpaGran, RecNo, Root, Vmid};
 use realm_model::{Act, RealmAndRec};
 use rmi_abi::Call;
 
-/// The maximum number of operations on an RMM by which a host performs one event.
+/// The maximum number of actions, such as RMM calls, for one event of a history.
 pub const MOST_ACTIONS: usize = 5;
 
-/// The operations on an RMM by which a host performs one event.
+/// A list of the actions, such as RMM calls, for one event of a history.
 pub type Actions = ArrayVec<HostAction, MOST_ACTIONS>;
 
 // The address of an IPA granule, in bytes.
@@ -255,8 +255,9 @@ fn push_on_rec(actions: &mut Actions, rec: u64, run: u64, act: &Act)
     }
 }
 
-/// Returns the operations on an RMM by which a host carries out a build's operation. `subject` is the realm and the REC
-/// of the build's operation. The exits of a run go to the page with the number `run`, which is below `RUN_PAGE_COUNT`.
+/// Returns the actions, such as RMM calls, with which a host performs a build's operation. `subject` is the realm and
+/// the REC of the build's operation. The exits of a run go to the page with the number `run`, which is below
+/// `RUN_PAGE_COUNT`.
 ///
 /// A take and its reverse are the host's own: a take needs no operation, and what is given back is cleared.
 pub fn actions_of(frame: Frame, subject: RealmAndRec, run: u16, act: &Act) -> Actions

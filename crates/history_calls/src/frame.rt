@@ -1,4 +1,4 @@
-//! The position of a history's machine in the physical address space.
+//! The physical addresses of the machine on which a history's events happen.
 ghost use Rattle.std.specs.Prelude.{◌≡◌, ◌<◌, ◌≤◌, ◌+◌, ◌%◌, ◌^◌};
 ghost use Rattle.history_calls.specs.Frame as frames;
 
@@ -9,12 +9,12 @@ use std::marker::Model;
 /// page of their own.
 pub const RUN_PAGE_COUNT: u16 = 64;
 
-/// The number of granules that the host keeps for parameters and runs. They follow the granules of the history's
-/// machine.
+/// The number of granules that the host keeps for RMI parameters and REC runs. They follow the granules of the
+/// history's machine.
 pub const HOST_GRANULES: u16 = 66;
 
-/// The base address and the size of a history's machine. They are the address of granule 0, and the machine's number of
-/// granules.
+/// The physical address range of the machine on which a history's events happen. It is stored as the address of granule
+/// 0 and the machine's number of granules.
 #[derive(Clone, Copy)]
 pub struct Frame {
     base: u64,
@@ -34,7 +34,8 @@ impl Model for Frame {
 }
 
 impl Frame {
-    /// Places a machine with `pages` pages at a physical base address. Granule 0 is at the address `base`.
+    /// Creates the address range of a machine with `pages` pages at physical address `base`. Granule 0 is at the
+    /// address `base`.
     pub fn new(base: u64, pages: u16) -> Frame
         requires granule { base % 4096 ≡ 0 }
         requires low { base < 2 ^ 46 }

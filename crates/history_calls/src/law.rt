@@ -1,4 +1,4 @@
-//! Theorems on the operations on an RMM for histories, commands and undos.
+//! Theorems on the RMM calls that a host needs for histories, commands and undos.
 ghost use Rattle.std.specs.Prelude.{ℕ, List};
 ghost use Rattle.realm_model.specs.declared.act.Event.{Event};
 ghost use Rattle.realm_model.specs.Machine.{Limits};
@@ -8,13 +8,13 @@ ghost use Rattle.history_calls.specs.Frame.{Place};
 ghost use Rattle.history_calls.specs.Made.{LeadsToItsMachine};
 ghost use Rattle.history_calls.specs.Prepared.{IsPreparedAsAsked, IsRefusedAsAsked, IsDecidedBefore, IsUndoPrepared};
 
-/// Proves that the calls for a legal history lead a fresh RMM to the model's machine. It is the machine that the model
-/// has after the history. The RMM gets the calls in sequence, and accepts each. A host's RMM has that machine.
+/// Proves that a legal history's calls bring a fresh RMM to the model's machine state. It is the state that the model's
+/// machine has after the history. The RMM gets the calls in sequence, and accepts each. A host's RMM has that machine.
 pub fn calls_lead_to_the_machine()
     ensures { (limits : Limits) (history : List Event) → LeadsToItsMachine limits history }
 {}
 
-/// Proves that the host performs the operation that was prepared for a command. It does so when the command is
+/// Proves that a host performs exactly the operation computed beforehand for a command. It does so when the command is
 /// committed. This holds of each command but the read of a page, whose byte is not known before.
 pub fn prepared_is_performed()
     ensures { (host : HostView) (build : ℕ) (cmd : Cmd) → IsPreparedAsAsked host build cmd }
@@ -25,14 +25,14 @@ pub fn refused_as_asked()
     ensures { (place : Place) (host : HostView) (build run : ℕ) (cmd : Cmd) → IsRefusedAsAsked place host build run cmd }
 {}
 
-/// Proves that a prepared Take, Fill, Peek or Exit is not refused when committed. It makes no call of an RMM, from
-/// which the model could diverge.
+/// Proves that a host accepts each Take, Fill, Peek or Exit that `actions_asked` accepts. Such a command makes no call
+/// of an RMM, from which the model could diverge.
 pub fn decided_before()
     ensures { (place : Place) (host : HostView) (build run : ℕ) (cmd : Cmd) → IsDecidedBefore place host build run cmd }
 {}
 
-/// Proves that a prepared undo agrees with the undo that the host performs. The refusal is the same, or the operation
-/// is. The host does not refuse an undo that is prepared without a refusal.
+/// Proves that an undo computed beforehand agrees with the undo that the host performs. The refusal is the same, or the
+/// operation is. The host does not refuse an undo that is prepared without a refusal.
 pub fn undo_as_prepared()
     ensures { (place : Place) (host : HostView) (build : ℕ) → IsUndoPrepared place host build }
 {}

@@ -1,4 +1,4 @@
-//! The operations on an RMM for commands and undos that are yet to be performed.
+//! Computes, in advance, the RMM calls and other actions for a command or an undo.
 ghost use Rattle.std.specs.Prelude.{◌≡◌, ◌<◌, None};
 ghost use Rattle.realm_model.specs.Act.{reverse_of};
 ghost use Rattle.realm_model.specs.Running.{next_number};
@@ -167,8 +167,8 @@ fn actions_of_act<S: PageStore>(
     }
 }
 
-/// Returns the operations on an RMM by which the host would perform a command. The error is the refusal that the host
-/// gives before the RMM is called.
+/// Returns the actions, such as RMM calls, with which the host would perform a command. The error is the refusal that
+/// the host gives before the RMM is called.
 pub fn actions_asked<S: PageStore>(
     frame: Frame,
     host: &Host<S>,
@@ -203,7 +203,8 @@ fn actions_of_newest<S: PageStore>(
     }
 }
 
-/// Returns the operations on an RMM by which the host would perform an undo. The error is the refusal of the undo.
+/// Returns the actions, such as RMM calls, with which the host would perform an undo. The error is the refusal of the
+/// undo.
 pub fn actions_back<S: PageStore>(
     frame: Frame,
     host: &Host<S>,

@@ -1,4 +1,5 @@
-//! The refusal that a command would get. The model's checks find it, and the command is not performed.
+//! Computes the refusal, if any, that a host would give to a command. The model's checks find it, and the command is
+//! not performed.
 ghost use Rattle.std.specs.Prelude.{◌≡◌, ◌+◌, ◌≤◌, None};
 ghost use Rattle.std.specs.List.{list_all};
 ghost use Rattle.realm_model.specs.Command.Check.{error_rtt, are_distinct};

@@ -1,4 +1,4 @@
-//! The assignment of run pages to running RECs.
+//! Assigns to each running REC a run page, which RMI_REC_ENTER uses.
 ghost use Rattle.std.specs.Prelude.{◌≡◌, ◌<◌, replicate, None};
 ghost use Rattle.std.specs.List.{position_from};
 ghost use Rattle.history_calls.specs.Runs as runs;
@@ -7,7 +7,8 @@ use granule_addr::Gran;
 use realm_model::Act;
 use std::marker::Model;
 
-/// The run pages of a host, and the REC that uses each. Each page in use has the granule of its REC.
+/// The host's run pages for RMI_REC_ENTER, and the running REC that uses each page. Each page in use has the granule of
+/// its REC.
 ///
 /// With `RUN_PAGE_COUNT` RECs running, those entered later share the last page.
 #[derive(Drop)]
@@ -36,7 +37,7 @@ fn place_of(recs: &[Option<Gran>], rec: Option<Gran>) -> Option<usize>
 }
 
 impl RunPages {
-    /// Creates the run pages, with no page in use.
+    /// Creates the host's run pages for RMI_REC_ENTER, all of them free.
     pub fn new() -> RunPages
         ensures { result ≡ replicate 64 None }
     {
@@ -54,8 +55,8 @@ impl RunPages {
         }
     }
 
-    /// Returns the number of the run page for a REC's entry or exit. The list of pages in use is updated: after an
-    /// entry the page is in use, and after an exit it is free again.
+    /// Returns the number of the run page that a REC uses for RMI_REC_ENTER. The list of pages in use is updated: after
+    /// an entry the page is in use, and after an exit it is free again.
     pub fn page_for(&mut self, rec: Option<Gran>, act: &Act) -> u16
         ensures value { result ≡ runs.run_page_for rec act.now self.old }
         ensures below { result < 64 }

@@ -1,4 +1,4 @@
-//! Writes operations on an RMM and their answers as lines of a trace.
+//! Writes host actions, such as RMM calls, and their answers as lines of a trace.
 use crate::{Frame, HostAction};
 use realm_model::{Rmi, Status};
 use rmi_abi::Call;
@@ -214,8 +214,8 @@ fn push_refused(text: &mut String, call: Call, rmi: Rmi) -> Result<(), AllocErro
     }
 }
 
-/// Appends an operation on an RMM and its answer as a line of a trace. If there is a refusal, a call is refused with
-/// it, and the REC that is not entered gets no step of a guest.
+/// Appends a trace line for a host action, such as an RMM call, and its answer. If there is a refusal, a call is
+/// refused with it, and the REC that is not entered gets no step of a guest.
 ///
 /// `AllocError`: the text may have a part of the line.
 pub fn push_action(
@@ -235,8 +235,8 @@ pub fn push_action(
     text.push_str("\n")
 }
 
-/// Appends the `platform` line of a trace, with the machine's base address and size. All granules are UNDELEGATED, and
-/// the host's granules follow those of the history's machine.
+/// Appends the `platform` line of a trace, with the base address and the number of granules, the host's included. All
+/// granules are UNDELEGATED, and the host's granules follow those of the history's machine.
 pub fn push_platform(text: &mut String, frame: Frame, auxiliaries: u8) -> Result<(), AllocError> {
     push_words(text, "platform", &[frame.base()])?;
     push_number(text, frame.granules() as u64)?;

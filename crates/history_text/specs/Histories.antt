@@ -26,7 +26,7 @@ pub record HasEnough (o : Opening) : Type 0 where
   pub history : 16 ≤ o.history
   pub builds : 1 ≤ o.builds
 
--- there is a machine of this size
+-- each number of the opening is in its range
 pub record IsSize (o : Opening) : Type 0 where
   pub at_most : AreAtMost (opening_numbers o) opening_maxima
   pub enough : HasEnough o

@@ -13,12 +13,12 @@ use realm_model::{Act, Event};
 /// The maximum number of bytes in a line of a history. The line feed is not counted.
 pub const MOST_LINE: u16 = 256;
 
-/// Event texts are injective: different events have different texts.
+/// Proves that different events have different texts.
 pub fn event_texts_are_injective()
     ensures { (text : List ℕ) (a b : Event) → IsEventText text a → IsEventText text b → a ≡ b }
 {}
 
-/// Each line of a history has at most 256 bytes.
+/// Proves that each line of a history has at most 256 bytes.
 pub fn lines_are_short()
     ensures events { (text : List ℕ) (event : Event) → IsEventText text event → length text ≤ 256 }
     ensures openings { (text : List ℕ) (opening : Opening) → IsOpeningText text opening → length text ≤ 256 }

@@ -8,8 +8,8 @@ use granule_addr::BuildId;
 use realm_model::Event;
 use std::alloc::AllocError;
 
-/// Appends the text of a history. It has the opening, and a line for each event. Events of the build `erase` are left
-/// out. At an `Err` allocation failed, and `text` may have a part of the history.
+/// Appends the text of a history to a string. That text has the opening, and a line for each event. Events of the build
+/// `erase` are left out. At an `Err` allocation failed, and `text` may have a part of the history.
 pub fn push_history(
     text: &mut String,
     opening: &Opening,

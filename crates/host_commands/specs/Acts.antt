@@ -10,7 +10,7 @@ use Rattle.host_commands.specs.declared.cmd.Cmd.{Cmd}
 use Rattle.host_commands.specs.declared.cmd.Cmd.TheVariants.{Take, Fill, Peek, Delegate, Realm, Rtt, Ripas, Data, Unknown, Rec, Activate, Enter, Exit, Poke}
 use Rattle.host_commands.specs.declared.reply.Allocated.{Allocated}
 
--- the granule of the operand at that index, counted from 0
+-- the operation that `f` makes of the granule at an index of the list, if it has one
 abbrev pub of_granule : List ℕ → ℕ → (ℕ → Option Act) → Option Act
 of_granule gs place f = option_and_then f (slice_get gs place)
 

@@ -16,6 +16,6 @@ pub record BuildsSummary : Type 0 where
 abbrev pub granule_of_page : BuildsSummary → ℕ → ℕ → Option ℕ
 granule_of_page view build page = slice_get (view.pages build) page
 
--- the granules are those of a build's pages, each of them there
+-- the build has each of these pages, and these are their granules, in sequence
 abbrev pub AreGranulesOf : BuildsSummary → ℕ → List ℕ → List ℕ → Type 0
 AreGranulesOf view build pages granules = map (granule_of_page view build) pages ≡ map (λ granule. Some granule) granules

@@ -16,42 +16,42 @@ Check = Bool × Refusal
 
 -- ---- the checks, by number
 
--- refusals 1 and 2
+-- refusals 1 and 2: there is no such build, or it is in abort
 abbrev pub build_checks : BuildsSummary → ℕ → List Check
 build_checks view build = (nat_le view.builds build, NoBuild) ∷ (view.aborting build, Aborting) ∷ []
 
--- refusal 3
+-- refusal 3: the order of a Take is above 9
 abbrev pub order_checks : Cmd → List Check
 order_checks (Take order) = (nat_lt 9 order, BadOrder) ∷ []
 order_checks _ = []
 
--- refusal 4
+-- refusal 4: the build does not have the page
 abbrev pub page_checks : BuildsSummary → ℕ → List ℕ → List Check
 page_checks view build pages = map (λ page. (is_none (granule_of_page view build page), NotLeased page)) pages
 
--- refusals 5 and 6
+-- refusals 5 and 6: the build must have no realm and has one, or must have one and has none
 abbrev pub realm_checks : BuildsSummary → ℕ → RealmRequirement → List Check
 realm_checks view build Either = []
 realm_checks view build NoneOf = (view.realm build, RealmThere) ∷ []
 realm_checks view build ARealm = (not (view.realm build), NoRealm) ∷ []
 
--- refusal 9
+-- refusal 9: an operation would stay open, and the build has 512 or more open
 abbrev pub journal_checks : BuildsSummary → ℕ → Bool → List Check
 journal_checks view build true = (nat_le 512 (view.opened build), JournalFull) ∷ []
 journal_checks view build false = []
 
--- refusal 10
+-- refusal 10: the build has less room left in the history than is needed
 abbrev pub room_checks : BuildsSummary → ℕ → ℕ → List Check
 room_checks view build needed = (nat_lt (view.room_left build) needed, HistoryFull) ∷ []
 
--- refusal 12
+-- refusal 12: a VMID is needed, and none is free
 abbrev pub vmid_checks : BuildsSummary → Bool → List Check
 vmid_checks view true = (not view.vmid, NoVmid) ∷ []
 vmid_checks view false = []
 
 -- ---- the checks of a command
 
--- refusals 5 to 12
+-- refusals 5, 6, 9, 10 and 12: the realm, the open operations, the room and the VMID
 unfoldable pub state_checks : BuildsSummary → ℕ → Needs → List Check
 state_checks view build needs =
     realm_checks view build needs.realm ++ (journal_checks view build needs.paired ++ (room_checks view build needs.room ++ vmid_checks view needs.vmid))

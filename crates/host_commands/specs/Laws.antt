@@ -27,21 +27,21 @@ pub record IsOfCommand (cmd : Cmd) (granules : List ℕ) (act : Act) : Type 0 wh
   pub paired : is_paired act ≡ (needs_of cmd).paired
   pub room : room_taken act ≡ (needs_of cmd).room
 
--- this holds of the operation of each command with as many granules as it has operands
+-- if there are as many granules as operands, the command's operation has the properties of `IsOfCommand`
 abbrev pub ActIsOfCommand : Cmd → List ℕ → Allocated → Act → Type 0
 ActIsOfCommand cmd granules allocated act = length granules ≡ length (operands cmd) → act_of cmd granules allocated ≡ Some act → IsOfCommand cmd granules act
 
 -- ---- the machine
 
--- The values that were allocated for a command are those of the machine, by the realm of its build and its granules.
--- The byte of a Peek is that of the page, a Realm is the build's first, and the number of a Rec is the realm's next.
+-- The values allocated for a command agree with the realm of its build and with the granules that it names. The byte of
+-- a Peek is that of the page, a Realm is the build's first, and the number of a Rec is the realm's next.
 abbrev pub IsThere : Cmd → Allocated → Option Seen → List Seen → Type 0
 IsThere (Peek page offset) allocated realm cells = All (λ (g : Seen). slice_index g.cell.bytes offset ≡ allocated.byte) cells
 IsThere (Realm rd root width) allocated realm cells = realm ≡ None
 IsThere (Rec page auxiliaries) allocated realm cells = realm_is realm (λ d r. allocated.number == r.next) ≡ true
 IsThere _ allocated realm cells = Unit {0}
 
--- if that is so, the answers in the operation agree with the machine
+-- if the allocated values agree with the machine, so do the values in the operation
 abbrev pub ActFits : Cmd → List ℕ → Allocated → Act → Option Seen → List Seen → Type 0
 ActFits cmd granules allocated act realm cells = act_of cmd granules allocated ≡ Some act → IsThere cmd allocated realm cells → fits act realm cells ≡ true
 
@@ -60,7 +60,7 @@ OutcomeIsOfAnyAllocation limits used cmd granules one other realm cells =
 
 -- ---- the numbers that no operation can have
 
--- the realm has a width that realms have
+-- the realm whose RD is this granule, if there is one, has a valid IPA width
 abbrev pub HasWidth : Seen → Type 0
 HasWidth rd = (realm : RealmRow) → rd.cell.descriptor ≡ Some realm → is_width realm.root.width ≡ true
 
@@ -73,7 +73,7 @@ IsInputError (Unknown page ipa) rd cells = on_one cells (λ g. data_create_unkno
 IsInputError (Poke number ipa offset value) rd cells = guest_write rd number ipa offset value ≡ Err error_input
 IsInputError _ rd cells = Unit {0}
 
--- So an IPA granule or a level that can be in no operation makes the RMM refuse the command with this error, whatever
+-- An IPA granule or a level that no operation can have makes the RMM refuse the command with RMI_ERROR_INPUT, whatever
 -- else is wrong.
 abbrev pub NoActIsInputError : Cmd → List ℕ → Allocated → Seen → List Seen → Type 0
 NoActIsInputError cmd granules allocated rd cells =

@@ -34,8 +34,8 @@ operands (Poke number ipa offset value) = []
 abbrev pub needs_but_vmid : RealmRequirement → Bool → ℕ → Needs
 needs_but_vmid realm paired room = record { realm = realm; paired = paired; room = room; vmid = false }
 
--- The table: whether a realm is required, whether the operation stays open, the room that it takes, and whether it
--- needs a VMID.
+-- The requirements of each command: whether a realm is required, whether the operation stays open, its room, and
+-- whether it needs a VMID.
 unfoldable pub needs_of : Cmd → Needs
 needs_of (Take order) = needs_but_vmid Either true 2
 needs_of (Fill page value) = needs_but_vmid Either false 1

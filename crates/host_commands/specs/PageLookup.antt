@@ -1,11 +1,10 @@
--- The lookup of the granules of pages, some after others.
+-- The lookup of pages' granules, some pages at a time.
 use Rattle.std.specs.Prelude.{◌≡◌, ℕ, ◌+◌, List, ◌++◌, length, Some, Result, Ok, Err}
 use Rattle.host_commands.specs.declared.refusal.Refusal.{Refusal}
 use Rattle.host_commands.specs.BuildsSummary.{BuildsSummary, AreGranulesOf}
 use Rattle.host_commands.specs.Checks.{page_checks, first_that_holds}
 
--- Once the granules of some pages are known, those of more pages are looked up, or the first page that is not there is
--- refused.
+-- After the granules of earlier pages come those of these pages, or the first page that the build lacks is refused.
 abbrev pub AreFoundNext : BuildsSummary → ℕ → List ℕ → List ℕ → Result (Unit {0}) Refusal → List ℕ → Type 0
 AreFoundNext view build pages old (Ok done) new =
     (length new ≡ length old + length pages) × ((before : List ℕ) → AreGranulesOf view build before old → AreGranulesOf view build (before ++ pages) new)

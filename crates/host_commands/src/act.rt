@@ -1,4 +1,4 @@
-//! The conversion of a build's command to the operation that the command asks for.
+//! Converts a build's command to the operation that the command asks for.
 ghost use Rattle.std.specs.Prelude.{◌≡◌, ◌≤◌, length, slice_get, drop, true, Some, None, IfSome, if◌then◌else◌};
 ghost use Rattle.realm_model.specs.Outcome.{is_in_range};
 ghost use Rattle.realm_model.specs.declared.act.Act.TheVariants as acts;

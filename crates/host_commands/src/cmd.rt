@@ -1,4 +1,4 @@
-//! The commands and other steps of builds, as values.
+//! The data types for the commands and other steps of builds.
 ghost use Rattle.std.specs.Prelude.{◌≡◌};
 
 use arrayvec::ArrayVec;
@@ -86,13 +86,14 @@ pub enum Cmd {
 #[derive(Drop)]
 pub enum Step {
     Ask(Cmd),
-    /// Reverses the newest open operation of the build.
+    /// Reverses the build's newest reversible operation that is not undone yet.
     Undo,
-    /// Reverses all open operations of the build, the newest first.
+    /// Reverses all reversible operations of the build that are not undone yet, the newest first.
     Abort,
     /// Sets the build's mark, to which the build can go back.
     Mark,
-    /// Reverses the operations opened since the build's last mark, the newest first.
+    /// Rolls the build back to the last mark that it set. This reverses the operations opened since the mark, the
+    /// newest first.
     Back,
 }
 

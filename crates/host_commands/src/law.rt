@@ -13,12 +13,12 @@ pub fn act_is_that_of_its_command()
     ensures { (cmd : Cmd) (granules : List ℕ) (allocated : Allocated) (act : Act) → ActIsOfCommand cmd granules allocated act }
 {}
 
-/// If a command's allocated values agree with the machine, so does the command's operation.
+/// Proves that a command's operation matches the machine's state if the command's allocated values do.
 pub fn act_fits_what_is_there()
     ensures { (cmd : Cmd) (granules : List ℕ) (allocated : Allocated) (act : Act) (realm : Option Seen) (cells : List Seen) → ActFits cmd granules allocated act realm cells }
 {}
 
-/// The byte and REC number allocated for a command do not affect the RMM's answer. The answer is that to the command
+/// Proves that the byte and REC number in `Allocated` do not affect the RMM's answer. The answer is that to the command
 /// for which they were allocated.
 pub fn outcome_ignores_allocation()
     ensures { (limits : Limits) (used : List ℕ) (cmd : Cmd) (granules : List ℕ) (one other : Allocated) (realm : Option Seen) (cells : List Seen) → OutcomeIsOfAnyAllocation limits used cmd granules one other realm cells }

@@ -14,13 +14,13 @@ pub enum RealmRequirement {
     NoRealm,
 }
 
-/// The requirements of a command on its build's realm, journal and history, and on VMIDs. They are one row of a table
-/// of all commands.
+/// The requirements of a command on its build and on free VMIDs. They are one row of a table of all commands.
 #[derive(Clone, Copy)]
 pub struct Needs {
     /// The requirement on whether the build has a realm.
     pub realm: RealmRequirement,
-    /// Whether the command's operation has a reverse. The operation then stays open, and needs an entry in the journal.
+    /// Whether an undo can reverse the command's operation. The operation then stays open, and needs an entry in the
+    /// journal.
     pub paired: bool,
     /// The number of history entries that the command takes. They come from the build's room. The event takes one, and
     /// a later reverse or exit another. The command `exit` takes none: `enter` took the entry for the exit.

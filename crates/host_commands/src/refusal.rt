@@ -7,43 +7,43 @@ use thiserror::Error;
 /// is given, and nothing changes.
 #[derive(Clone, Copy, Debug, PartialEq, Eq, Error)]
 pub enum Refusal {
-    /// Refusal 1: a build that the host does not have.
+    /// Refusal 1: the host has no such build.
     #[error("there is no such build")]
     NoBuild,
-    /// Refusal 2: a build that is being aborted.
+    /// Refusal 2: the build is being aborted.
     #[error("the build is being aborted")]
     Aborting,
-    /// Refusal 3: a block whose order is above 9.
+    /// Refusal 3: the order of the requested block is above 9.
     #[error("a block has at most 512 pages")]
     BadOrder,
-    /// Refusal 4: a page that the build does not have.
+    /// Refusal 4: the build does not have the page with this number.
     #[error("the build has no page {0}")]
     NotLeased(u16),
-    /// Refusal 5: a build that has a realm already.
+    /// Refusal 5: the build already has a realm.
     #[error("the build has a realm")]
     RealmThere,
-    /// Refusal 6: a build that has no realm.
+    /// Refusal 6: the build has no realm.
     #[error("the build has no realm")]
     NoRealm,
-    /// Refusal 7: a build with nothing to undo.
+    /// Refusal 7: the build has nothing to undo, or does not have the mark to return to.
     #[error("there is nothing to undo")]
     NothingToUndo,
-    /// Refusal 8: a running REC that an undo or an abort would destroy.
+    /// Refusal 8: an undo, an abort or a rollback would destroy a running REC.
     #[error("a REC is running")]
     RecRunning,
-    /// Refusal 9: a build that has 512 operations open.
+    /// Refusal 9: the build already has 512 reversible operations that are not undone yet.
     #[error("the journal is full")]
     JournalFull,
-    /// Refusal 10: too few entries left in the history. The command needs more than the build has left.
+    /// Refusal 10: the build has too few history entries left for its command.
     #[error("the history is full")]
     HistoryFull,
-    /// Refusal 11: no free aligned block of the order.
+    /// Refusal 11: no aligned block of the requested order is free.
     #[error("no block of order {} is free", .0.number())]
     NoBlock(Order),
-    /// Refusal 12: no free VMID.
+    /// Refusal 12: no VMID is free.
     #[error("no VMID is free")]
     NoVmid,
-    /// Refusal 13: a refusal by the RMM.
+    /// Refusal 13: the RMM refuses the command.
     #[error("the monitor refused: {:?}, index {}", .0.status, .0.index)]
     Rmi(Rmi),
 }

@@ -33,8 +33,8 @@ pub fn reply_of(page_count: u16, act: &Act) -> Reply
     }
 }
 
-/// The VMID, REC number and byte that a command gets from the machine. Each value may be anything for a command that
-/// does not use it.
+/// The values that the host gets from the machine for a command. Each value may be anything for a command that does not
+/// use it.
 #[derive(Clone, Copy)]
 pub struct Allocated {
     /// The lowest free VMID, for a command that creates a realm.
@@ -45,8 +45,8 @@ pub struct Allocated {
     pub byte: u8,
 }
 
-/// The result of an undo: the reversed operation's kind, and the open operations left. `left` is the number of
-/// operations that the build has open afterwards.
+/// The host's reply to an accepted undo of a build. `kind` is the kind of the reversed operation, and `left` is the
+/// number of operations that the build has open afterwards.
 #[derive(Clone, Copy, Debug, PartialEq, Eq)]
 pub struct Undone {
     pub kind: Kind,

@@ -32,25 +32,25 @@ new_build = record { journal = []; events = 0; realm = None; recs = []; running 
 
 -- ---- after an operation of the build
 
--- the RD of its realm
+-- the RD of the build's realm after an operation
 abbrev pub rd_after : Option ℕ → Act → Option ℕ
 rd_after rd (Realm d root vmid) = Some d
 rd_after rd (UnRealm d root vmid) = None
 rd_after rd _ = rd
 
--- the RECs there: a new one comes last, and the last one is removed first
+-- the build's RECs after an operation: a new one comes last, and the last one is removed first
 abbrev pub recs_after : List (ℕ × ℕ) → Act → List (ℕ × ℕ)
 recs_after recs (Rec granule auxiliaries number) = recs ++ (number, granule) ∷ []
 recs_after recs (UnRec granule auxiliaries number) = take (length recs - 1) recs
 recs_after recs _ = recs
 
--- the number of them that run
+-- the number of the build's RECs that run after an operation
 abbrev pub running_after : ℕ → Act → ℕ
 running_after running (Enter number) = running + 1
 running_after running (Exit number) = running - 1
 running_after running _ = running
 
--- its pages: those of a block that is taken come last, those of one given back are removed
+-- the build's pages after an operation: those of a taken block come last, those of a returned one are removed
 abbrev pub pages_after : List ℕ → Act → List ℕ
 pages_after pages (Take order first) = pages ++ block order first
 pages_after pages (UnTake order first) = take (length pages - 2 ^ order) pages
@@ -74,20 +74,20 @@ build_after build act = points_after (record build {
 
 -- ---- the operations that can be followed
 
--- a REC that is created has room and a number above the others', and a REC that exits runs
+-- a new REC has room and a number above the others', and at an exit some REC runs
 abbrev pub CanFollowRec : Build → Act → Type 0
 CanFollowRec build (Rec granule auxiliaries number) = (length build.recs < 512) × IsAbove build.recs number
 CanFollowRec build (Exit number) = 1 ≤ build.running
 CanFollowRec build _ = Unit {0}
 
--- there is room for the operations that are open after this one, and the numbers stay small
+-- the journal has room after the operation, the build's counts stay in bounds, and its RECs allow the operation
 pub record CanFollow (build : Build) (act : Act) : Type 0 where
   pub entries : length (pushed build.journal act) ≤ 512
   pub events : build.events < 16384
   pub running : build.running ≤ 16384
   pub rec : CanFollowRec build act
 
--- the pages of a block that is taken have room, and those of a block that is given back are there
+-- a taken block has room and lies below granule 4096; a returned one is no larger than the stack
 abbrev pub CanFollowPages : Stacks → ℕ → Act → Type 0
 CanFollowPages leases build (Take order first) = (length (stack_of leases build) + 2 ^ order ≤ leases.room) × (first + 2 ^ order ≤ 4096)
 CanFollowPages leases build (UnTake order first) = 2 ^ order ≤ length (stack_of leases build)
@@ -112,7 +112,7 @@ pub record CanRecord (host : HostView) (build : ℕ) (act : Act) : Type 0 where
 
 -- ---- the invariant
 
--- the meaning of the fields
+-- the view of a host, from its records of builds, leases, VMIDs and events
 abbrev pub ledger_of : List Build → Stacks → Vmids → ℕ → ℕ → List Event → HostView
 ledger_of builds leases vmids aux capacity history = record {
   limits = record { pages = leases.room; vmids = vmids.vmids; aux = aux; builds = length builds };
@@ -122,7 +122,7 @@ ledger_of builds leases vmids aux capacity history = record {
   marks = map (λ (build : Build). build.mark) builds;
 }
 
--- The record of a build is its part of a history and the attributes of its realm in the world.
+-- The record of a build agrees with its part of the history and its realm in the world.
 pub record IsBuildOf (history : List Event) (world : World) (number : ℕ) (build : Build) : Type 0 where
   pub journal : build.journal ≡ open_entries number history
   pub events : build.events ≡ length (acts_of number history)
@@ -151,9 +151,9 @@ pub record PointsHold (host : HostView) (build : ℕ) : Type 0 where
   pub in_abort : is_aborting host build ≡ true → 0 < length (open_of host build)
   pub marked : (mark : Mark) → mark_of host build ≡ Some mark → IsMarkOf host build mark
 
--- The history is legal, and the record of each build is its part of the history. Each granule is held by the build that
--- leases it, and a VMID is in use exactly when a realm has it. There is memory for all that there is room for. A build
--- in abort has something open, and marks are valid.
+-- The history is legal, and the record of each build agrees with its part of the history. Each granule is held by the
+-- build that leases it, and a VMID is in use exactly when a realm has it. There is memory for all that there is room
+-- for. A build in abort has something open, and marks are valid.
 pub record IsKept (host : HostView) (builds : List Build) (leases : Stacks) (holders : List (Option ℕ)) (vmids : Vmids) (events : Vec Event) : Type 0 where
   pub legal : IsLegal host.limits host.history
   pub few_builds : host.limits.builds ≤ 8

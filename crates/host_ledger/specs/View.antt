@@ -10,8 +10,7 @@ use Rattle.realm_model.specs.History.{replay, open_entries, pages_of}
 use Rattle.realm_model.specs.Room.{used_room}
 use Rattle.realm_model.specs.Undoing.{by}
 
--- The limits of the machine, the room of each build in the history, the history, and for each build whether it is in
--- abort and its mark.
+-- A host's limits, its history, each build's room in it, and each build's abort flag and mark.
 pub record HostView : Type 0 where
   pub limits : Limits
   pub capacity : ℕ

@@ -1,4 +1,4 @@
-//! The record that a host keeps of one build.
+//! The record that a host keeps of the construction of one realm.
 ghost use Rattle.std.specs.Prelude.{◌≡◌, nat_lt, length, IfOk};
 ghost use Rattle.host_ledger.specs.Kept.{new_build, points_after, build_after, CanFollow};
 
@@ -9,9 +9,9 @@ use granule_addr::Gran;
 use realm_model::Act;
 use std::alloc::{AllocError, Global};
 
-/// The record that a host keeps of a build. It has the build's open operations, the number of its events in the
-/// history, its mark, and whether it is in abort. Of the build's realm it has the RD, the RECs, and how many of them
-/// run.
+/// The record that a host keeps of one build, the construction of a realm. It has the build's open operations, the
+/// number of its events in the history, its mark, and whether it is in abort. Of the build's realm it has the RD, the
+/// RECs, and how many of them run.
 #[derive(Drop)]
 pub(crate) struct Build {
     pub(crate) journal: Journal,
@@ -76,7 +76,7 @@ impl Build {
         }
     }
 
-    /// Begins an abort, if the build has operations open.
+    /// Begins the abort of the build, if any of its operations can still be undone.
     pub(crate) fn begin_abort(&mut self)
         ensures { self.new ≡ record self.old { aborting = nat_lt 0 (length self.old.journal) } }
     {

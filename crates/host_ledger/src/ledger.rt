@@ -23,7 +23,8 @@ use realm_model::{Act, Event, RealmAndRec};
 use std::alloc::{AllocError, Global};
 use std::marker::Model;
 
-/// The history of all builds, and the record of each build. The history has the events of the builds in sequence.
+/// The ledger in which a host keeps its history and a record of each build. The history has the events of the builds in
+/// sequence.
 #[derive(Drop)]
 pub struct HostLedger {
     history: Vec<Event>,
@@ -185,8 +186,8 @@ impl HostLedger {
         kept.events + kept.journal.len() + kept.running
     }
 
-    /// Returns the number of operations that a build has open. A build with a mark has at least as many open as at the
-    /// mark, and a build with none open is not in abort.
+    /// Returns the number of operations that a build can still undo. A build with a mark has at least as many of these
+    /// open operations as at the mark, and a build with no open operation is not in abort.
     pub fn open_count(&self, build: BuildId) -> u16
         requires { build < self.now.limits.builds }
         ensures value { result ≡ length (open_of self.now build) }
@@ -197,7 +198,7 @@ impl HostLedger {
         self.builds[build.number() as usize].journal.len()
     }
 
-    /// Returns the newest open operation of a build, if there is one.
+    /// Returns the newest operation that a build can still undo, if there is one.
     pub fn newest(&self, build: BuildId) -> Option<&Act>
         requires { build < self.now.limits.builds }
         ensures value { option_map (λ act. act.now) result ≡ last_or None (open_of self.now build) }
@@ -207,7 +208,7 @@ impl HostLedger {
         kept.journal.newest()
     }
 
-    /// Returns a build's open operations without the oldest `count`. The newest is last.
+    /// Returns the operations that a build can still undo, except the oldest `count`. The newest is last.
     pub fn open_above(&self, build: BuildId, count: u16) -> &[Act]
         requires there { build < self.now.limits.builds }
         requires enough { count ≤ length (open_of self.now build) }
@@ -308,7 +309,7 @@ impl HostLedger {
         self.holders.holder(granule)
     }
 
-    /// Begins the abort of a build, if the build has operations open.
+    /// Begins the abort of a build, if any of its operations can still be undone.
     pub fn begin_abort(&mut self, build: BuildId)
         requires { build < self.old.limits.builds }
         ensures begun { self.new ≡ begun self.old build }
@@ -317,7 +318,8 @@ impl HostLedger {
         self.builds[build.number() as usize].begin_abort();
     }
 
-    /// Returns a mark to which the build can later be rolled back. The mark is at the current end of the history.
+    /// Returns a mark of the build at the current end of the history. The build can be rolled back to the mark if it is
+    /// kept, and as long as no fewer operations are open than at the mark.
     pub fn mark_now(&self, build: BuildId) -> Mark
         requires { build < self.now.limits.builds }
         ensures { result ≡ mark_now self.now build }

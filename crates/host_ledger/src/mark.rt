@@ -1,10 +1,11 @@
-//! Marks, to which builds can be rolled back.
+//! Points in the history, called marks, to which builds can be rolled back.
 ghost use Rattle.std.specs.Prelude.{◌≡◌};
 ghost use Rattle.host_ledger.specs.Marks.{is_same_mark};
 
 use granule_addr::BuildId;
 
-/// A mark to which a build can be rolled back. It has a number of open operations, and a position in the history.
+/// A point in the history to which a build can be rolled back. It has a number of open operations, and a position in
+/// the history.
 #[derive(Clone, Copy)]
 pub struct Mark {
     pub(crate) build: BuildId,
@@ -13,14 +14,14 @@ pub struct Mark {
 }
 
 impl Mark {
-    /// The number of operations that the build had open at the mark.
+    /// The number of operations that the build could still undo when the mark was set.
     pub fn length(&self) -> u16
         ensures { result ≡ self.now.length }
     {
         self.length
     }
 
-    /// The number of events that the history had at the mark.
+    /// The number of events in the history when the mark was set.
     pub fn place(&self) -> u32
         ensures { result ≡ self.now.place }
     {

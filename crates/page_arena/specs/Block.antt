@@ -6,7 +6,7 @@ use Rattle.page_arena.specs.Page.{is_free}
 pub record IsRun (flag : Bool) (flags : List Bool) (first count : ℕ) : Type 0 where
   pub each : (granule : ℕ) → first ≤ granule → granule < first + count → is_free flags granule ≡ flag
 
--- A block is inside the machine, and its granules are all free (`true`), or all taken (`false`).
+-- A block of this order begins at `first`: aligned, inside the machine, and all free (`true`) or all taken (`false`).
 pub record IsBlock (flag : Bool) (flags : List Bool) (order first : ℕ) : Type 0 where
   pub aligned : first % 2 ^ order ≡ 0
   pub inside : first + 2 ^ order ≤ length flags

@@ -7,7 +7,7 @@ use Rattle.page_arena.specs.Block.{IsBlock, IsFreeBlock, IsTakenBlock, with_run,
 use Rattle.page_arena.specs.Runs.{length-with_run, get_or-with_run_inside, get_or-with_run_outside, with_run_same, with_run-with_run}
 
 module _ (was flag : Bool) (flags : List Bool) (order first : ℕ) (block : IsBlock was flags order first) where
-  -- a block is still one after its flags are set
+  -- if all flags of a block are set alike, it is still a block, with that flag
   block_set : IsBlock flag (with_run flags first (2 ^ order) flag) order first
   block_set =
       let inside = block.inside in
@@ -18,7 +18,7 @@ module _ (was flag : Bool) (flags : List Bool) (order first : ℕ) (block : IsBl
         run = record { each = λ granule low high. get_or-with_run_inside flags first (2 ^ order) flag inside granule false low high };
       }
 
-  -- a block whose flags are set back
+  -- if all flags of a block are set and then set back, the list is as before
   block_back : with_run (with_run flags first (2 ^ order) flag) first (2 ^ order) was ≡ flags
   block_back =
       with_run-with_run flags first (2 ^ order) was flag block.inside
@@ -36,7 +36,7 @@ module _ (flags : List Bool) (order first : ℕ) (block : IsFreeBlock flags orde
   pub length-with_taken : length (with_taken flags order first) ≡ length flags
   length-with_taken = length-with_run flags first (2 ^ order) false block.inside
 
-  -- the first granule of the block, another one of it, and one outside it
+  -- after a take, all granules of the block, also the first, are taken, and any other is as before
   pub is_free-with_taken_first : is_free (with_taken flags order first) first ≡ false
   is_free-with_taken_first = let some = pow_pos order in get_or-with_run_inside flags first (2 ^ order) false block.inside first false (omega arith) (omega arith)
 
@@ -54,7 +54,7 @@ module _ (flags : List Bool) (order first : ℕ) (block : IsTakenBlock flags ord
   pub length-with_given : length (with_given flags order first) ≡ length flags
   length-with_given = length-with_run flags first (2 ^ order) true block.inside
 
-  -- a granule of the block, and one outside it
+  -- after a give, each granule of the block is free, and any other is as before
   pub is_free-with_given_inside : (granule : ℕ) → first ≤ granule → granule < first + 2 ^ order → is_free (with_given flags order first) granule ≡ true
   is_free-with_given_inside granule low high = get_or-with_run_inside flags first (2 ^ order) true block.inside granule false low high
 

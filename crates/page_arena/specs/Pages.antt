@@ -12,7 +12,7 @@ pub length-page_of : (value : ℕ) → length (page_of value) ≡ 4096
 unfolding page_of
 length-page_of value = length-replicate 4096 value
 
--- sized as it is built
+-- 1 to 4,096 pages of zeros, with a flag each, are sized
 pub IsSized-replicate : (count : ℕ) (flag : Bool) → 1 ≤ count → count ≤ 4096 → IsSized (replicate count zero_page) (replicate count flag)
 IsSized-replicate count flag some few =
     let len = length-replicate count zero_page in
@@ -28,7 +28,7 @@ module _ (pages : List (List ℕ)) (flags : List Bool) (sized : IsSized pages fl
   pub length-page_at : (granule : ℕ) → granule < length pages → length (page_at pages granule) ≡ 4096
   length-page_at granule inside = sized.whole granule [] inside
 
-  -- sized after another page is written
+  -- still sized if a page is replaced by one of 4,096 bytes
   pub IsSized-set : (granule : ℕ) (page : List ℕ) → length page ≡ 4096 → IsSized (set pages granule page) flags
   IsSized-set granule page whole =
       let len = length-set pages granule page in

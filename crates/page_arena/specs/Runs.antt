@@ -11,14 +11,14 @@ pub inside_or_outside : (first count i : ℕ) → ((first ≤ i) × (i < first +
 inside_or_outside first count i =
     ⊎_elim (λ below. inr (inl below)) (λ low. ⊎_elim (λ high. inl (low, high)) (λ above. inr (inr above)) (cases_lt i (first + count))) (cases_lt i first)
 
--- a run of no items
+-- overwriting no items leaves the list as it is
 pub with_run_none : {X : Type 0} (xs : List X) (first : ℕ) (x : X) → with_run xs first 0 x ≡ xs
 unfolding with_run
 with_run_none xs first x =
     let same : first + 0 ≡ first = omega arith in
     rw (same, append-nil) (take-append-drop first xs)
 
--- a run of one more item
+-- setting the item after a run makes the run longer by one
 pub with_run_more : {X : Type 0} (xs : List X) (first count : ℕ) (x : X) → first + count < length xs → set (with_run xs first count x) (first + count) x ≡ with_run xs first (count + 1) x
 unfolding with_run
 with_run_more xs first count x within =
@@ -45,7 +45,7 @@ module _ {X : Type 0} (xs : List X) (first count : ℕ) (x : X) (fits : first + 
       length-append (take first xs ++ replicate count x) (drop (first + count) xs)
       ∙ (let a = fronts in let b = length-drop (first + count) xs in omega arith)
 
-  -- an index inside the run
+  -- inside the run each item is `x`
   pub get_or-with_run_inside : (i : ℕ) (d : X) → first ≤ i → i < first + count → get_or (with_run xs first count x) i d ≡ x
   unfolding with_run
   get_or-with_run_inside i d low high =
@@ -53,7 +53,7 @@ module _ {X : Type 0} (xs : List X) (first count : ℕ) (x : X) (fits : first + 
       ∙ get_or-append_right (take first xs) (replicate count x) first i d front low
       ∙ get_or-replicate count (i - first) x d (omega arith)
 
-  -- an index outside the run
+  -- outside the run each item is as before
   pub get_or-with_run_outside : (i : ℕ) (d : X) → (i < first) ⊎ (first + count ≤ i) → get_or (with_run xs first count x) i d ≡ get_or xs i d
   unfolding with_run
   get_or-with_run_outside i d (inl below) =
@@ -66,7 +66,7 @@ module _ {X : Type 0} (xs : List X) (first count : ℕ) (x : X) (fits : first + 
       ∙ get_or-drop (first + count) xs (i - (first + count)) d
       ∙ ap (λ (n : ℕ). get_or xs n d) same
 
-  -- a run that is there already
+  -- overwriting items that are `x` already leaves the list as it is
   pub with_run_same : (d : X) → ((i : ℕ) → first ≤ i → i < first + count → get_or xs i d ≡ x) → with_run xs first count x ≡ xs
   with_run_same d there = ext_get_or d _ _ length-with_run (λ i lt.
       ⊎_elim
@@ -74,7 +74,7 @@ module _ {X : Type 0} (xs : List X) (first count : ℕ) (x : X) (fits : first + 
       (λ h. get_or-with_run_outside i d h)
       (inside_or_outside first count i))
 
--- a run that is written over
+-- if a run is overwritten twice, only the second time counts
 pub with_run-with_run : {X : Type 0} (xs : List X) (first count : ℕ) (x y : X) → first + count ≤ length xs → with_run (with_run xs first count y) first count x ≡ with_run xs first count x
 with_run-with_run {X} xs first count x y fits =
     let ys : List X = with_run xs first count y in

@@ -8,7 +8,7 @@ use Rattle.page_arena.specs.Word.{with_bytes, page_with_word, bytes_of_words}
 
 -- ---- bytes
 
--- bytes after others are one list of bytes
+-- writing bytes, and then others right after them, is writing both as one list
 pub with_bytes-append : (page xs ys : List ℕ) (at : ℕ) → at + length xs ≤ length page → with_bytes (with_bytes page at xs) (at + length xs) ys ≡ with_bytes page at (xs ++ ys)
 unfolding with_bytes
 with_bytes-append page xs ys at fits =
@@ -21,7 +21,7 @@ with_bytes-append page xs ys at fits =
     ∙ ap (λ (p : List ℕ). p ++ drop (end + length ys) page) (append_assoc (take at page) xs ys)
     ∙ ap (λ (n : ℕ). take at page ++ (xs ++ ys) ++ drop n page) more
 
--- no bytes
+-- writing no bytes leaves the page as it is
 pub with_bytes-none : (page : List ℕ) (at : ℕ) → with_bytes page at [] ≡ page
 unfolding with_bytes
 with_bytes-none page at =
@@ -29,7 +29,7 @@ with_bytes-none page at =
     ∙ ap (λ (n : ℕ). take at page ++ drop n page) (omega arith)
     ∙ take-append-drop at page
 
--- all bytes of a page
+-- writing 4,096 bytes at the start of a page replaces it
 pub with_bytes-whole : (page bytes : List ℕ) → length page ≡ 4096 → length bytes ≡ 4096 → with_bytes page 0 bytes ≡ bytes
 unfolding with_bytes
 with_bytes-whole page bytes whole all =
@@ -44,7 +44,7 @@ length-bytes_of_words (suc count) f =
     length-append (bytes_of_words count f) (to_le_bytes w64 (f count))
     ∙ (let before = length-bytes_of_words count f in let eight : length (to_le_bytes w64 (f count)) ≡ 8 = refl in omega arith)
 
--- one word after others
+-- writing the next word after the first `count` words is writing the first `count + 1`
 pub bytes_of_words-more : (page : List ℕ) (count : ℕ) (f : ℕ → ℕ) → length page ≡ 4096 → count < 512
     → page_with_word (with_bytes page 0 (bytes_of_words count f)) count (f count) ≡ with_bytes page 0 (bytes_of_words (count + 1) f)
 unfolding page_with_word bytes_of_words
@@ -56,7 +56,7 @@ bytes_of_words-more page count f whole few =
     ∙ with_bytes-append page before (to_le_bytes w64 (f count)) 0 (omega arith)
     ∙ ap (λ (n : ℕ). with_bytes page 0 (bytes_of_words n f)) (sym (add-one count))
 
--- all words of a page
+-- writing 512 words at the start of a page replaces it
 pub bytes_of_words-all : (page : List ℕ) (f : ℕ → ℕ) → length page ≡ 4096 → with_bytes page 0 (bytes_of_words 512 f) ≡ bytes_of_words 512 f
 bytes_of_words-all page f whole =
     with_bytes-whole page (bytes_of_words 512 f) whole (length-bytes_of_words 512 f)

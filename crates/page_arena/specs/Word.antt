@@ -3,7 +3,7 @@ use Rattle.std.specs.Prelude.{ℕ, zero, suc, ◌+◌, ◌*◌, ◌%◌, ◌^◌
 use Rattle.std.specs.Int.{from_le_bytes, to_le_bytes, w64}
 use Rattle.page_arena.specs.Page.{page_at}
 
--- the bytes with others from a place on
+-- the page with `bytes` in place of as many of its bytes, from `at` on
 unfoldable pub with_bytes : List ℕ → ℕ → List ℕ → List ℕ
 with_bytes page at bytes = take at page ++ bytes ++ drop (at + length bytes) page
 
@@ -23,11 +23,11 @@ word_at pages granule i = word_of_page (page_at pages granule) i
 abbrev pub with_word : List (List ℕ) → ℕ → ℕ → ℕ → List (List ℕ)
 with_word pages granule i word = slice_set pages granule (page_with_word (page_at pages granule) i word)
 
--- the bytes of that many words, which a function gives for their index
+-- the bytes of `count` words, in sequence, where `f` gives the word at each index
 unfoldable pub bytes_of_words : ℕ → (ℕ → ℕ) → List ℕ
 bytes_of_words zero f = []
 bytes_of_words (suc count) f = bytes_of_words count f ++ to_le_bytes w64 (f count)
 
--- word k of words of one kind, of which the first has that number in its bits 47:0, and the others rise by a step
+-- word k of a rising sequence: `first` and k steps, modulo 2^48, added to the kind
 abbrev pub rising_word : ℕ → ℕ → ℕ → ℕ → ℕ
 rising_word kind first step k = kind + (first + k * step) % 2 ^ 48

@@ -96,7 +96,7 @@ module _ (pages : List (List ℕ)) (granule i word : ℕ) (inside : granule < le
   word_at-with_word_same fits =
       ap (λ page. word_of_page page i) new_page ∙ word_of_page-page_with_word_same (page_at pages granule) i word whole index fits
 
-  -- another word, of that page or of another one
+  -- every other word, of this page or of another one, is as before
   pub word_at-with_word_other : (other j : ℕ) → (other ≢ granule) ⊎ (j ≢ i) → j < 512 → word_at (with_word pages granule i word) other j ≡ word_at pages other j
   word_at-with_word_other other j (inl ne) lt = ap (λ page. word_of_page page j) (get_or-set_other pages granule other _ [] ne)
   word_at-with_word_other other j (inr ne) lt =
@@ -109,7 +109,7 @@ module _ (pages : List (List ℕ)) (granule i word : ℕ) (inside : granule < le
       (λ beside. ap (λ page. word_of_page page j) (get_or-set_other pages granule other _ [] beside))
       (cases_eq other granule)
 
--- another page, and the number of pages
+-- every other page and the number of pages are as before
 pub page_at-with_word_other : (pages : List (List ℕ)) (granule i word other : ℕ) → other ≢ granule → page_at (with_word pages granule i word) other ≡ page_at pages other
 page_at-with_word_other pages granule i word other ne = get_or-set_other pages granule other _ [] ne
 

@@ -14,8 +14,8 @@ use granule_addr::{Gran, MOST_PAGES, Order, PageOff};
 use pages::{clear_run, copy_page, fill_page, zero_pages};
 use std::alloc::Global;
 
-/// A page store that takes the lowest free block of an order. It has a vector of the pages, and a vector of flags that
-/// are `true` for the free pages.
+/// A page store that takes the lowest free block of the requested order. It has a vector of the pages, and a vector of
+/// flags that are `true` for the free pages.
 #[derive(Drop)]
 pub struct PlainStore {
     pages: Vec<[u8; 4096]>,

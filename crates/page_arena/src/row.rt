@@ -30,8 +30,8 @@ unsafe impl<T> Send for Start<T> {}
 
 unsafe impl<T> Sync for Start<T> {}
 
-/// The ownership of an array of values in one allocation. It covers the array's values, the unused memory after the
-/// values, and the right to free the allocation. A `Row` takes no space.
+/// The owner of an array of values in one allocation. It owns the array's values, the unused memory after the values,
+/// and the right to free the allocation. A `Row` takes no space.
 pub(crate) struct Row<T, A: Allocator> {
     mark: PhantomData<*const (T, A)>,
     ghost at: { Ptr },

@@ -4,8 +4,8 @@ ghost use Rattle.page_arena.specs.Slots.{IsSlots};
 
 use std::alloc::{AllocError, Global};
 
-/// The slot of each page, which holds the page's bytes. All pages that were never written share slot 0, which has
-/// zeros. A page gets the next unused slot when it is first written.
+/// A table that gives, for each page, the slot of memory that holds its bytes. All pages that were never written share
+/// slot 0, which has zeros. A page gets the next unused slot when it is first written.
 #[derive(Drop)]
 pub(crate) struct Slots {
     of: Vec<u16>,

@@ -13,12 +13,12 @@ abbrev pub IsError : Severity → Type 0
 IsError (Error fault also) = Unit {0}
 IsError Warning = ⊥
 
--- an error of this fault: its own, or the one that follows from the same mistake
+-- an error whose mistake causes the fault, as its first fault or its second
 abbrev pub IsErrorOf : PlanFault → Severity → Type 0
 IsErrorOf fault (Error first also) = (first ≡ fault) ⊎ (also ≡ Some fault)
 IsErrorOf fault Warning = ⊥
 
--- Errors alone, and one of them is of this fault.
+-- All findings are errors, and at least one has the fault.
 pub record AreErrors (fault : PlanFault) (findings : List Finding) : Type 0 where
   pub errors : All (λ f. IsError f.severity) findings
   pub told : Any (λ f. IsErrorOf fault f.severity) findings
@@ -26,12 +26,12 @@ pub record AreErrors (fault : PlanFault) (findings : List Finding) : Type 0 wher
 abbrev pub AreWarnings : List Finding → Type 0
 AreWarnings findings = All (λ f. f.severity ≡ Warning) findings
 
--- A plan has warnings alone. Other bytes have errors alone, and one of these is their fault.
+-- The findings on a plan are all warnings. Those on other bytes are all errors, and at least one has the bytes' fault.
 abbrev pub AreOf : Result Plan PlanFault → List Finding → Type 0
 AreOf (Ok plan) findings = AreWarnings findings
 AreOf (Err fault) findings = AreErrors fault findings
 
--- on a stretch of a text of `end` bytes
+-- the span of the finding is inside a text of `end` bytes
 pub record IsStretchIn (end : ℕ) (f : Finding) : Type 0 where
   pub ordered : f.span.start ≤ f.span.end
   pub within : f.span.end ≤ end
@@ -44,7 +44,7 @@ pub record AreFindings (bytes : List ℕ) (findings : List Finding) : Type 0 whe
   pub inside : AreInside (length bytes) findings
   pub in_order : IsNonDecreasingBy (λ f. f.span.start) findings
 
--- how many builds, steps of all builds and turns a plan has
+-- the size of a plan: its numbers of builds, of steps in all builds, and of turns
 abbrev pub size_of : Plan → Size
 size_of plan = record { builds = length plan.builds; steps = sum_by length plan.builds; turns = length plan.order }
 

@@ -3,6 +3,6 @@ use Rattle.std.specs.Prelude.{◌≡◌, ℕ, List, is_ok}
 use Rattle.realm_plan.specs.Plan.{plan_of}
 use Rattle.plan_lint.specs.declared.report.LintReport.{LintReport}
 
--- A report on bytes that come from a source: whether they are a plan. Its lines are tested: they are in no clause.
+-- The report states correctly whether the bytes are a plan. Its lines are tested: they are in no clause.
 pub record IsReport (source bytes : List ℕ) (report : LintReport) : Type 0 where
   pub is_plan : report.is_plan ≡ is_ok (plan_of bytes)

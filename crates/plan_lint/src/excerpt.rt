@@ -5,7 +5,8 @@ use std::alloc::{AllocError, Global};
 /// caret, and the second begins above it.
 const MOST: usize = 80;
 
-/// The length to which an excerpt's side is cut if it exceeds `MOST` bytes. Two dots replace the other bytes.
+/// The number of bytes kept when one side of an excerpt is too long. The limit is `MOST` bytes. Two dots replace the
+/// other bytes.
 const LESS: usize = 78;
 
 /// A position in a text. The line and the column are counted from 1.

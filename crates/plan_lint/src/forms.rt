@@ -15,7 +15,7 @@ pub enum OperandKind {
 }
 
 impl OperandKind {
-    /// Returns an operand kind's name in messages, and its greatest value.
+    /// Returns the name that messages give to the operand's kind, and the greatest value of the kind.
     pub(crate) fn limits(self) -> (&'static str, u64) {
         match self {
             OperandKind::Order => ("the order of a block", 255),

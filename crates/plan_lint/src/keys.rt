@@ -4,7 +4,7 @@ use crate::message_text::Piece::{Quoted, Whole, Words};
 use crate::outline::{Build, KeyValue, Outline, PLAN_KEYS, Value, is_among};
 use realm_plan::PlanFault;
 
-/// The missing keys of a plan that were probably misspelled or misplaced. Only `pages` and `build` are noted.
+/// The keys that were probably meant by unknown or misplaced keys of a plan. Only `pages` and `build` are noted.
 #[derive(Clone, Copy)]
 pub struct MeantKeys {
     pub pages: bool,
@@ -18,7 +18,7 @@ impl MeantKeys {
     }
 }
 
-/// Reports the unknown and misplaced keys of a plan. Returns which missing keys were probably meant. A key that is
+/// Reports the unknown and misplaced keys of a plan. Returns which keys were probably meant by them. A key that is
 /// there several times in a row, as in `[machine.cpu]` below `[machine]`, is reported once.
 pub(crate) fn unknown_keys(outline: &Outline, found: &mut Findings) -> MeantKeys {
     let mut meant = MeantKeys {
@@ -125,7 +125,7 @@ const NUMBERS: [(&str, i64, i64); 4] = [
     ("history", 16, 16384),
 ];
 
-/// Finds the mistakes in the values of a plan's numeric keys.
+/// Finds the mistakes in the values of a plan's numeric keys. A missing `pages` is reported too, unless `meant` has it.
 pub(crate) fn numbers(outline: &Outline, meant: MeantKeys, found: &mut Findings) {
     for (name, low, high) in &NUMBERS {
         if let Some(value) = outline.value(name) {

@@ -7,7 +7,7 @@ use host_commands::{Cmd, Step};
 use realm_plan::{Plan, PlanStep};
 use std::alloc::{AllocError, Global};
 
-/// The largest number of operations that a build can have open.
+/// The maximum number of a build's open operations: reversible ones that are not undone yet.
 const MOST_OPEN: usize = 512;
 
 /// The greatest order of a block.
@@ -18,10 +18,11 @@ pub(crate) fn block_len(order: u8) -> usize {
     1 << order.min(12)
 }
 
-/// The certain part of a build's state after the steps recorded so far.
+/// The facts that are certain about a build's state after the steps recorded so far.
 #[derive(Drop)]
 pub struct KnownState {
-    /// The number of operations that are surely open. `since_mark` is the number of those opened since the mark.
+    /// A lower bound on the number of the build's reversible operations that are not undone yet. `since_mark` is the
+    /// number of those performed since the mark.
     open: usize,
     since_mark: usize,
     has_mark: bool,
@@ -30,13 +31,14 @@ pub struct KnownState {
     delegated: Vec<u16>,
     /// Whether a `realm` step surely succeeds once its pages are delegated.
     can_have_realm: bool,
-    /// Whether the next `take` of the build surely succeeds. It is `false` once something was reversed, or a REC was
-    /// entered.
+    /// Whether some further commands of the build can still be known to succeed. If so, the next `take` surely
+    /// succeeds. It is `false` after an `undo`, `abort`, `back` or `enter` step, and from the start if pages, history
+    /// or journal may run out.
     is_plain: bool,
 }
 
 impl KnownState {
-    /// Creates the known state of a build before its first step.
+    /// Returns what is certain about a build's state before its first step.
     pub(crate) fn new(alloc: Global, plan: &Plan, steps: &[PlanStep]) -> KnownState {
         let (mut pages, mut realms) = (0usize, 0usize);
         for steps in &plan.builds {
@@ -64,8 +66,8 @@ impl KnownState {
         }
     }
 
-    /// Records the effect of a build's next step on the known state. Returns a lower bound on the turns that the step
-    /// takes.
+    /// Updates what is certain about a build, given the build's next step. Returns a lower bound on the turns that the
+    /// step takes.
     pub(crate) fn record_step(&mut self, step: Step) -> Result<usize, AllocError> {
         let reversed = match step {
             Step::Ask(cmd) => {

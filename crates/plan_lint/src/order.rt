@@ -1,4 +1,4 @@
-//! The search for mistakes in the turns of a plan.
+//! The search for mistakes in a plan's `order`, the list of its turns.
 use crate::finding::Findings;
 use crate::keys::{no_integer, report_wrong_kind};
 use crate::message_text::Piece::{Count, Plural, Whole, Words};

@@ -15,7 +15,7 @@ pub enum Content {
     Table,
     /// A table that a header opens.
     Headed,
-    /// An array of tables that headers open.
+    /// An array of tables written with headers `[[KEY]]`.
     Tables,
 }
 
@@ -97,7 +97,8 @@ pub struct Outline {
     pub turns: Vec<Value>,
     /// The keys of a plan that the text lacks.
     pub missing: Vec<&'static str>,
-    /// Whether a key `pages` is in a table that plans do not have.
+    /// Whether a key `pages` was found in an unknown table. Keys in an unknown inline table, and dotted keys in an
+    /// unknown table, are not noted.
     pub has_deeper_pages: bool,
 }
 
@@ -123,7 +124,7 @@ impl Outline {
         Span::new(start, 0)
     }
 
-    /// Returns the span of the value of `order`. It is `start` if the text has no `order`.
+    /// Returns the span of the value of a plan's key `order`. It is `start` if the text has no `order`.
     pub(crate) fn order_span(&self) -> Span {
         match self.value("order") {
             Some(value) => value.span,

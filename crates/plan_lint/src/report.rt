@@ -1,5 +1,5 @@
-//! The report on the findings in a document, with excerpts of their lines. For a plan, the report also has the size of
-//! the plan. Tests compare reports with stored texts.
+//! The report on a document, which shows each finding with an excerpt of its line. For a plan, the report also has the
+//! size of the plan. Tests compare reports with stored texts.
 ghost use Rattle.std.specs.Prelude.{IfOk};
 
 use crate::excerpt::{Cursor, FIRST, first_of, place_at, plain_text, push_excerpt};

@@ -18,7 +18,7 @@ pub struct InvalidStep<'a> {
     pub fault: PlanFault,
     /// The span of the string with its quotes.
     pub whole: Span,
-    /// Whether the document has the step's text unescaped, right after the opening quote.
+    /// Whether the step's text appears in the document without escapes, right after the opening quote.
     pub inside: bool,
 }
 

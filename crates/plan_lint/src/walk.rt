@@ -8,7 +8,7 @@ use std::alloc::{AllocError, Global};
 use toml_parser::text::{first, skip, skip_blank, skip_ws};
 use toml_parser::{ErrorKind, Key, ParseError, dotted_key, quoted, starts_string, unquoted};
 
-/// A part of a plan to which keys or items belong.
+/// A part of a plan's text that can contain keys or array items.
 #[derive(Clone, Copy)]
 enum Part {
     Plan,
@@ -40,7 +40,7 @@ impl Part {
 /// An array or inline table whose closing bracket is not yet read.
 #[derive(Clone, Copy)]
 struct Open {
-    /// The part to which the array or table belongs. `part` is the part to which its own keys or items belong.
+    /// The part of the text that contains the array or table. `part` is the part to which its own keys or items belong.
     owner: Part,
     part: Part,
     is_table: bool,
@@ -53,7 +53,7 @@ struct Walk<'a> {
     whole: usize,
     /// The text that is still to be read.
     rest: &'a str,
-    /// The part to which the keys below the last header belong.
+    /// The part of the text to which the keys below the last header belong.
     section: Part,
     open: Vec<Open>,
     outline: Outline,

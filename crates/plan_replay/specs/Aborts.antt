@@ -6,8 +6,8 @@ use Rattle.plan_replay.specs.Run.{Position, place_of}
 use Rattle.plan_replay.specs.declared.answer.TurnAnswer.{TurnAnswer}
 use Rattle.plan_replay.specs.declared.answer.TurnAnswer.TheVariants.{Undone, Ended, Nothing, Refused}
 
--- The build has nothing open and is out of abort, and the world is that of the history without the build's events,
--- which is legal.
+-- The build has nothing open and is not in abort. The history is legal, and so is the history without the build's
+-- events, which leads to the same world.
 pub record HasLeftNothing (host : HostView) (build : ℕ) : Type 0 where
   pub none_open : open_of host build ≡ []
   pub over : is_aborting host build ≡ false

@@ -8,7 +8,7 @@ use Rattle.plan_replay.specs.declared.place.PlanCursor.{PlanCursor}
 abbrev pub first_place : PlanCursor
 first_place = record { done = 0; left = 0; mark = None }
 
--- The number of the abort of a build that gives up. Those of a plan's steps are lower.
+-- The step number at which a build that gives up aborts. The numbers of a plan's steps are lower.
 abbrev pub giving_up : ℕ
 giving_up = 1025
 
@@ -16,11 +16,11 @@ abbrev pub is_refusal : TurnAnswer → Bool
 is_refusal (Refused refusal) = true
 is_refusal _ = false
 
--- The number after a step that is used up. A refused step of a plan that gives up leads to the abort.
+-- A build's next step number once a step is done. A refused step of a plan that gives up leads to the abort.
 abbrev pub number_after : Bool → Bool → ℕ → ℕ
 number_after gives_up refused done = if gives_up && (refused && nat_lt done giving_up) then giving_up else done + 1
 
--- A step is used up by its answer, unless undos of it are left.
+-- The cursor after an answer: at the next step, unless undos of the current one are left.
 abbrev pub moved_on : Bool → TurnAnswer → PlanCursor → PlanCursor
 moved_on gives_up answer place =
     if place.left == 0 then record place { done = number_after gives_up (is_refusal answer) place.done } else place

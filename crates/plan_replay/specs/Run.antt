@@ -37,7 +37,7 @@ start host = record { host = host; places = replicate 8 first_place }
 abbrev pub place_of : List PlanCursor → ℕ → PlanCursor
 place_of places build = slice_index_or places build first_place
 
--- Of a build that gives up an abort comes beyond its steps, and nothing after that.
+-- The step of a build that gives up: an abort at number `giving_up`, and none after that.
 abbrev pub given_up : ℕ → Option PlanStep
 given_up number = if number == giving_up then Some (Whole Abort) else None
 
@@ -101,14 +101,15 @@ build_text host build = pages_text host build ++ realm_text build (realm_at (wor
 abbrev pub map_text : HostView → List ℕ
 map_text host = flat_map (build_text host) (range_with_len 0 8) ++ free_line (length (free_set (world_of host)))
 
--- The turn of a build leads here, and its line was appended.
+-- A turn of the build leads from one position to the other, and its line is appended.
 pub record IsReportedTurn (plan : Plan) (from : Position) (build : ℕ) (to : Position) (old new : List ℕ) : Type 0 where
   pub turn : Turn
   pub of_build : turn.build ≡ build
   pub is_turn : IsTurn plan from turn to
   pub appended : new ≡ old ++ turn_text turn
 
--- Some run of the plan's turns, each answer one that the host may give, leads here, and its lines were appended.
+-- A run of the plan's turns leads from one host to the other, and its lines are appended. Each answer is one that the
+-- host may give.
 pub record IsReportedRun (plan : Plan) (from to : HostView) (old new : List ℕ) : Type 0 where
   pub turns : List Turn
   pub end : Position

@@ -81,7 +81,7 @@ pub record IsOneOfMany (host : HostView) (build : ℕ) (place : PlanCursor) (lef
   pub told : answer ≡ answer_of_one left result
   pub place_is : after ≡ record place { left = left_after left result }
 
--- The turn of a step that has a number of operations to undo, or is refused: one of them is undone, if there is any.
+-- A turn of a step that undoes many operations: one is undone, none is left, or it is refused.
 abbrev pub IsTurnOfMany : Result ℕ Refusal → HostView → ℕ → PlanCursor → TurnAnswer → HostView → PlanCursor → Type 0
 IsTurnOfMany (Err refusal) host build place answer new after = (answer ≡ tells.Refused refusal) × (new ≡ host) × (after ≡ place)
 IsTurnOfMany (Ok count) host build place answer new after =
@@ -111,7 +111,7 @@ undos_to_go host build place = if place.left == 0 then above_mark host build pla
 
 -- ---- a step's turn
 
--- The turn of a step leads here, with this answer.
+-- A turn of the step has this answer, and leads to this host and this cursor.
 abbrev pub IsStepTurn : HostView → ℕ → PlanCursor → Step → TurnAnswer → HostView → PlanCursor → Type 0
 IsStepTurn host build place (Ask cmd) answer new after = IsCommandTurn host build cmd answer new × (after ≡ place)
 IsStepTurn host build place Undo answer new after = IsUndoTurn host build answer new × (after ≡ place)

@@ -1,4 +1,4 @@
-//! Answers to builds' steps in the turns of a plan's run, and their texts.
+//! The answers to a plan's steps, as values and as output text.
 ghost use Rattle.std.specs.Prelude.{◌≡◌, ◌++◌, OnOk, string_bytes, [], IfOk};
 ghost use Rattle.plan_replay.specs.Text.{turn_line};
 
@@ -14,8 +14,7 @@ use std::fmt;
 pub enum TurnAnswer {
     /// The reply to an accepted command.
     Replied(Reply),
-    /// The setting of a mark to which the build can be rolled back. The number is that of the operations open at the
-    /// mark.
+    /// A newly set mark, to which the build can be rolled back. The number is that of the operations open at the mark.
     Marked(u16),
     /// An operation that was undone, given by its kind. In an abort or a `back`, more are left to undo.
     Undone(Kind),
@@ -71,8 +70,9 @@ pub fn push_turn(
 /// The number of bytes to reserve for a line of output. Most lines have fewer.
 const BYTES_A_LINE: usize = 24;
 
-/// Creates an empty string for the output of a plan's run. Its capacity is estimated from the plan. A text that grows
-/// is copied, and takes the memory of both meanwhile. The one error is that allocation failed.
+/// Creates an empty string, with a capacity estimated for the output of a plan's run. The estimate uses the plan's
+/// numbers of turns and pages. A text that grows is copied, and takes the memory of both meanwhile. The one error is
+/// that allocation failed.
 pub fn empty_output_text(alloc: Global, plan: &Plan) -> Result<String, AllocError>
     ensures { IfOk result (λ text. string_bytes text ≡ []) }
 {

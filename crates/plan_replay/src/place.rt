@@ -1,4 +1,4 @@
-//! The position of a build in its plan.
+//! The progress of a build through its steps in a plan.
 ghost use Rattle.std.specs.Prelude.{◌≡◌, ◌≤◌, ◌^◌, ◌<◌};
 ghost use Rattle.plan_replay.specs.Place.{first_place, giving_up, moved_on, number_after};
 
@@ -21,9 +21,9 @@ pub fn number_after(gives_up: bool, is_refused: bool, done: usize) -> usize
     }
 }
 
-/// The position of a build in its plan. It has the number of steps done, the remaining undos of the current step, and
-/// the last mark. In a plan that gives up the number of steps may be `GIVING_UP`, and once that abort is over the next
-/// one.
+/// The progress of a build through its steps in a plan. It has the number of steps done, the remaining undos of the
+/// current step, and the last mark. In a plan that gives up the number of steps may be `GIVING_UP`, and once that abort
+/// is over the next one.
 #[derive(Clone, Copy)]
 pub struct PlanCursor {
     pub done: usize,
@@ -43,8 +43,8 @@ impl PlanCursor {
         }
     }
 
-    /// Moves the cursor to the next step, if the current step has no undos left. The turn's answer decides which step
-    /// is next.
+    /// Moves the cursor to the next step, unless the current step still has operations to undo. The turn's answer
+    /// decides which step is next.
     pub fn move_on(&mut self, gives_up: bool, answer: &TurnAnswer)
         requires { self.old.done ≤ giving_up }
         ensures { self.new ≡ moved_on gives_up answer.now self.old }

@@ -1,4 +1,4 @@
-//! Functions that take a build's turn, one for each kind of step.
+//! Functions that perform one turn of a plan's schedule, for each kind of step.
 ghost use Rattle.std.specs.Prelude.{◌≡◌, ◌<◌};
 ghost use Rattle.realm_plan.specs.Asked.{asked};
 ghost use Rattle.plan_replay.specs.Turn.{undos_to_go, IsCommandTurn, IsUndoTurn, IsMarkTurn, IsOneOfMany, IsTurnOfMany, IsToAbort, IsAbortTurn, IsStepTurn};

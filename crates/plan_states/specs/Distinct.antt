@@ -5,11 +5,11 @@ use Rattle.std.specs.declared.string.String.{String}
 use Rattle.plan_states.specs.declared.graph.Graph.{Graph}
 use Rattle.plan_states.specs.declared.step_end.EndOfStep.{EndOfStep}
 
--- no end before the place is the one there
+-- the end at this index differs from each end before it
 abbrev pub IsNewEnd : List EndOfStep → ℕ → Type 0
 IsNewEnd ends place = (before : ℕ) (d : EndOfStep) → before < place → slice_index_or ends before d ≢ slice_index_or ends place d
 
--- no map before the place is the one there
+-- the map at this index differs from each map before it
 abbrev pub IsNewMap : List (String Global) → ℕ → Type 0
 IsNewMap maps place =
     (before : ℕ) (d : String Global) → before < place → string_bytes (slice_index_or maps before d) ≢ string_bytes (slice_index_or maps place d)

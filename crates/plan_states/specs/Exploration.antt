@@ -19,7 +19,7 @@ pub record AreOfRuns (plan : Plan) (the_ends : List EndOfStep) (the_maps : List 
   pub ends : All (IsEndOfRun plan) the_ends
   pub maps : All (λ map. IsMapOfRun plan (string_bytes map)) the_maps
 
--- It has what runs show, and at most so many states.
+-- The graph's ends and maps are those of runs, and it has at most `most` states.
 pub record IsFound (plan : Plan) (most : ℕ) (graph : Graph) : Type 0 where
   pub of_runs : AreOfRuns plan graph.ends.items graph.maps.items
   pub states : sum_by vec_len graph.layers.items ≤ most
@@ -34,7 +34,7 @@ abbrev pub IsExploration : Plan → ℕ → Exploration → Type 0
 IsExploration plan most (explored.All graph) = IsGraphWithin plan most graph
 IsExploration plan most explored.TooMany = Unit {0}
 
--- the reason why there is no graph: allocation failed, or a run does not go on as another one said
+-- a fault that leaves an exploration without a graph: failed allocation, or a mismatch in the runs or in the graph
 abbrev pub HasNoGraph : Fault → Type 0
 HasNoGraph Memory = Unit {0}
 HasNoGraph Mismatch = Unit {0}

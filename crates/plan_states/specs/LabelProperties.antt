@@ -18,7 +18,7 @@ abbrev pub refuses_asked : Option ℕ → Option EndOfStep → Bool
 refuses_asked asked None = false
 refuses_asked asked (Some end) = is_some end.refusal && is_asked asked end.build
 
--- the turn uses up a step that was refused
+-- the end with this number is a refusal, and is of the build asked for, if one is
 abbrev pub end_is_refused : List EndOfStep → Option ℕ → Option ℕ → Bool
 end_is_refused ends asked None = false
 end_is_refused ends asked (Some number) = refuses_asked asked (slice_get ends number)

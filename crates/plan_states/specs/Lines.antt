@@ -28,7 +28,7 @@ words_of_end (Some refusal) = codes "no " ++ refusal_text refusal
 abbrev pub orders_line : ℕ → List ℕ
 orders_line schedule_count = codes "orders " ++ (numeral schedule_count ++ 10 ∷ [])
 
--- the number of schedules with an outcome, and the first of them, if not all `schedule_count` have it
+-- the schedules with an outcome: ` in all`, or their number and the first of them
 abbrev pub share_text : ℕ → ℕ → List ℕ → List ℕ
 share_text schedule_count count first = if count == schedule_count then codes " in all\n" else codes " in " ++ (numeral count ++ (codes ", " ++ (schedule_text first ++ 10 ∷ [])))
 
@@ -58,7 +58,7 @@ give_up_shown schedule_count tally =
 abbrev pub never_refused_line : ℕ → PathTally ℕ → List ℕ
 never_refused_line schedule_count tally = codes "never refused " ++ (decimal tally.outcome ++ share_text schedule_count tally.count tally.first.items)
 
--- the lines of a map in the end, by its number
+-- the text of a final map: the schedules that end with it, and the map
 abbrev pub map_shown : ℕ → List ℕ → List ℕ → ℕ → List ℕ
 map_shown schedule_count map first count = codes "map" ++ (share_text schedule_count count first ++ map)
 
@@ -97,8 +97,8 @@ abbrev pub never_refused_lines : ℕ → List (PathTally ℕ) → ℕ → List �
 never_refused_lines schedule_count [] build = codes "never refused " ++ (decimal build ++ codes " in 0\n")
 never_refused_lines schedule_count (tally ∷ never_refused) build = if tally.outcome == build then never_refused_line schedule_count tally else never_refused_lines schedule_count never_refused build
 
--- The number of schedules in which nothing was refused. The number of those in which each step of each build ended in
--- each way, and in which each build was never refused.
+-- The numbers of schedules with a refused step, and without one. The number of those in which each step of each build
+-- ended in each way, and in which each build was never refused.
 abbrev pub step_outcomes_text : Plan → StepOutcomes → List ℕ
 step_outcomes_text plan outcomes =
     flat_map (refusals_line outcomes.schedule_count) outcomes.by_refusal.items

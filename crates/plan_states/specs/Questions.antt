@@ -16,13 +16,13 @@ pages_of_builds host = map (λ build. length (pages_of_build host build)) (range
 
 -- ---- by the end of a turn's step, and the number of pages that each build holds after it
 
--- refused for want of what builds share: no block of the order is free, or no VMID
+-- a refusal for want of a shared resource: no block of the order is free, or no VMID
 abbrev pub is_of_shared : Option Refusal → Bool
 is_of_shared (Some (NoBlock order)) = true
 is_of_shared (Some NoVmid) = true
 is_of_shared _ = false
 
--- a step of the build is refused so
+-- a step of the build is refused for want of a block or a VMID
 abbrev pub waits : ℕ → Option EndOfStep → Bool
 waits build None = false
 waits build (Some end) = end.build == build && is_of_shared end.refusal
@@ -38,7 +38,7 @@ is_other_without_pages build held other = is_other_with build other (slice_get h
 abbrev pub has_other_without_pages : ℕ → ℕ → List ℕ → Bool
 has_other_without_pages builds build held = list_any (is_other_without_pages build held) (range_with_len 0 builds)
 
--- the turn answers the question, on a machine of so many builds
+-- a turn with this end and these page counts answers the question, in a plan of `builds` builds
 abbrev pub is_answer : ℕ → TurnQuestion → Option EndOfStep → List ℕ → Bool
 is_answer builds (Refused build step) end held = refuses_step build step end
 is_answer builds (Waiting build) end held = waits build end && has_other_without_pages builds build held

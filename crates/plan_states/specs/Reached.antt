@@ -12,7 +12,7 @@ pub record IsReached (plan : Plan) (order : List ℕ) (at : Position) : Type 0 w
   pub turns : List Turn
   pub are_turns : AreTurns plan order (start (opening_host plan)) turns at
 
--- a turn of a build, of its next step if one is left, leads from one position to the other
+-- `taken` is a turn of the build between the positions, with the build's progress before and after it
 pub record IsTurnAt (plan : Plan) (at : Position) (build : ℕ) (taken : Taken) (to : Position) : Type 0 where
   pub of_build : taken.turn.build ≡ build
   pub is_turn : IsTurn plan at taken.turn to
@@ -36,7 +36,7 @@ is_left plan places build = is_some (step_after plan build (place_of places buil
 abbrev pub AreOver : Plan → List PlanCursor → Type 0
 AreOver plan places = (build : ℕ) → build < 8 → is_left plan places build ≡ false
 
--- a run of the plan in which no build has a step left in the end has this map
+-- a run of the plan, after which no build has a step left, ends with this map
 pub record IsMapOfRun (plan : Plan) (map : List ℕ) : Type 0 where
   pub order : List ℕ
   pub at : Position

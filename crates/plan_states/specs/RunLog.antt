@@ -29,7 +29,7 @@ pub record IsSnapshotOfRun (plan : Plan) (it : Snapshot) (at : Position) : Type 
   pub of_host : IsOfHost at
   pub builds : AreBuildsAt at 8 it.builds.items
 
--- the snapshot of this number is of the position
+-- the snapshot with this number is of the position, which a run of the plan reaches from boot
 pub record IsShownBy (plan : Plan) (snapshots : List Snapshot) (number : ℕ) (at : Position) : Type 0 where
   pub it : Snapshot
   pub is_there : slice_get snapshots number ≡ Some it
@@ -41,7 +41,7 @@ pub record IsSnapshotNumber (snapshots : List Snapshot) (number : ℕ) (snapshot
   pub is_there : slice_get snapshots number ≡ Some it
   pub same : AreSameBuilds 8 it.builds.items snapshot.builds.items
 
--- a turn like its label leads from a position of the one snapshot to one of the other
+-- a turn that fits the label leads from a position of snapshot `from` to one of snapshot `to`
 pub record IsLogged (plan : Plan) (ends : List EndOfStep) (held : List (List ℕ)) (maps : List (String Global)) (snapshots : List Snapshot) (turn : LoggedTurn) : Type 0 where
   pub at : Position
   pub to : Position
@@ -49,7 +49,7 @@ pub record IsLogged (plan : Plan) (ends : List EndOfStep) (held : List (List ℕ
   pub labelled : IsLabelled plan ends held maps at turn.label to
   pub after : IsShownBy plan snapshots turn.to to
 
--- The first snapshot is that of boot, and the turns are such turns.
+-- Snapshot 0 is that of boot, and each logged turn leads from its snapshot `from` to its `to`.
 pub record IsLog (plan : Plan) (ends : List EndOfStep) (held : List (List ℕ)) (maps : List (String Global)) (log : RunLog) : Type 0 where
   pub boot : IsShownBy plan log.snapshots.items 0 (start (opening_host plan))
   pub turns : All (IsLogged plan ends held maps log.snapshots.items) log.turns.items
@@ -70,12 +70,12 @@ pub record IsEdgeLogged (turns : List LoggedTurn) (from to : Option ℕ) (label 
   pub leaves : from ≡ Some turn.from
   pub leads : to ≡ Some turn.to
 
--- each edge of a state is such a turn
+-- each edge of a state is logged as a turn between the snapshots of its two states
 abbrev pub AreEdgesLogged : List LoggedTurn → List (Vec Visit Global) → ℕ → ℕ → List (Edge Label) → Type 0
 AreEdgesLogged turns visits depth state edges =
     All (λ edge. IsEdgeLogged turns (snapshot_at visits depth state) (snapshot_at visits (depth + 1) edge.to) edge.label) edges
 
--- The first state has the first snapshot, and each edge of each state is such a turn.
+-- The first state has snapshot 0, and each edge of the graph is logged as a turn.
 pub record IsComplete (graph : Graph) (turns : List LoggedTurn) (visits : List (Vec Visit Global)) : Type 0 where
   pub start : snapshot_at visits 0 0 ≡ Some 0
   pub edges : (depth : ℕ) → depth < length graph.layers.items → (state : ℕ) → state < length (layer_at graph depth)

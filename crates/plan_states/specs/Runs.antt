@@ -24,8 +24,9 @@ abbrev pub IsMapNamed : Plan → List (String Global) → Option ℕ → Positio
 IsMapNamed plan maps None at = Unit {0}
 IsMapNamed plan maps (Some number) at = AreOver plan at.places × (option_map string_bytes (slice_get maps number) ≡ Some (map_text at.host))
 
--- A turn of the label's build leads from one position to the other. It ends its step as the label names it, or leaves it
--- under way. Builds hold what the label names after it. If the label names a map, it is that of the host then.
+-- A turn of the label's build leads from one position to the other. It ends its step as the label names it, or leaves
+-- it under way. After the turn, builds hold the numbers of pages that the label names. If the label names a map, it is
+-- that of the host then.
 pub record IsLabelled (plan : Plan) (ends : List EndOfStep) (held : List (List ℕ)) (maps : List (String Global)) (at : Position) (label : Label) (to : Position) : Type 0 where
   pub taken : Taken
   pub is_taken : IsTurnAt plan at label.build taken to
@@ -39,7 +40,7 @@ IsRunAlong plan ends held maps at [] = Unit {0}
 IsRunAlong plan ends held maps at (edge ∷ path) =
     (to : Position) × IsLabelled plan ends held maps at edge.label to × IsRunAlong plan ends held maps to path
 
--- from boot
+-- The plan can be run along the path from boot, with the path's ends and its map.
 abbrev pub IsRunFromBoot : Plan → Graph → Path Label → Type 0
 IsRunFromBoot plan graph path = IsRunAlong plan graph.ends.items graph.held.items graph.maps.items (start (opening_host plan)) path
 
@@ -56,7 +57,7 @@ pub record IsRunOnPath (plan : Plan) (graph : Graph) (order : List ℕ) : Type 0
   pub schedule : builds_of_path path ≡ order
   pub is_run : IsRunFromBoot plan graph path
 
--- the map that the last turn of a path names, after turns of which the last has named that before
+-- the map that the last turn of a path names, or `before` if the path is empty
 abbrev pub last_map : Option ℕ → Path Label → Option ℕ
 last_map before [] = before
 last_map before (edge ∷ path) = last_map edge.label.map path

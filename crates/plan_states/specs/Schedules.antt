@@ -17,12 +17,12 @@ abbrev pub IsSchedule : (List ℕ → ℕ → Bool) → List ℕ → List ℕ �
 IsSchedule left before [] = (build : ℕ) → build < 8 → left before build ≡ false
 IsSchedule left before (build ∷ order) = (build < 8) × (left before build ≡ true) × IsSchedule left (before ++ build ∷ []) order
 
--- Each of these builds may have the turn, and the schedule goes on after it. It ends where there is none.
+-- schedules that begin with each of the builds and go on by `next`; without builds, the empty one
 abbrev pub by_builds : (ℕ → List (List ℕ)) → List ℕ → List (List ℕ)
 by_builds next [] = [] ∷ []
 by_builds next (build ∷ builds) = flat_map (λ b. map (λ order. b ∷ order) (next b)) (build ∷ builds)
 
--- all schedules by a rule after given turns, of at most so many turns more; the lowest comes first
+-- all schedules under a rule after given turns, with at most `most` further turns; the lowest comes first
 abbrev pub schedules_after : (List ℕ → ℕ → Bool) → ℕ → List ℕ → List (List ℕ)
 schedules_after left zero before = by_builds (λ build. []) (filter (left before) (range_with_len 0 8))
 schedules_after left (suc most) before =
@@ -34,17 +34,18 @@ schedules_after left (suc most) before =
 abbrev pub used_by : Path Label → ℕ → ℕ
 used_by path build = count_by (λ edge. build == edge.label.build && is_some edge.label.end) path
 
--- The number of a build after turns. In a plan that does not give up it is that of the steps that they use up.
+-- The number of a build's next step after the turns of a path. In a plan that does not give up it is that of the steps
+-- that they use up.
 abbrev pub done_by : Plan → Graph → Path Label → ℕ → ℕ
 done_by plan graph path build = fold (λ done edge. number_by plan graph.ends.items build done edge.label) 0 path
 
--- After the turns with which a path of the graph begins, the rule has the builds that have a step left then.
+-- After each prefix of a path of the graph, the rule has the builds with a step left.
 abbrev pub IsRuleOf : Plan → Graph → (List ℕ → ℕ → Bool) → Type 0
 IsRuleOf plan graph left =
     (front rest : Path Label) → Contains (paths_of graph) (front ++ rest)
     → (build : ℕ) → build < 8 → left (builds_of_path front) build ≡ is_some (step_after plan build (done_by plan graph front build))
 
--- from a state, the edges by which these builds have their turns
+-- the path from a state by turns of these builds, up to the first without an edge
 abbrev pub turns_from : List (Layer Label) → ℕ → ℕ → List ℕ → Path Label
 turns_from layers depth state [] = []
 turns_from layers depth state (build ∷ order) =
@@ -53,7 +54,7 @@ turns_from layers depth state (build ∷ order) =
       | None ↦ []
     ]
 
--- the graph's own rule: after given turns, a build has a step left by the number that they lead to
+-- the graph's own rule: the build has a step left after the path of the given turns
 abbrev pub own_rule : Plan → Graph → List ℕ → ℕ → Bool
 own_rule plan graph before build = is_some (step_after plan build (done_by plan graph (turns_from (layers_of graph) 0 0 before) build))
 
@@ -77,15 +78,15 @@ end_at ends (Some number) = option_to_list (slice_get ends number)
 abbrev pub ends_of_path : List EndOfStep → Path Label → List EndOfStep
 ends_of_path ends path = flat_map (λ edge. end_at ends edge.label.end) path
 
--- those of a build among them, and their steps
+-- the ends of a build's steps on a path; then, the numbers of these steps
 abbrev pub ends_of : List EndOfStep → ℕ → Path Label → List EndOfStep
 ends_of ends build path = filter (λ end. end.build == build) (ends_of_path ends path)
 
 abbrev pub steps_ended : List EndOfStep → ℕ → Path Label → List ℕ
 steps_ended ends build path = map (λ end. end.step) (ends_of ends build path)
 
--- Each of these ends of a build is that of its next step, from a number on, and no step is left after them. After a
--- refusal the next step of a build that gives up is its abort.
+-- The ends are those of the build's steps in sequence from `number` on, and no step is left. After a refusal the next
+-- step of a build that gives up is its abort.
 abbrev pub AreInSequence : Plan → ℕ → ℕ → List EndOfStep → Type 0
 AreInSequence plan build number [] = is_some (step_after plan build number) ≡ false
 AreInSequence plan build number (end ∷ ends) =

@@ -39,7 +39,7 @@ pub record IsWait (plan : Plan) (build : ℕ) (end : Option EndOfStep) (host : H
   pub differs : other ≢ build
   pub at_rest : pages_of_build host other ≡ []
 
--- A turn with this end of its step, after which the host is like that, answers the question.
+-- A turn answers the question, by the end of its step and the host after the turn.
 abbrev pub Shows : Plan → TurnQuestion → Option EndOfStep → HostView → Type 0
 Shows plan (Refused build step) end host = IsRefusal build step end
 Shows plan (Waiting build) end host = IsWait plan build end host
@@ -71,16 +71,16 @@ first_layer is layers = position (λ layer. layer_shows is (vec_items layer)) la
 abbrev pub any_layer_shows : (Label → Bool) → List (Vec (Vec (Edge Label) Global) Global) → Bool
 any_layer_shows is layers = list_any (λ layer. layer_shows is (vec_items layer)) layers
 
--- the layers up to that one, and the states of the next, at which paths end
+-- the layers up to `depth`, then the states of the next without edges, so that paths end there
 abbrev pub cut_after : ℕ → List (Layer Label) → List (Layer Label)
 cut_after depth layers = take (depth + 1) layers ++ map (λ edges. []) (slice_index_or layers (depth + 1) []) ∷ []
 
--- the paths that show it with the last of their edges, in the first layer that does: their number, and the first of them
+-- the paths, cut after a given layer, that show such a label: their number and the first
 abbrev pub tally_in : (Label → Bool) → TurnQuestion → List (Layer Label) → Option ℕ → Option (PathCount TurnQuestion)
 tally_in is question layers None = None
 tally_in is question layers (Some depth) = tally_of (shows is) question (paths (cut_after depth layers) 0)
 
--- the turn of the label answers the question, of a plan of so many builds
+-- the turn of the label answers the question, in a plan of `builds` builds
 abbrev pub is_answer_in : Graph → ℕ → TurnQuestion → Label → Bool
 is_answer_in graph builds question label = is_answer_at graph.ends.items graph.held.items builds question label
 
@@ -88,7 +88,7 @@ is_answer_in graph builds question label = is_answer_at graph.ends.items graph.h
 abbrev pub is_answered : Graph → ℕ → TurnQuestion → Bool
 is_answered graph builds question = any_layer_shows (is_answer_in graph builds question) graph.layers.items
 
--- the shortest paths that answer the question
+-- the number of the shortest paths that answer the question, and the schedule of the first
 abbrev pub shortest_tally : Graph → ℕ → TurnQuestion → Option (PathCount TurnQuestion)
 shortest_tally graph builds question =
     let is = is_answer_in graph builds question in
@@ -96,7 +96,7 @@ shortest_tally graph builds question =
 
 -- ---- the witness
 
--- a schedule that answers the question, the first of the shortest of the graph
+-- the schedule answers the question, and is the first of the graph's shortest schedules that do
 pub record IsShortest (plan : Plan) (most : ℕ) (question : TurnQuestion) (order : List ℕ) : Type 0 where
   pub answers : EndsWithAnswer plan question order
   pub graph : Graph

@@ -20,7 +20,7 @@ abbrev pub is_kept_mark : Option Mark → Option Mark → Bool
 is_kept_mark kept mark =
     elim mark [ Some one ↦ elim kept [ Some it ↦ is_same_mark it one | None ↦ false ] | None ↦ false ]
 
--- the point at which a build is
+-- a build's progress, marks and abort flag at a position
 abbrev pub point_at : Position → ℕ → BuildPoint
 point_at at build = record {
   done = (place_of at.places build).done;

@@ -6,7 +6,7 @@ use Rattle.plan_replay.specs.Run.{step_after}
 use Rattle.plan_states.specs.declared.state.BuildState.{BuildState}
 use Rattle.plan_states.specs.declared.state.State.{State}
 
--- a build that did nothing: the number of that is the build's own
+-- the state of a build before its first turn; `did`, the index of past turns, is its number
 abbrev pub at_rest : ℕ → BuildState
 at_rest build = record { did = build; done = 0; vmid = None; pages = 0 }
 

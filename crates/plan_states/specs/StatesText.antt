@@ -14,10 +14,10 @@ pub record IsGraphText (plan : Plan) (graph : Graph) (text : List ℕ) : Type 0 
   pub are_outcomes : AreOutcomes (length plan.builds) graph outcomes
   pub whole : text ≡ outcomes_text plan graph.maps.items outcomes
 
--- the line that says that there are more states
+-- the line that says that a plan has more than `most` states
 abbrev pub too_many_line : ℕ → List ℕ
 too_many_line most = codes "states more than " ++ (decimal most ++ 10 ∷ [])
 
--- the text of a graph of at most `most` states, or that line
+-- the outcomes of a graph with at most `most` states, or the line for more states
 abbrev pub IsStatesText : ℕ → Plan → List ℕ → Type 0
 IsStatesText most plan text = ((graph : Graph) × IsGraphWithin plan most graph × IsGraphText plan graph text) ⊎ (text ≡ too_many_line most)

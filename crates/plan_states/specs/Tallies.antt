@@ -26,7 +26,7 @@ builds_of_path path = map (λ edge. edge.label.build) path
 abbrev pub count_of_tally : {K : Type 0} → PathTally K → PathCount K
 count_of_tally tally = record { outcome = tally.outcome; count = tally.count; first = tally.first.items }
 
--- the number of the paths like that, and the schedule of the first of them, if there is one
+-- the number of paths with a property, and the schedule of the first, if a path has it
 abbrev pub tally_of : {K : Type 0} → (Path Label → Bool) → K → List (Path Label) → Option (PathCount K)
 tally_of like outcome ps =
     option_map (λ path. record { outcome = outcome; count = length (filter like ps); first = builds_of_path path }) (find like ps)
@@ -44,12 +44,12 @@ abbrev pub place_for : {K : Type 0} → List ℕ → List (PathCount K) → ℕ
 place_for first [] = 0
 place_for first (t ∷ tallies) = if is_before first t.first then 0 else suc (place_for first tallies)
 
--- a tally more, if there is one, at its place
+-- the tallies with a given one, if any, inserted at its place
 abbrev pub with_tally : {K : Type 0} → Option (PathCount K) → List (PathCount K) → List (PathCount K)
 with_tally None tallies = tallies
 with_tally (Some tally) tallies = insert tallies (place_for tally.first tallies) tally
 
--- the tallies of all numbers below another
+-- the tallies of all numbers below a bound, sorted by their first schedules
 abbrev pub all_added : {K : Type 0} → (ℕ → Option (PathCount K)) → ℕ → List (PathCount K)
 all_added tally_at zero = []
 all_added tally_at (suc n) = with_tally (tally_at n) (all_added tally_at n)
@@ -59,13 +59,13 @@ all_added tally_at (suc n) = with_tally (tally_at n) (all_added tally_at n)
 abbrev pub paths_of : Graph → List (Path Label)
 paths_of graph = paths (layers_of graph) 0
 
--- with a step that was refused, and with none
+-- the tallies of the paths with a refused step, and of those without one
 abbrev pub whole_tallies : Graph → List (PathCount Bool)
 whole_tallies graph =
     with_tally (tally_of (shows (is_refusal_of graph.ends.items None)) true (paths_of graph))
     (with_tally (tally_of (shows_none (is_refusal_of graph.ends.items None)) false (paths_of graph)) [])
 
--- of an end of a step, if there is one of that number
+-- the tally of the paths that show the end with this number, if it exists
 abbrev pub tally_of_end : Graph → ℕ → Option EndOfStep → Option (PathCount EndOfStep)
 tally_of_end graph number None = None
 tally_of_end graph number (Some end) = tally_of (shows (λ label. has_number number label.end)) end (paths_of graph)
@@ -73,14 +73,14 @@ tally_of_end graph number (Some end) = tally_of (shows (λ label. has_number num
 abbrev pub end_tally : Graph → ℕ → Option (PathCount EndOfStep)
 end_tally graph number = tally_of_end graph number (slice_get graph.ends.items number)
 
--- the builds that were never refused
+-- the tally of the paths on which the build is never refused
 abbrev pub never_refused_tally : Graph → ℕ → Option (PathCount ℕ)
 never_refused_tally graph build = tally_of (shows_none (is_refusal_of graph.ends.items (Some build))) build (paths_of graph)
 
 abbrev pub map_tally : Graph → ℕ → Option (PathCount ℕ)
 map_tally graph map = tally_of (shows (λ label. has_number map label.map)) map (paths_of graph)
 
--- the maps in the end; a plan without a step has one schedule, of no turn, and one map
+-- the tallies of the final maps; a plan without steps has one map, by the empty schedule
 abbrev pub map_tallies : Graph → List (PathCount ℕ)
 map_tallies graph =
     if length graph.layers.items == 1

@@ -43,11 +43,11 @@ moved_by (Take order first) = Some (record { is_back = false; order = order; fir
 moved_by (UnTake order first) = Some (record { is_back = true; order = order; first = first })
 moved_by _ = None
 
--- the block that was moved by the event after so many others, if there is one
+-- the block that the event at index `before` of the history leases or gives back, if it does
 abbrev pub moved_after : ℕ → List Event → Option Moved
 moved_after before history = option_and_then (λ (event : Event). moved_by event.act) (slice_get history before)
 
--- a list, and perhaps one more item at its end
+-- the new list is the old one, or has the given item added at its end
 abbrev pub AreWith : {X : Type 0} → List X → Option X → List X → Type 0
 AreWith items None new = new ≡ items
 AreWith items (Some item) new = (new ≡ items) ⊎ (new ≡ items ++ item ∷ [])

@@ -14,7 +14,8 @@ use Rattle.plan_states.specs.declared.step_end.EndOfStep.{EndOfStep}
 
 -- ---- how far builds are
 
--- the number of a build's steps that are done, by those of all builds; beyond the steps is the abort of giving up
+-- The number of steps that a build has done, from the list for all builds. The abort of giving up has a number beyond
+-- the steps.
 abbrev pub done_of : List ℕ → ℕ → ℕ
 done_of done build = slice_index_or done build 0
 
@@ -43,7 +44,7 @@ abbrev pub takes_many : Option PlanStep → Bool
 takes_many None = false
 takes_many (Some step) = undoes_many step
 
--- a turn of a build that has done so many steps uses up the next one, or none if that may take more turns
+-- the turn ends the build's next step, or leaves it under way if it may take several turns
 abbrev pub uses_next : Plan → List EndOfStep → ℕ → ℕ → Option ℕ → Bool
 uses_next plan ends build done None = takes_many (step_after plan build done)
 uses_next plan ends build done (Some number) = is_end_of build done (slice_get ends number)
@@ -52,12 +53,12 @@ abbrev pub is_end_refused : Option EndOfStep → Bool
 is_end_refused None = false
 is_end_refused (Some end) = is_some end.refusal
 
--- the number after a turn that has this end, or none
+-- the number of a build's next step, after a turn of it with this end or none
 abbrev pub number_with : Plan → List EndOfStep → ℕ → Option ℕ → ℕ
 number_with plan ends done None = done
 number_with plan ends done (Some number) = number_after plan.gives_up (is_end_refused (slice_get ends number)) done
 
--- the number of a build after a turn
+-- the number of a build's next step, after a turn of any build
 abbrev pub number_by : Plan → List EndOfStep → ℕ → ℕ → Label → ℕ
 number_by plan ends build done label = if build == label.build then number_with plan ends done label.end else done
 
@@ -67,12 +68,12 @@ done_after plan ends done label build = number_by plan ends build (done_of done 
 abbrev pub are_done_after : Plan → List EndOfStep → List ℕ → Label → List ℕ → Bool
 are_done_after plan ends done label after = list_all (λ build. done_of after build == done_after plan ends done label build) (range_with_len 0 8)
 
--- a turn has a map, one of so many, exactly where no build has a step left
+-- a turn has a map, with a number below `maps`, exactly if no build has a step left
 abbrev pub has_map : ℕ → Bool → Option ℕ → Bool
 has_map maps over None = not over
 has_map maps over (Some number) = over && nat_lt number maps
 
--- a turn from one state leads to the other, by their progress
+-- a turn with this label leads from progress `done` to progress `after`
 abbrev pub leads_to_state : Plan → List EndOfStep → ℕ → List ℕ → Label → List ℕ → Bool
 leads_to_state plan ends maps done label after =
     uses_next plan ends label.build (done_of done label.build) label.end
@@ -98,7 +99,7 @@ pub record IsStateWhole (plan : Plan) (ends : List EndOfStep) (maps : ℕ) (done
   pub builds : map (λ edge. edge.label.build) edges ≡ filter (has_step_left plan done) (range_with_len 0 8)
   pub lead_on : list_all (leads_on plan ends maps done next) edges ≡ true
 
--- There are states, and each is whole.
+-- The layer has at least one state, and each of its states is whole.
 pub record IsLayerWhole (plan : Plan) (ends : List EndOfStep) (maps : ℕ) (states next : List (List ℕ)) (layer : List (Vec (Edge Label) Global)) : Type 0 where
   pub some : 0 < length states
   pub as_many : length states ≡ length layer

@@ -1,4 +1,4 @@
-//! The labels on a state graph's edges, which describe builds' turns.
+//! Edge labels of a state graph, each of which describes a turn of a build.
 
 /// The label of an edge of a graph. It has the build that takes the turn, and the turn's outcome as indices into the
 /// graph's lists. `end` is the outcome of the step that the turn used up, if it used one up. `held` gives the numbers

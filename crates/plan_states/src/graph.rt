@@ -23,8 +23,8 @@ use schedule_graph::Edge;
 use std::alloc::{AllocError, Global};
 use std::collections::HashMap;
 
-/// The edges that lead from each state of one layer of a state graph. The states of a layer are those after the same
-/// number of turns.
+/// The edges from all states that a plan's runs reach after a given number of turns. Each state has its own list of
+/// edges.
 pub type Layer = Vec<Vec<Edge<Label>>>;
 
 /// The state graph of a plan, whose paths are the plan's schedules. It is a list of layers, and its first layer has one
@@ -46,7 +46,7 @@ pub struct Graph {
 #[derive(Drop)]
 pub enum Exploration {
     All(Graph),
-    /// The case that the state graph has more states than the caller allowed.
+    /// The result if the state graph has more states than the caller allowed.
     TooMany,
 }
 

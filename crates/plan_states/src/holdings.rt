@@ -1,4 +1,4 @@
-//! A table of the builds' page counts after turns, by index.
+//! A table that lists how many pages each build holds at boot or after a turn. Each entry has an index.
 ghost use Rattle.std.specs.Prelude.{◌≡◌, IfOk, IfSome, OnOk, Some, slice_get};
 ghost use Rattle.plan_states.specs.Turned.{AreWith};
 
@@ -6,8 +6,8 @@ use crate::question::PagesHeld;
 use std::alloc::{AllocError, Global};
 use std::collections::HashMap;
 
-/// An indexed table of the numbers of pages that builds hold after turns. Each entry has the page counts of all builds
-/// after a turn.
+/// An indexed table of the numbers of pages that builds hold at boot and after turns. Each entry has the page counts of
+/// all builds at one of these points.
 #[derive(Drop)]
 pub(crate) struct Holdings {
     numbers: HashMap<PagesHeld, usize>,

@@ -1,4 +1,4 @@
-//! Properties of the labels on a state graph's edges, by which schedules are counted.
+//! Properties of a state graph's edge labels, for counting schedules.
 ghost use Rattle.std.specs.Prelude.{◌≡◌, option_map};
 ghost use Rattle.plan_states.specs.LabelProperties.{has_number, is_asked, refuses_asked};
 
@@ -16,7 +16,7 @@ fn has_number(number: usize, other: Option<usize>) -> bool
     }
 }
 
-/// The property of edge labels whose turn ends a step with a given outcome. The field is the index of the outcome.
+/// The property that an edge label's turn ends a step with a given outcome. The field is the index of the outcome.
 #[derive(Clone, Copy)]
 pub(crate) struct HasEnd(pub(crate) usize);
 
@@ -30,7 +30,7 @@ impl LabelProperty<Label> for HasEnd {
     }
 }
 
-/// The property of edge labels whose turn ends a schedule with a given page map. The field is the index of the map.
+/// The property that an edge label's turn ends a schedule with a given page map. The field is the index of the map.
 #[derive(Clone, Copy)]
 pub(crate) struct HasMap(pub(crate) usize);
 
@@ -44,7 +44,7 @@ impl LabelProperty<Label> for HasMap {
     }
 }
 
-/// The property of edge labels whose turn ends with a refused step of `build`. If `build` is `None`, the step may be
+/// The property that an edge label's turn ends a step of `build` with a refusal. If `build` is `None`, the step may be
 /// one of any build.
 #[derive(Clone, Copy)]
 pub(crate) struct HasRefusal<'a> {

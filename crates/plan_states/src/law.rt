@@ -12,7 +12,7 @@ ghost use Rattle.plan_states.specs.Whole.{IsWholeGraph};
 ghost use Rattle.plan_states.specs.declared.edges.Label.{Label};
 ghost use Rattle.plan_states.specs.declared.graph.Graph.{Graph};
 
-/// The schedules that a scheduling rule allows are exactly those of a state graph's paths. This holds if the graph is
+/// Proves that a scheduling rule allows exactly the schedules of a state graph's paths. This holds if the graph is
 /// whole and the rule agrees with its paths. A rule says which of eight builds have a step left after which turns.
 pub fn every_schedule_is_a_path()
     ensures found { (plan : Plan) (graph : Graph) (left : List ℕ → ℕ → Bool) → IsWholeGraph plan graph → IsRuleOf plan graph left
@@ -21,9 +21,9 @@ pub fn every_schedule_is_a_path()
         → All (IsSchedule left []) (map builds_of_path (paths_of graph)) }
 {}
 
-/// A scheduling rule lists the same schedules as the paths of a state graph. This holds if the graph is whole and the
-/// rule agrees with its paths. The rule's list may have schedules of more turns than the graph has layers, but there
-/// are none. So a sum over the paths is the sum over all schedules.
+/// Proves that a state graph's paths give the same list of schedules as a scheduling rule. This holds if the graph is
+/// whole and the rule agrees with its paths. The rule's list may have schedules of more turns than the graph has
+/// layers, but there are none. So a sum over the paths is the sum over all schedules.
 pub fn paths_are_all_schedules()
     ensures { (plan : Plan) (graph : Graph) (left : List ℕ → ℕ → Bool) → IsWholeGraph plan graph → IsRuleOf plan graph left
         → (most : ℕ) → length graph.layers.items ≤ most + 1 → map builds_of_path (paths_of graph) ≡ schedules_after left most [] }
@@ -38,21 +38,23 @@ pub fn path_schedules_rise()
     ensures never_twice { (order : List ℕ) → is_before order order ≡ false }
 {}
 
-/// Each whole state graph yields a scheduling rule that agrees with the graph's paths. After given turns, a build has a
-/// step left by the number that these turns lead to in the graph. So of any plan the paths are all schedules by this
-/// rule.
+/// Proves that each state graph without missing turns has a matching scheduling rule. The rule agrees with the graph's
+/// paths. After given turns, a build has a step left by the number that these turns lead to in the graph. So of any
+/// plan the paths are all schedules by this rule.
 pub fn a_whole_graph_has_a_rule()
     ensures { (plan : Plan) (graph : Graph) → IsWholeGraph plan graph → IsRuleOf plan graph (own_rule plan graph) }
 {}
 
-/// On a graph's path, a build has done as many steps as its turns ended. This holds unless the plan's builds give up.
+/// Proves that a build's progress along a path is the number of its ended steps. This holds unless the plan's builds
+/// give up.
 pub fn steps_are_counted()
     ensures { (plan : Plan) (graph : Graph) (path : Path Label) (build : ℕ) → plan.gives_up ≡ false → done_by plan graph path build ≡ used_by path build }
 {}
 
-/// If each step takes one turn, counting each build's turns gives a scheduling rule. Each step takes one turn if the
-/// plan has no step `abort` or `back`, and its builds do not give up. Then a build has a step left if it had fewer
-/// turns than steps. So the paths of a whole graph are all interleavings of the builds' steps.
+/// Proves that counting a build's turns shows whether it has a step left. This holds if each step takes one turn, and
+/// gives a scheduling rule. Each step takes one turn if the plan has no step `abort` or `back`, and its builds do not
+/// give up. Then a build has a step left if it had fewer turns than steps. So the paths of a whole graph are all
+/// interleavings of the builds' steps.
 pub fn single_turns_make_a_rule()
     ensures { (plan : Plan) (graph : Graph) → IsWholeGraph plan graph → HasSingleTurns plan → IsRuleOf plan graph (by_turns plan) }
 {}
@@ -73,7 +75,7 @@ pub fn paths_end_steps_in_sequence()
         → All (λ (path : Path Label). (build : ℕ) → build < 8 → AreInSequence plan build 0 (ends_of graph.ends.items build path)) (paths_of graph) }
 {}
 
-/// Each schedule allowed by a scheduling rule has a graph path that describes its run. This holds if the rule agrees
+/// Proves that each schedule that a scheduling rule allows can be run along a graph path. This holds if the rule agrees
 /// with the paths of a whole graph, and the paths are runs from boot. Each turn ends its step as the path says, and the
 /// final map is the path's own.
 pub fn every_schedule_is_run()
@@ -81,8 +83,9 @@ pub fn every_schedule_is_run()
         → (order : List ℕ) → IsSchedule left [] order → IsRunOnPath plan graph order }
 {}
 
-/// A run along a graph path is a plan's run with the path's schedule. Both are runs from boot. If the path's last turn
-/// names a map, no build has a step left after that turn, and the map is the final map.
+/// Proves that each run along a state graph's path is a run of the plan. Both runs are from boot and have the path's
+/// schedule. If the path's last turn names a map, no build has a step left after that turn, and the map is the final
+/// map.
 pub fn runs_on_paths_are_runs()
     ensures { (plan : Plan) (graph : Graph) (path : Path Label) → IsRunFromBoot plan graph path → IsRunOf plan graph path }
 {}

@@ -1,5 +1,5 @@
-//! The check that builds with no open operations have no effect on the page map. A theorem says that the check always
-//! succeeds.
+//! Checks that builds whose reversible operations are all undone do not affect the page map. A theorem says that the
+//! check always succeeds.
 ghost use Rattle.std.specs.Prelude.{◌≡◌, true, [], IfOk, string_bytes};
 ghost use Rattle.host_ledger.specs.View.{open_of};
 ghost use Rattle.plan_replay.specs.Run.{map_text};
@@ -30,9 +30,9 @@ fn is_unseen(
     Ok(without.as_str() == map)
 }
 
-/// Whether builds with no open operations have no effect on the host's page map. The map has to stay the same if any
-/// one of these builds is left out of the history. A theorem says that it always does. The one error is that allocation
-/// failed.
+/// Whether builds whose reversible operations are all undone have no effect on the page map. The map has to stay the
+/// same if any one of these builds is left out of the history. A theorem says that it always does. The one error is
+/// that allocation failed.
 pub fn leave_nothing(
     alloc: Global,
     plan: &Plan,
@@ -45,8 +45,8 @@ pub fn leave_nothing(
 {
     for place in 0..plan.builds.len() {
         let build = BuildId::new(place as u8).unwrap();
-        let is_other_without_pages = ledger.open_above(build, 0).is_empty();
-        if is_other_without_pages && !is_unseen(alloc, plan, ledger, build, map)? {
+        let is_at_rest = ledger.open_above(build, 0).is_empty();
+        if is_at_rest && !is_unseen(alloc, plan, ledger, build, map)? {
             return Ok(false);
         }
     }

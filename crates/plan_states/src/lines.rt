@@ -139,8 +139,8 @@ fn push_give_up(
     push_shown(text, schedule_count, &tally.count, &tally.first)
 }
 
-/// Appends the lines for the abort of a build that gives up. There is a line for each outcome, and none if the plan's
-/// builds do not give up.
+/// Appends the outcomes of the abort that follows a build's refused step. There is a line for each outcome, and none if
+/// the plan's builds do not give up.
 pub(crate) fn push_give_ups(
     text: &mut String,
     plan: &Plan,
@@ -173,7 +173,7 @@ fn push_never_refused(
     Ok(())
 }
 
-/// Appends the line that counts the schedules in which a build was never refused. The line begins with `never refused`.
+/// Appends a line that counts the schedules without a refused step of a build. The line begins with `never refused`.
 /// The count may be 0.
 pub(crate) fn push_never_refused_tallies(
     text: &mut String,
@@ -192,8 +192,7 @@ pub(crate) fn push_never_refused_tallies(
     Ok(())
 }
 
-/// Appends the page map that a host has after some schedules. The line before the map has the number of these
-/// schedules.
+/// Appends a page map and the number of schedules that lead to it. The number is in the line before the map.
 pub fn push_map<K>(
     text: &mut String,
     schedule_count: &Count,

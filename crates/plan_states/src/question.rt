@@ -1,4 +1,4 @@
-//! Questions about schedules, and the turns that answer them.
+//! Yes-or-no questions about the last turn of a schedule.
 ghost use Rattle.std.specs.Prelude.{◌≡◌, sum};
 ghost use Rattle.plan_states.specs.Questions.{is_answer, is_other_without_pages, is_of_shared, has_other_without_pages, pages_of_builds, waits, end_numbered};
 ghost use Rattle.plan_states.specs.LabelProperties.{refuses_step};
@@ -109,7 +109,8 @@ fn end_numbered(ends: &[EndOfStep], number: Option<usize>) -> Option<EndOfStep>
     ends.get(number?).copied()
 }
 
-/// The property of edge labels whose turn answers `question`. A label has indices into `ends` and `held`.
+/// The property that the answer to `question` is yes for an edge label's turn. A label has indices into `ends` and
+/// `held`.
 #[derive(Clone, Copy)]
 pub(crate) struct AnswersQuestion<'a> {
     pub(crate) ends: &'a [EndOfStep],

@@ -22,8 +22,8 @@ use realm_plan::Plan;
 use realm_program::Fault;
 use std::alloc::{AllocError, Global};
 
-/// A turn that was run, with its edge label and its snapshots' indices. The snapshots are those before and after the
-/// turn.
+/// The log entry of a turn that was run. It has the label of the turn's edge, and the indices of the snapshots before
+/// and after the turn.
 #[derive(Clone, Copy)]
 pub(crate) struct LoggedTurn {
     pub(crate) label: Label,
@@ -175,7 +175,7 @@ impl RunLog {
         Ok(number)
     }
 
-    /// Runs a schedule of a plan, and checks that it leads to snapshot `at`.
+    /// Runs a schedule, and checks that the run ends in the state of snapshot `at`.
     ///
     /// Errors. `Memory`: allocation failed. `Mismatch`: the run leads to another snapshot, or some turn is of a build
     /// that has no step left then.

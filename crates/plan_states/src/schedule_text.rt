@@ -1,7 +1,7 @@
 //! The text of a schedule in a plan.
 use std::fmt;
 
-/// The text of a schedule's builds after the first. A comma and a space precede each build.
+/// The text of a schedule's turns after the first. Each turn is given by its build, after a comma and a space.
 #[derive(Clone, Copy)]
 struct MoreTurns<'a>(&'a [usize]);
 

@@ -21,14 +21,14 @@ use realm_program::Fault;
 use schedule_graph::{Edge, LabelProperty, count_all};
 use std::alloc::{AllocError, Global};
 
-/// The result of a search for a schedule whose last turn answers a question.
+/// The result of a search for a schedule whose last turn has a requested property.
 #[derive(Drop)]
 pub enum Witness {
-    /// A schedule whose last turn answers the question.
+    /// A schedule whose last turn has the requested property.
     Found(Vec<usize>),
-    /// The case that no turn of any schedule answers the question.
+    /// The result if no turn of any schedule has the requested property.
     Never,
-    /// The case that the state graph has more states than the caller allowed.
+    /// The result if the state graph has more states than the caller allowed.
     TooMany,
 }
 
@@ -151,7 +151,7 @@ fn end_of(taken: &TurnTaken, build: usize) -> Option<EndOfStep>
     })
 }
 
-/// Whether the last turn of a schedule answers a question.
+/// Whether the answer to a question about a schedule's last turn is yes.
 ///
 /// Errors. `Memory`: allocation failed. `Mismatch`: a turn before the last has no step left.
 pub fn answers(
@@ -175,8 +175,8 @@ pub fn answers(
     Ok(question.is_answer(plan.builds.len(), end, &held))
 }
 
-/// Finds the first of the shortest schedules whose last turn answers a question. The result is `TooMany` if the graph
-/// has more than `most` states.
+/// Finds the first of the shortest schedules whose last turn has a requested property. `question` asks for the
+/// property. The result is `TooMany` if the graph has more than `most` states.
 ///
 /// Errors. `Memory`: allocation failed. `Mismatch`: a run does not go on as another run said, a turn is missing in the
 /// graph, or an end or a map is there twice. None happens on a host that gives the same answers to the same calls.

@@ -1,4 +1,5 @@
-//! Snapshots of a plan's run, with all that decides further turns. A snapshot has nothing of the schedule.
+//! Takes and compares snapshots of the state of a plan's run. A snapshot has all that decides further turns, and
+//! nothing of the schedule.
 ghost use Rattle.std.specs.Prelude.{◌≡◌, ◌<◌, IfOk};
 ghost use Rattle.std.specs.Bool.{OnTrue};
 ghost use Rattle.host_ledger.specs.View.{mark_of, is_aborting};
@@ -14,8 +15,8 @@ use realm_host::{Host, Mark};
 use realm_model::Event;
 use std::alloc::{AllocError, Global};
 
-/// A build's progress, marks and abort flag, without its events. The progress is the build's cursor. A mark is the
-/// number of operations that were open at it.
+/// A build's state at one point of a run, without its events. It has the progress, the marks and the abort flag. The
+/// progress is the build's cursor. A mark is the number of operations that were open at it.
 #[derive(Clone, Copy)]
 pub(crate) struct BuildPoint {
     pub(crate) done: usize,
@@ -26,8 +27,8 @@ pub(crate) struct BuildPoint {
     pub(crate) kept: Option<u16>,
 }
 
-/// The state of a build in a snapshot: its `BuildPoint` and its events. The point has the cursor, the marks and the
-/// abort flag.
+/// One build's part of a snapshot of a plan's run. It is the build's events, and its `point` with the cursor, the marks
+/// and the abort flag.
 #[derive(Drop)]
 pub(crate) struct BuildSnapshot {
     pub(crate) point: BuildPoint,

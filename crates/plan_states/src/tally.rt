@@ -17,10 +17,10 @@ pub struct StepOutcomes {
     pub schedule_count: Count,
     /// The numbers of schedules with and without a refused step.
     pub by_refusal: Vec<PathTally<bool>>,
-    /// The number of schedules with each outcome of a step.
+    /// For each outcome of a step, the number of schedules in which it occurs.
     pub ends: Vec<PathTally<EndOfStep>>,
-    /// The number of schedules in which each build was never refused. A build has no tally if there are no such
-    /// schedules.
+    /// For each build, the number of schedules without a refused step of that build. A build has no tally if there are
+    /// no such schedules.
     pub never_refused: Vec<PathTally<usize>>,
 }
 
@@ -28,6 +28,6 @@ pub struct StepOutcomes {
 #[derive(Drop)]
 pub struct Outcomes {
     pub steps: StepOutcomes,
-    /// The number of schedules that end with each page map. Each map is given by its index.
+    /// For each page map, the number of schedules that end with it. Each map is given by its index.
     pub maps: Vec<PathTally<usize>>,
 }

@@ -148,7 +148,7 @@ fn graph_text(alloc: Global, plan: &Plan, graph: &Graph) -> Result<String, Alloc
     Ok(text)
 }
 
-/// Returns the line that reports more than `most` states. The one error is that allocation failed.
+/// Returns the line of text for a state graph with more than `most` states. The one error is that allocation failed.
 pub fn too_many_text(alloc: Global, most: usize) -> Result<String, AllocError>
     ensures { IfOk result (λ text. string_bytes text ≡ too_many_line most) }
 {

@@ -31,8 +31,8 @@ enum Shared {
     Vmids,
 }
 
-/// A key for the turns that a build has taken so far. The key is the index of all turns but the last, and the last
-/// turn's outcome, block and VMID. All else follows from these.
+/// A hash map key that identifies the turns that a build has taken so far. The key is the index of all turns but the
+/// last, and the last turn's outcome, block and VMID. All else follows from these.
 #[derive(Clone, Copy, PartialEq, Eq, Hash)]
 struct PastTurns {
     before: usize,
@@ -41,8 +41,8 @@ struct PastTurns {
     vmid: Option<u8>,
 }
 
-/// A key for a sequence of blocks that were leased or given back. The key is the index of the sequence without the last
-/// block, and that block.
+/// A hash map key that identifies a sequence of leased and returned blocks. The key is the index of the sequence
+/// without the last block, and that block.
 #[derive(Clone, Copy, PartialEq, Eq, Hash)]
 struct Moves {
     before: usize,
@@ -57,8 +57,8 @@ pub(crate) struct TurnInputs {
     shared: usize,
 }
 
-/// The outcome of a turn: the build's new state, moved block and step outcome. The block is the one leased or given
-/// back, if any.
+/// The outcome of a turn: the build's new state, and how its step ended. A block that was leased or given back is part
+/// of it too.
 #[derive(Clone, Copy)]
 pub(crate) struct TurnOutcome {
     build: BuildState,
@@ -66,8 +66,8 @@ pub(crate) struct TurnOutcome {
     pub(crate) end: Option<usize>,
 }
 
-/// A cache of turns' outcomes, by the turns' inputs. It has tables of builds' past turns, of sequences of blocks, and
-/// of the outcomes of turns and steps.
+/// A cache that maps the inputs of a turn to the turn's outcome. It has tables of builds' past turns, of sequences of
+/// blocks, and of the outcomes of turns and steps.
 #[derive(Drop)]
 pub(crate) struct Turns {
     builds: HashMap<PastTurns, usize>,

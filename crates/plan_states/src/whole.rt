@@ -319,8 +319,7 @@ fn is_at_start(states: &[StepsDone]) -> bool
     }
 }
 
-/// Whether a check confirms that a state graph has all turns of a plan. Then the first layer has the start as its only
-/// state.
+/// Whether a state graph passes the check for missing turns. Then the first layer has the start as its only state.
 pub(crate) fn is_whole(plan: &Plan, graph: &Graph) -> bool
     ensures { OnTrue result (IsWholeGraph (plan_view plan.now) graph.now) }
 {

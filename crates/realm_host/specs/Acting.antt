@@ -15,8 +15,8 @@ use Rattle.rmi_monitor.specs.Mirror.{IsAsked}
 use Rattle.host_ledger.specs.View.{HostView, world_of, open_of, used, with_event}
 use Rattle.realm_host.specs.Refusals.{no_block}
 
--- the build has the room that an operation takes, if it takes any, and can have one more operation open if the
--- operation has a reverse
+-- The build has the room that the operation takes, if any. If the operation has a reverse, the build has fewer than 512
+-- operations open.
 pub record HasRoomFor (host : HostView) (build : ℕ) (act : Act) : Type 0 where
   pub room : 0 < room_taken act → used host build + room_taken act ≤ host.capacity
   pub few_open : is_paired act ≡ true → length (open_of host build) < 512
@@ -27,7 +27,7 @@ pub record CanAct (host : HostView) (build : ℕ) (act : Act) : Type 0 where
   pub turn : IsInTurn host.history (by build act)
   pub room : HasRoomFor host build act
 
--- one event, which is legal, ends the history
+-- the operation's event is added to the history, which stays legal
 pub record IsRecorded (host : HostView) (build : ℕ) (act : Act) (new : HostView) : Type 0 where
   pub legal : IsLegal host.limits (host.history ++ by build act ∷ [])
   pub grows : new ≡ with_event host build act

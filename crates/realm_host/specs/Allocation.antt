@@ -1,4 +1,4 @@
--- The values that are allocated for a command, its operation, and the outcome.
+-- A command's operation and its outcome, and the values that are allocated for the command.
 use Rattle.std.specs.Prelude.{◌≡◌, ℕ, List, ◌∷◌, map, Option, Err, unwrap_or, slice_index}
 use Rattle.std.specs.List.{filter_map}
 use Rattle.realm_model.specs.declared.act.Act.{Act}
@@ -27,8 +27,8 @@ abbrev pub byte_read : HostView → Cmd → List ℕ → ℕ
 byte_read host (Peek page offset) (granule ∷ others) = slice_index (cell_at (world_of host).machine granule).bytes offset
 byte_read host _ _ = 0
 
--- the lowest VMID that no realm has, the next number of the build's realm, and the byte that is there; a number that
--- does not matter if there is none
+-- The lowest free VMID, the next REC number in the build's realm, and the byte that a Peek reads. A value that does
+-- not exist is replaced by a number that does not matter.
 abbrev pub allocated_for : HostView → ℕ → Cmd → List ℕ → Allocated
 allocated_for host build cmd granules = record {
   vmid = unwrap_or (lowest_vmid host) 1;
@@ -36,7 +36,7 @@ allocated_for host build cmd granules = record {
   byte = byte_read host cmd granules;
 }
 
--- the operation of a command but a Take, its page numbers turned into granules by the build's pages
+-- the operation of a command other than a Take, with its page numbers turned into the build's granules
 abbrev pub act_asked : HostView → ℕ → Cmd → Option Act
 act_asked host build cmd =
     act_of cmd (granules_named host build cmd) (allocated_for host build cmd (granules_named host build cmd))

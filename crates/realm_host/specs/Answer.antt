@@ -27,20 +27,20 @@ IsActOf host build (Ask (Take order)) act = (first : ℕ) × (act ≡ acts.Take 
 IsActOf host build (Ask cmd) act = act_asked host build cmd ≡ Some act
 IsActOf host build Undo act = option_and_then reverse_of (last_or None (open_of host build)) ≡ Some act
 
--- No refusal holds, and the one event of the operation, which is legal, ends the history.
+-- The call is not refused, and the event of its operation is added to the history, which stays legal.
 pub record IsAccepted (host : HostView) (build : ℕ) (call : Call) (act : Act) (new : HostView) : Type 0 where
   pub not_refused : refusal_of host build call ≡ None
   pub act_of : IsActOf host build call act
   pub legal : IsLegal host.limits (host.history ++ by build act ∷ [])
   pub grows : new ≡ with_event host build act
 
--- The reply is that to the operation.
+-- The command is accepted, and the reply is the one for its operation.
 pub record IsReplied (host : HostView) (build : ℕ) (cmd : Cmd) (reply : Reply) (new : HostView) : Type 0 where
   pub act : Act
   pub accepted : IsAccepted host build (Ask cmd) act new
   pub reply_is : reply ≡ reply_of (length (pages_of_build host build)) act
 
--- The reply to an undo is the kind of the operation that was open, and the number of those that are left.
+-- The undo is accepted, and answered with the undone operation's kind and the number of operations left open.
 pub record IsUndone (host : HostView) (build : ℕ) (undone : Undone) (new : HostView) : Type 0 where
   pub act : Act
   pub accepted : IsAccepted host build Undo act new

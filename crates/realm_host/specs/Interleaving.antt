@@ -28,20 +28,21 @@ pub record AreIndistinguishable (host twin : HostView) : Type 0 where
   pub pages : (build : ℕ) → pages_of_build twin build ≡ pages_of_build host build
   pub room : (build : ℕ) → used twin build ≡ used host build
 
--- Besides, each build has as much room in both, the same builds are in abort, and their marks are as deep.
+-- The hosts did the same, with equal room for builds, the same builds in abort, and equally deep marks.
 pub record DifferInInterleaving (host twin : HostView) : Type 0 where
   pub same : DidTheSame host twin
   pub capacity : twin.capacity ≡ host.capacity
   pub aborting : twin.aborting ≡ host.aborting
   pub depths : depths_of twin ≡ depths_of host
 
--- An answer to one is an answer to the other, and after it they differ in the schedule alone again.
+-- The other host may give the same answer, and afterwards the two again differ in the schedule alone.
 pub record IsAlsoAnswered (IsAnswered : HostView → Type 0) (new : HostView) : Type 0 where
   pub then : HostView
   pub answered : IsAnswered then
   pub differ : DifferInInterleaving new then
 
--- this holds of the answer to a command or an undo, to the begin of an abort, and to a whole abort
+-- If one host can give an answer to a command or an undo, so can the other. The same holds of the begin of an abort and
+-- of a whole abort.
 abbrev pub CallRevealsNothing : HostView → HostView → ℕ → Call → HostAnswer → HostView → Type 0
 CallRevealsNothing host twin build call answer new = IsAnswer host build call answer new → IsAlsoAnswered (IsAnswer twin build call answer) new
 

@@ -17,13 +17,13 @@ use Rattle.realm_host.specs.Served.{IsServed}
 
 -- ---- the mark
 
--- the build's point, which is kept from then on
+-- the mark is the build's present point, and is kept from then on
 pub record IsMarkedAs (host : HostView) (build : ℕ) (mark : Mark) (new : HostView) : Type 0 where
   pub mark_is : mark ≡ mark_now host build
   pub new_is : new ≡ with_mark host build mark
   pub kept : mark_of new build ≡ Some mark
 
--- The build's point is answered, and kept in place of an older mark.
+-- The call is refused, or returns the build's present point, which is kept in place of an older mark.
 abbrev pub IsMarked : HostView → ℕ → Result Mark Refusal → HostView → Type 0
 IsMarked host build result new =
     IsServed (build_checks (summary_of host) build) host (IsMarkedAs host build) result new
@@ -34,7 +34,7 @@ IsMarked host build result new =
 abbrev pub is_kept : HostView → ℕ → Mark → Bool
 is_kept host build mark = elim (mark_of host build) [ Some kept ↦ is_same_mark kept mark | None ↦ false ]
 
--- refusal 7
+-- refusal 7: the mark is not the one that is kept for the build
 abbrev pub not_kept : HostView → ℕ → Mark → Check
 not_kept host build mark = (not (is_kept host build mark), NothingToUndo)
 

@@ -7,8 +7,8 @@ use Rattle.realm_model.specs.Ownership.{OwnsSame}
 use Rattle.realm_model.specs.Undoing.{by}
 use Rattle.host_ledger.specs.View.{HostView, world_of}
 
--- If the last event of the whole history is an operation of the build that has a reverse, it is this operation that is
--- reversed. The new world owns the same as the world before that event.
+-- If the history ends with an operation of the build that has a reverse, this operation is undone. The new world owns
+-- the same as the world before that event.
 abbrev pub LeadsBack : HostView → ℕ → HostView → Type 0
 LeadsBack host build new =
     (before : List Event) (act : Act) → host.history ≡ before ++ by build act ∷ [] → is_paired act ≡ true

@@ -14,7 +14,7 @@ use Rattle.realm_host.specs.declared.reading.RowView.{RowView}
 
 -- ---- granules
 
--- a granule's state, the build that leases it, and the RD of its realm, if the machine has it
+-- a granule's state, the build that leases it, and its realm's RD, if the machine has the granule
 abbrev pub granule_at : World → ℕ → Option GranuleView
 granule_at world granule = if nat_lt granule (length world.machine) then Some (record {
   state = (cell_at world.machine granule).state;
@@ -44,7 +44,7 @@ rec_at world build number =
 
 -- ---- rows
 
--- the row at which the walk of an IPA granule ends, with its IPA granule
+-- the row at which a walk ends, with its level and the first IPA granule that it covers
 abbrev pub row_view : ℕ → Walk → RowView
 row_view ipa end = record { level = end.level; first = first_covered end.level ipa; entry = end.row }
 

@@ -26,7 +26,7 @@ IsWhyNot host event NoStep = (host.limits.builds ≤ event.build) ⊎ (HasRoomFo
 abbrev pub fresh_like : HostView → HostView
 fresh_like host = booted host.limits.pages host.limits.vmids host.limits.aux host.limits.builds host.capacity
 
--- A host that was booted like this has the history of another without the events of a build, and so its world without
+-- The new host is freshly booted, with the old history without the build's events. Its world is the old world without
 -- that build.
 pub record IsWithout (host : HostView) (build : ℕ) (new : HostView) : Type 0 where
   pub new_is : new ≡ record (fresh_like host) { history = erase build host.history }

@@ -22,7 +22,7 @@ use Rattle.realm_host.specs.Allocation.{outcome_asked}
 abbrev pub no_build : HostView → ℕ → Check
 no_build host build = (nat_le host.limits.builds build, NoBuild)
 
--- refusal 7
+-- refusal 7: the build has nothing open
 abbrev pub nothing_to_undo : HostView → ℕ → Check
 nothing_to_undo host build = (nat_lt (length (open_of host build)) 1, NothingToUndo)
 
@@ -33,7 +33,7 @@ is_newest_running host build = elim (last_or None (open_of host build)) [
   | None ↦ false
 ]
 
--- refusal 8
+-- refusal 8: the newest operation that the build has open created a REC that runs
 abbrev pub rec_running : HostView → ℕ → Check
 rec_running host build = (is_newest_running host build, RecRunning)
 
@@ -58,7 +58,8 @@ last_checks host build cmd = refused_by (outcome_asked host build cmd)
 
 -- ---- the checks of a call
 
--- A reverse has kept its room, and the RMM refuses only the reverse of a REC that runs.
+-- The checks of a call, in the order of their numbers. A reverse has kept its room, and the RMM refuses only the
+-- reverse of a REC that runs.
 abbrev pub checks_of_call : HostView → ℕ → Call → List Check
 checks_of_call host build (Ask cmd) = checks_of (summary_of host) build cmd ++ last_checks host build cmd
 checks_of_call host build Undo = no_build host build ∷ nothing_to_undo host build ∷ rec_running host build ∷ []

@@ -1,4 +1,4 @@
-//! Aborts: the undo of all operations that a build has open.
+//! Aborts a build: undoes all its open operations. They are those that have a reverse and are not undone yet.
 ghost use Rattle.std.specs.Prelude.{◌≡◌, ◌<◌, ◌≤◌, drop, false, length};
 ghost use Rattle.std.specs.List.{list_any};
 ghost use Rattle.std.specs.Result.{OnOk};
@@ -13,9 +13,9 @@ use host_commands::check_build;
 use page_arena::PageStore;
 
 impl<S: PageStore> Host<S> {
-    /// Begins the abort of a build, in which its open operations are undone. Returns the number of operations that the
-    /// build has open. From then on, until it has none, the host refuses each command of the build, and performs each
-    /// undo of it, whatever other builds do. If the build has nothing open, no abort begins.
+    /// Begins an abort, during which the host refuses a build's commands until all is undone. Returns the number of
+    /// operations that the build has open. From then on, until it has none, the host refuses each command of the build,
+    /// and performs each undo of it, whatever other builds do. If the build has nothing open, no abort begins.
     ///
     /// Refused with NoBuild, with Aborting, or with RecRunning if a REC of the build runs. This is no event.
     pub fn begin_abort(&mut self, build: BuildId) -> Result<u16, Refusal>
@@ -31,8 +31,9 @@ impl<S: PageStore> Host<S> {
         Ok(count)
     }
 
-    /// Undoes all open operations of a build, the newest first. Returns their number, and ends an abort that was begun.
-    /// The world is then that of the history without the build.
+    /// Undoes all open operations of a build, the newest first. They are those that have a reverse and are not undone
+    /// yet. Returns their number, and ends an abort that was begun. The world is then that of the history without the
+    /// build.
     ///
     /// Refused with NoBuild, or with RecRunning if a REC of the build runs; then nothing changes.
     pub fn abort(&mut self, build: BuildId) -> Result<u16, Refusal>

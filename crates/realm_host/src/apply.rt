@@ -56,8 +56,8 @@ fn check_ranges(act: &Act)
 }
 
 impl<S: PageStore> Host<S> {
-    /// Applies a recorded event at the end of the history. The block, the VMID or the REC number is the recorded one.
-    /// Returns whether it was applied.
+    /// Applies a recorded event to the host, and appends it to the history. The block, the VMID or the REC number is
+    /// the recorded one. Returns whether it was applied.
     ///
     /// Returns `false`, and changes nothing, if and only if one of three things holds. The history with the event would
     /// not be legal; its build has too little room left for it; or it has a reverse and its build has 512 operations

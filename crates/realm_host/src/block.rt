@@ -1,4 +1,4 @@
-//! The lease and return of blocks of pages.
+//! Leases blocks of pages to builds, and takes them back.
 ghost use Rattle.std.specs.Prelude.{◌≡◌, ℕ, ◌<◌, ◌≤◌, Some, None};
 ghost use Rattle.std.specs.List.{last_or};
 ghost use Rattle.realm_model.specs.declared.act.Act.TheVariants as acts;

@@ -1,4 +1,4 @@
-//! The host of realm builds, with its boot and functions that read its state.
+//! The `Host` type for realm builds, and functions that boot a host or read it.
 ghost use Rattle.std.specs.Prelude.{◌≡◌, ◌<◌, ◌≤◌, ℕ, length, replicate, true, IfOk, IfErr, IfSome, option_map, sum};
 ghost use Rattle.granule_addr.specs.Page.{zero_page};
 ghost use Rattle.realm_model.specs.Machine.{cell_at};

@@ -1,4 +1,5 @@
-//! The host of realm builds: commands, undo and history. Each build can be left out of the history.
+//! A host that performs commands of realm builds, undoes them, and records a history. Each build can be left out of the
+//! history.
 //!
 //! A host is seen as its limits, the room that each build has in its history, the history, which builds are in abort,
 //! and the mark of each. All else that it holds is a function of these: the world is the replay of the history, and the

@@ -1,4 +1,5 @@
-//! Marks of builds, and the rollback to a mark. A mark is a point among a build's open operations.
+//! Sets rollback points (marks) of builds, and rolls builds back to them. A mark is a point among a build's open
+//! operations.
 ghost use Rattle.std.specs.Prelude.{◌≡◌, ◌<◌};
 ghost use Rattle.std.specs.Bool.{OnTrue};
 ghost use Rattle.std.specs.List.{list_any};
@@ -32,8 +33,9 @@ impl<S: PageStore> Host<S> {
         Ok(mark)
     }
 
-    /// Checks whether a build can go back to a mark. Returns the number of operations that `rollback_to` would undo, or
-    /// the refusal that it would give. If there is no refusal, the mark is valid, and the build can go back to it.
+    /// Checks whether a build can be rolled back to a mark. Returns the number of operations that `rollback_to` would
+    /// undo, or the refusal that it would give. If there is no refusal, the mark is valid, and the build can go back to
+    /// it.
     pub fn check_back(&self, build: BuildId, mark: Mark) -> Result<u16, Refusal>
         ensures value { result ≡ way_back self.now build mark }
         ensures stands { OnOk result (IsMarkOf self.now build mark) }
@@ -50,9 +52,9 @@ impl<S: PageStore> Host<S> {
         Ok(self.ledger.open_count(build) - mark.length())
     }
 
-    /// Undoes the operations that a build opened after a mark, the newest first. Returns their number. The world then
-    /// owns the same as that of the history without what the build did after the mark; what is not the build's is
-    /// exactly the same. The mark stays.
+    /// Rolls a build back to a mark, by undoing the operations that it has open above the mark, the newest first.
+    /// Returns their number. The world then owns the same as that of the history without what the build did after the
+    /// mark; what is not the build's is exactly the same. The mark stays.
     ///
     /// Refused with NoBuild or Aborting. Refused with NothingToUndo if this is not the mark that is kept for the build,
     /// and with RecRunning if an operation above it created a REC that runs. Then nothing changes.

@@ -136,7 +136,8 @@ impl<S: PageStore> Host<S> {
         })
     }
 
-    /// Returns the open operations of a build, the newest last. The list is empty if there is no such build.
+    /// Returns the open operations of a build, the newest last. They are those that have a reverse and are not undone
+    /// yet. The list is empty if there is no such build.
     pub fn open_acts(&self, build: BuildId) -> &[Act]
         ensures { result.now ≡ open_of self.now build }
     {
@@ -147,8 +148,8 @@ impl<S: PageStore> Host<S> {
         }
     }
 
-    /// Whether a build's newest open operation created a running REC. Such an operation cannot be undone now. False if
-    /// there is no such build.
+    /// Whether a build's newest open operation created a running REC. Such an operation cannot be undone now. An
+    /// operation is open if it has a reverse and is not undone yet. False if there is no such build.
     pub fn is_newest_running(&self, build: BuildId) -> bool
         ensures { result ≡ is_newest_running self.now build }
     {
@@ -168,8 +169,8 @@ impl<S: PageStore> Host<S> {
         self.ledger.has_build(build) && self.ledger.is_aborting(build)
     }
 
-    /// Returns a build's last mark, if there is one and it is still valid. `check_back` says whether the build can go
-    /// back to it now.
+    /// Returns a build's last mark (rollback point), if it has one that is still valid. `check_back` says whether the
+    /// build can go back to it now.
     pub fn kept_mark(&self, build: BuildId) -> Option<Mark>
         ensures value { result ≡ mark_of self.now build }
         ensures stands { IfSome result (IsMarkOf self.now build) }

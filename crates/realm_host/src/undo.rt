@@ -1,4 +1,4 @@
-//! The undo: the reverse of a build's newest open operation.
+//! Undoes a build's newest open operation: the newest one that has a reverse and is not undone yet.
 ghost use Rattle.std.specs.Prelude.{◌≡◌, ◌<◌, IfOk};
 ghost use Rattle.std.specs.Result.{OnOk};
 ghost use Rattle.realm_model.specs.History.{IsLegal};
@@ -18,8 +18,9 @@ use page_arena::PageStore;
 use realm_model::{Act, kind_of};
 
 impl<S: PageStore> Host<S> {
-    /// Reverses the newest open operation of a build. What other builds did since does not matter. Returns the kind of
-    /// the operation, and the number of operations that are left open.
+    /// Undoes the newest open operation of a build: the newest one that has a reverse and is not undone yet. What other
+    /// builds did since does not matter. Returns the kind of the operation, and the number of operations that are left
+    /// open.
     ///
     /// Refused with NoBuild, with NothingToUndo if the build has nothing open, or with RecRunning if that operation
     /// created a REC that runs; then nothing changes. An undo right after the operation that it reverses leads back to

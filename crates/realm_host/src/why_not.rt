@@ -13,8 +13,8 @@ pub enum WhyNot {
     /// the event has a reverse and the build already has 512 open operations.
     #[error("its build has not the room that it takes")]
     NoRoom,
-    /// A reverse of an operation that cannot be undone now. The operation is not the build's newest open operation, or
-    /// created a REC that runs.
+    /// An event that would undo an operation which cannot be undone now. The operation is not the build's newest open
+    /// operation, or created a REC that runs.
     #[error("it is not the reverse of the newest act that its build has open")]
     NotNewest,
     /// An event that the model's rules do not allow next.

@@ -1,4 +1,4 @@
-//! Applies a history without one build's events to a new host.
+//! Applies a history to a new host, leaving out the events of one build.
 ghost use Rattle.std.specs.Prelude.{◌≡◌};
 ghost use Rattle.realm_host.specs.Recorded.{fresh_like, IsWithout};
 
@@ -7,8 +7,8 @@ use granule_addr::BuildId;
 use host_ledger::HostLedger;
 use page_arena::PageStore;
 
-/// Applies a history without a build's events to a fresh host. `ledger` has the history. The fresh host has just been
-/// booted, with the same settings and as many pages. Each event is accepted in turn. The host then has the history
+/// Applies a history to a fresh host, leaving out one build's events. `ledger` has the history. The fresh host has just
+/// been booted, with the same settings and as many pages. Each event is accepted in turn. The host then has the history
 /// without the build, and the world without it.
 pub fn apply_without<S: PageStore>(ledger: &HostLedger, build: BuildId, fresh: &mut Host<S>)
     requires { fresh.old ≡ fresh_like ledger.now }

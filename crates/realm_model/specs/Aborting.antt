@@ -15,24 +15,24 @@ use Rattle.realm_model.specs.Undoing.{reverses, IsUndoneNext}
 abbrev pub IsOthersOrReverse : ℕ → Event → Type 0
 IsOthersOrReverse build event = event.build ≡ build → IsTrue (is_reverse event.act)
 
--- a build at rest stays so
+-- A build at rest, with no REC running, remains at rest after another build's event or a reverse.
 abbrev pub StaysAtRest : Limits → World → ℕ → Event → World → Type 0
 StaysAtRest limits world build event next =
     IsAtRest (realm_of build world) → IsOthersOrReverse build event → step limits world event ≡ Some next → IsAtRest (realm_of build next)
 
--- After a history in which an abort of the build began, and what came later:
+-- An abort of the build began after `history`, and the events `later` have come since:
 pub record IsAborting (limits : Limits) (history later : List Event) (build : ℕ) (world : World) : Type 0 where
   -- the build is at rest;
   pub rest : IsAtRest (realm_of build world)
   -- the newest operation that it has open can be undone next;
   pub next : (act : Act) → last_or None (open_entries build (history ++ later)) ≡ Some act → IsUndoneNext limits (history ++ later) build act
-  -- its events since, and then the reverses of what is open, are the reverses of all that was open, the newest first;
+  -- its operations in `later`, then the reverses still to come, reverse all that was open, the newest first;
   pub undone : acts_of build later ++ reverses (reverse (open_entries build (history ++ later))) ≡ reverses (reverse (open_entries build history))
-  -- and with nothing open, the world is that of the others' events, before and since.
+  -- and once nothing is open, the other builds' events, in `history` and `later`, lead to the world.
   pub others : erase build (history ++ later) ≡ erase build history ++ erase build later
   pub no_trace : open_entries build (history ++ later) ≡ [] → replay limits (erase build history ++ erase build later) ≡ Some world
 
--- an abort goes on like this if the build is at rest when it begins
+-- IsAborting holds if the build was at rest when the abort began and has since performed only reverses.
 abbrev pub AbortGoesOn : Limits → List Event → List Event → ℕ → World → World → Type 0
 AbortGoesOn limits history later build begun world =
     IsAtRest (realm_of build begun) → All (IsOthersOrReverse build) later → IsAborting limits history later build world

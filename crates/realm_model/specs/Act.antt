@@ -39,7 +39,7 @@ is_command (Take order first) = false
 is_command (UnTake order first) = false
 is_command _ = true
 
--- the build that leases the granules that an operation of a build names: none for a Take, else the build itself
+-- the lease that an operation requires on its granules: none for a Take, else that of its build
 abbrev pub holder : ℕ → Act → Option ℕ
 holder build (Take order first) = None
 holder build _ = Some build

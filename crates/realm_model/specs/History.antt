@@ -60,7 +60,7 @@ pages_of build history = flat_map pages_held (open_entries build history)
 
 -- ---- replay
 
--- step after step
+-- the world after the events, one step for each, or None if one of them is no step
 unfoldable pub after : Limits → List Event → World → Option World
 after limits [] world = Some world
 after limits (event ∷ events) world = option_and_then (after limits events) (step limits world event)
@@ -71,12 +71,12 @@ replay limits history = after limits history (opening limits)
 
 -- ---- legal histories
 
--- a reverse operation after a history is that of the newest operation that its build has open
+-- if the event is a reverse, it undoes the newest operation that its build then has open
 abbrev pub IsInTurn : List Event → Event → Type 0
 IsInTurn before event =
     IsTrue (is_reverse event.act) → option_and_then reverse_of (last_or None (open_entries event.build before)) ≡ Some event.act
 
--- each of the events, after those before it
+-- each of the events is in turn after the history `before` and the events that precede it
 abbrev pub AllInTurn : List Event → List Event → Type 0
 AllInTurn before [] = Unit {0}
 AllInTurn before (event ∷ events) = IsInTurn before event × AllInTurn (before ++ event ∷ []) events

@@ -49,13 +49,13 @@ abbrev pub GivesTo : Act → Act → Type 0
 GivesTo act taker =
     Meet (granules_given_back act) (granules_taken taker) ⊎ Meet (vmids_given_back act) (vmids_taken taker)
 
--- If one event can be followed by another, the other can come first, unless it takes what the one gives back. Either
--- way the world is the same.
+-- The event `other` can come before `one` exactly if it takes nothing that `one` gives back. If it can, both sequences
+-- lead to the same world.
 pub record Commute (limits : Limits) (history : List Event) (one other : Event) : Type 0 where
   pub other_first : IsLegal limits (history ++ other ∷ one ∷ []) ↔ ¬ GivesTo one.act other.act
   pub same_world : IsLegal limits (history ++ other ∷ one ∷ []) → replay limits (history ++ other ∷ one ∷ []) ≡ replay limits (history ++ one ∷ other ∷ [])
 
--- two events of different builds commute
+-- two events of different builds commute if they are legal in the sequence given
 abbrev pub EventsCommute : Limits → List Event → Event → Event → Type 0
 EventsCommute limits history one other =
     one.build ≢ other.build → IsLegal limits (history ++ one ∷ other ∷ []) → Commute limits history one other

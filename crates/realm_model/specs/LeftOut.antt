@@ -1,4 +1,4 @@
--- The rest of a history without a build: others keep their room, and each of its events is accepted anew.
+-- A history without a build's events: the other builds keep their room, and each event is accepted again.
 use Rattle.std.specs.Prelude.{◌≡◌, ◌≢◌, ℕ, ◌+◌, ◌<◌, ◌≤◌, true, List, [], ◌∷◌, ◌++◌, length, take, Some}
 use Rattle.realm_model.specs.declared.act.Event.{Event}
 use Rattle.realm_model.specs.Machine.{Limits}
@@ -8,18 +8,18 @@ use Rattle.realm_model.specs.Step.{step}
 use Rattle.realm_model.specs.History.{erase, open_entries, replay, IsInTurn}
 use Rattle.realm_model.specs.Room.{used_room, room_taken}
 
--- In the history without a build, another one has open what it had, and has used as much of its room.
+-- Without the events of a build, another build has the same operations open and the same room used.
 pub record KeepsItsRoom (history : List Event) (world : World) (build other : ℕ) : Type 0 where
   pub left_open : open_entries other (erase build history) ≡ open_entries other history
   pub room : used_room other (erase build history) (without world build) ≡ used_room other history world
 
--- this holds of each build but the one that is left out
+-- each build other than the one left out keeps its open operations and its used room
 abbrev pub OthersKeepTheirRoom : List Event → World → ℕ → ℕ → Type 0
 OthersKeepTheirRoom history world build other = build ≢ other → KeepsItsRoom history world build other
 
--- An event is accepted after a history in which the room of each build is `capacity` events and at most `most` open
--- operations. It is in turn and a step, its build has the room that it takes, and can have its operation open if that
--- has a reverse.
+-- An event is accepted after a history, with `capacity` entries and `most` open operations allowed to each build. It is
+-- in turn and a step, and its build has the room that it takes. If its operation has a reverse, the build has fewer
+-- than `most` operations open before.
 pub record IsAccepted (limits : Limits) (capacity most : ℕ) (before : List Event) (event : Event) : Type 0 where
   pub world : World
   pub world_is : replay limits before ≡ Some world
@@ -29,19 +29,18 @@ pub record IsAccepted (limits : Limits) (capacity most : ℕ) (before : List Eve
   pub next : World
   pub stepped : step limits world event ≡ Some next
 
--- each of the events, after those before it
+-- each of the events is accepted after the history `before` and the events that precede it
 abbrev pub AllAccepted : Limits → ℕ → ℕ → List Event → List Event → Type 0
 AllAccepted limits capacity most before [] = Unit {0}
 AllAccepted limits capacity most before (event ∷ events) =
     IsAccepted limits capacity most before event × AllAccepted limits capacity most (before ++ event ∷ []) events
 
--- No build but the one that is left out has used more than its room, or had more than `most` operations open at any
--- time.
+-- Each other build has used at most `capacity` entries and has never had more than `most` operations open.
 pub record OthersHaveRoom (capacity most : ℕ) (history : List Event) (world : World) (build : ℕ) : Type 0 where
   pub used : (other : ℕ) → build ≢ other → used_room other history world ≤ capacity
   pub few_open : (other n : ℕ) → build ≢ other → length (open_entries other (take n history)) ≤ most
 
--- If the other builds have room, each event of what is left is accepted in turn, from nothing on.
+-- If the other builds have room, each event of the history without the build is accepted in sequence.
 abbrev pub WhatIsLeftIsAccepted : Limits → ℕ → ℕ → List Event → World → ℕ → Type 0
 WhatIsLeftIsAccepted limits capacity most history world build =
     OthersHaveRoom capacity most history world build → AllAccepted limits capacity most [] (erase build history)

@@ -10,7 +10,7 @@ use Rattle.realm_model.specs.declared.states.RealmState.{RealmState}
 use Rattle.realm_model.specs.declared.states.RecState.{RecState}
 use Rattle.realm_model.specs.Rows.{Rows}
 
--- The numbers of pages, VMIDs, auxiliary granules of a REC and builds of a machine.
+-- A machine's numbers of pages, of VMIDs, of auxiliary granules for each REC, and of builds.
 pub record Limits : Type 0 where
   pub pages : ℕ
   pub vmids : ℕ
@@ -50,7 +50,7 @@ blank = record { state = Undelegated; realm = None; bytes = zero_page; descripto
 abbrev pub left : Cell
 left = record { state = Delegated; realm = None; bytes = zero_page; descriptor = None }
 
--- a granule in a state of a realm, with a page that counts as zero
+-- a granule in this state that belongs to the realm with this RD; its page is zero
 abbrev pub held : GranuleState → ℕ → Cell
 held state rd = record { state = state; realm = Some rd; bytes = zero_page; descriptor = None }
 
@@ -61,7 +61,7 @@ Machine = List Cell
 abbrev pub cell_at : Machine → ℕ → Cell
 cell_at machine granule = slice_index_or machine granule blank
 
--- A granule as the command that names it sees it.
+-- A granule as a command gets it: its number and its cell.
 pub record Seen : Type 0 where
   pub number : ℕ
   pub cell : Cell

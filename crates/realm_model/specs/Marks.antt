@@ -25,7 +25,8 @@ pub record IsValidMark (mark : Mark) (history : List Event) : Type 0 where
   pub depth : length (open_entries mark.build (take mark.place history)) ≡ mark.depth
   pub since : (n : ℕ) → mark.place ≤ n → mark.depth ≤ length (open_entries mark.build (take n history))
 
--- after one more event it remains valid, unless less is open now
+-- A mark inside the history is valid after one more event exactly if it was valid before and its build then has at
+-- least `depth` operations open.
 abbrev pub StaysValid : Mark → List Event → Event → Type 0
 StaysValid mark history event =
     mark.place ≤ length history → IsValidMark mark (history ++ event ∷ []) ↔ (IsValidMark mark history × (mark.depth ≤ length (open_entries mark.build (history ++ event ∷ []))))
@@ -34,11 +35,11 @@ StaysValid mark history event =
 abbrev pub erase_after : ℕ → ℕ → List Event → List Event
 erase_after build place history = take place history ++ erase build (drop place history)
 
--- the operations that the build has opened above the mark
+-- the operations that the build has open above the mark
 abbrev pub above : Mark → List Event → List Act
 above mark history = drop mark.depth (open_entries mark.build history)
 
--- all of it undone, the newest first
+-- the events that reverse the open operations above the mark, the newest first
 abbrev pub rolling_back : Mark → List Event → List Event
 rolling_back mark history = map (by mark.build) (reverses (reverse (above mark history)))
 

@@ -14,11 +14,11 @@ abbrev pub makes_realm : Act → Bool
 makes_realm (Realm rd root vmid) = true
 makes_realm _ = false
 
--- the operation that creates a realm with the attributes of a row, at an RD
+-- the operation that creates a realm with this RD, and with the row's starting tables and VMID
 abbrev pub maker : ℕ → RealmRow → Act
 maker rd realm = Realm rd realm.root realm.vmid
 
--- the operation that creates a realm, if there is a realm
+-- the operation that created the realm, alone in a list; the empty list if there is no realm
 abbrev pub makers : Option Seen → List Act
 makers None = []
 makers (Some rd) = elim rd.cell.descriptor [ Some realm ↦ maker rd.number realm ∷ [] | None ↦ [] ]
@@ -33,12 +33,12 @@ abbrev pub uses_vmid : ℕ → Act → Bool
 uses_vmid vmid (Realm rd root v) = v == vmid
 uses_vmid vmid _ = false
 
--- A VMID is in use exactly when a build has a Realm operation with it open.
+-- A VMID is in use exactly when some build has open a Realm operation with that VMID.
 abbrev pub VmidIsOpen : List Event → World → ℕ → Type 0
 VmidIsOpen history world vmid =
     Contains (used_vmids world.machine) vmid ↔ ((build : ℕ) × IsTrue (list_any (uses_vmid vmid) (open_entries build history)))
 
--- The number of the next REC of a build's realm is at most the number of the build's events.
+-- The next REC number of a build's realm is at most the count of the build's events.
 abbrev pub NumbersAreFew : List Event → World → ℕ → Type 0
 NumbersAreFew history world build =
     (rd : Seen) (realm : RealmRow) → realm_of build world ≡ Some rd → rd.cell.descriptor ≡ Some realm → realm.next ≤ length (acts_of build history)

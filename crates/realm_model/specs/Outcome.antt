@@ -69,7 +69,7 @@ abbrev pub realm_is : Option Seen → (Seen → RealmRow → Bool) → Bool
 realm_is None test = false
 realm_is (Some rd) test = elim rd.cell.descriptor [ Some realm ↦ test rd realm | None ↦ false ]
 
--- a block of order 0 to 9 begins there
+-- the order is 0 to 9, and a block of that order can begin at the granule
 abbrev pub is_block_start : ℕ → ℕ → Bool
 is_block_start order first = nat_le order 9 && first % 2 ^ order == 0
 
@@ -80,8 +80,8 @@ is_root a b = a.first == b.first && a.width == b.width
 abbrev pub leads_to : Option Row → ℕ → Bool
 leads_to row granule = elim row [ Some r ↦ option_eq nat_eq r.granule (Some granule) | None ↦ false ]
 
--- The ranges of an operation's numbers that no command checks: a block begins where one may, values are bytes, offsets
--- are inside a page.
+-- The numbers that no command checks are in range. A block begins where one may, values are bytes, offsets are inside a
+-- page.
 abbrev pub is_in_range : Act → Bool
 is_in_range (Take order first) = is_block_start order first
 is_in_range (UnTake order first) = is_block_start order first
@@ -90,9 +90,9 @@ is_in_range (Peek granule offset byte) = nat_lt offset 4096
 is_in_range (Poke number ipa offset value) = nat_lt offset 4096 && nat_lt value 256
 is_in_range _ = true
 
--- The agreement of an operation's own fields with the machine, by the realm of its build and the granules that it
--- names. A block that is given back is UNDELEGATED. The byte of a Peek is the one in the page. A build has one realm at
--- most. A reverse names what its command removes. A REC gets the next number.
+-- An operation's own fields agree with its build's realm and with the granules that it names. A block that is given
+-- back is UNDELEGATED. The byte of a Peek is the one in the page. A build has one realm at most. A reverse names what
+-- its command removes. A REC gets the next number.
 unfoldable pub fits : Act → Option Seen → List Seen → Bool
 fits (UnTake order first) realm gs = list_all is_undelegated gs
 fits (Peek granule offset byte) realm gs = list_all (λ g. slice_index g.cell.bytes offset == byte) gs

@@ -22,7 +22,7 @@ mapping state granule = record { state = state; granule = granule }
 abbrev pub mapping_of_row : Row → Mapping
 mapping_of_row row = mapping row.state row.granule
 
--- Two realms have the same VMID, root, RECs and mappings.
+-- Two realms have the same VMID, root and mappings, and RECs with the same numbers and granules.
 pub record SameRealm (r s : RealmRow) : Type 0 where
   pub vmid : r.vmid ≡ s.vmid
   pub root : r.root ≡ s.root

@@ -7,7 +7,7 @@ use Rattle.realm_model.specs.declared.act.RealmAndRec.{RealmAndRec}
 use Rattle.realm_model.specs.Machine.{RealmRow, RecRow, Seen}
 use Rattle.realm_model.specs.World.{World, realm_of}
 
--- the number of the REC that an operation names, which has to be there already
+-- the number by which an operation names a REC that already exists
 abbrev pub rec_named : Act → Option ℕ
 rec_named (UnRec granule auxiliaries number) = Some number
 rec_named (Enter number) = Some number
@@ -15,7 +15,7 @@ rec_named (Exit number) = Some number
 rec_named (Poke number ipa offset value) = Some number
 rec_named _ = None
 
--- the granule of a realm's REC of that number
+-- the granule of the realm's REC with this number
 abbrev pub rec_granule : Option Seen → ℕ → Option ℕ
 rec_granule realm number =
     option_map (λ (rec : RecRow). rec.granule)
@@ -25,7 +25,7 @@ rec_granule realm number =
 abbrev pub rd_of : ℕ → World → Option ℕ
 rd_of build world = option_map (λ (rd : Seen). rd.number) (realm_of build world)
 
--- if a number is given, `rec` is the granule of the realm's REC of that number, or None if there is none
+-- if a number is given, `rec` is the granule of the REC with it, or None without one
 abbrev pub IsRecOf : Option Seen → Option ℕ → Option ℕ → Type 0
 IsRecOf realm None rec = Unit {0}
 IsRecOf realm (Some number) rec = rec ≡ rec_granule realm number

@@ -10,7 +10,7 @@ use Rattle.realm_model.specs.World.{World}
 use Rattle.realm_model.specs.Sound.{mapping_at, is_host_state, is_rd_state, IsSoundRows, IsFull, HasEmptyRows, IsZeroed}
 use Rattle.realm_model.specs.Roles.{Role, target, is_role_state, HasRole}
 
--- an RD granule has a realm
+-- the granule is the RD of this realm
 abbrev pub IsRealmAt : World → ℕ → RealmRow → Type 0
 IsRealmAt world rd realm = (cell_at world.machine rd).descriptor ≡ Some realm
 
@@ -29,15 +29,15 @@ pub record IsReachable (limits : Limits) (world : World) : Type 0 where
   pub itself : (rd : ℕ) (realm : RealmRow) → IsRealmAt world rd realm → (cell_at world.machine rd).realm ≡ Some rd
   pub one : (g h : ℕ) (realm other : RealmRow) → IsRealmAt world g realm → IsRealmAt world h other
       → slice_get world.leases g ≡ slice_get world.leases h → g ≡ h
-  -- A VMID is in range, and of one realm alone.
+  -- Each realm's VMID is in range, and no other realm has it.
   pub vmid : (rd : ℕ) (realm : RealmRow) → IsRealmAt world rd realm → (1 ≤ realm.vmid) × (realm.vmid ≤ limits.vmids)
   pub vmids : (g h : ℕ) (realm other : RealmRow) → IsRealmAt world g realm → IsRealmAt world h other → realm.vmid ≡ other.vmid → g ≡ h
   -- A realm has one of the widths that realms may have, and its starting tables begin at a multiple of their count.
   pub width : (rd : ℕ) (realm : RealmRow) → IsRealmAt world rd realm → is_width realm.root.width ≡ true
   pub aligned : (rd : ℕ) (realm : RealmRow) → IsRealmAt world rd realm → realm.root.first % start_count realm.root.width ≡ 0
-  -- Rows have their shape, and a TABLE row above them. None of the starting tables or of a table is missing, so every
-  -- walk ends at a row. Rows of unprotected IPAs are UNASSIGNED and EMPTY, and TABLE rows count as EMPTY. The numbers
-  -- of RECs are below the next.
+  -- Each row has the shape of its state and, below level 1, a TABLE row above. No row of a starting table or of another
+  -- table is missing, so every walk ends at a row. Rows of unprotected IPAs are UNASSIGNED and EMPTY, and TABLE rows
+  -- count as EMPTY. Each REC's number is below the next.
   pub rows : (rd : ℕ) (realm : RealmRow) → IsRealmAt world rd realm → IsSoundRows realm.root.width (mapping_at realm.rows)
   pub full : (rd : ℕ) (realm : RealmRow) → IsRealmAt world rd realm → IsFull realm.root.width (mapping_at realm.rows)
   pub walks : (rd : ℕ) (realm : RealmRow) → IsRealmAt world rd realm → (ipa level : ℕ) → ipa < served_space realm.root.width → 1 ≤ level → is_some (walk realm.rows ipa level) ≡ true

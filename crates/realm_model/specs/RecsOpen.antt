@@ -13,7 +13,7 @@ abbrev pub rec_made : Act → List (ℕ × ℕ)
 rec_made (Rec granule auxiliaries number) = (number, granule) ∷ []
 rec_made _ = []
 
--- the numbers and granules of the RECs that a build has open, in the order of their creation
+-- the numbers and granules of the RECs that a build's open operations created, the oldest first
 abbrev pub recs_open : ℕ → List Event → List (ℕ × ℕ)
 recs_open build history = flat_map rec_made (open_entries build history)
 
@@ -29,7 +29,7 @@ number_at recs place = (get_or recs place (0, 0)).0
 abbrev pub IsRising : List (ℕ × ℕ) → Type 0
 IsRising recs = (i j : ℕ) → i < j → j < length recs → number_at recs i < number_at recs j
 
--- The RECs of a build's realm are those that it has open, and their numbers rise.
+-- The RECs of a build's realm are those that its open operations created, and their numbers rise.
 pub record RecsAreOpen (history : List Event) (world : World) (build : ℕ) : Type 0 where
   pub granules : (number : ℕ) → rec_granule (realm_of build world) number ≡ granule_in (recs_open build history) number
   pub rising : IsRising (recs_open build history)

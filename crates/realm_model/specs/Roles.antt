@@ -41,7 +41,7 @@ target realm (AtRow place) = row_target (mapping_at realm.rows place)
 target realm (AsRec number) = option_map (λ rec. (rec.0, InRec)) (option_map granules_of_rec (get realm.recs number))
 target realm (AsAux number index) = aux_target (option_map granules_of_rec (get realm.recs number)) index
 
--- the states that go with roles
+-- the state goes with some role: it is REC, REC_AUX, DATA or RTT
 abbrev pub is_role_state : GranuleState → Bool
 is_role_state Undelegated = false
 is_role_state Delegated = false

@@ -33,6 +33,6 @@ pub record TakesRoom (history : List Event) (world : World) (event : Event) (nex
 abbrev pub RoomIsTaken : Limits → List Event → World → Event → World → Type 0
 RoomIsTaken limits history world event next = IsInTurn history event → step limits world event ≡ Some next → TakesRoom history world event next
 
--- So the room that a build has used is the sum of the room of its operations.
+-- The room that a build has used is the sum of the room that its operations took.
 abbrev pub RoomIsSum : List Event → World → ℕ → Type 0
 RoomIsSum history world build = used_room build history world ≡ sum_by room_taken (acts_of build history)

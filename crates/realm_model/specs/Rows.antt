@@ -1,4 +1,5 @@
--- The translation of a realm: the row that covers an IPA granule. It has no tables. RMM 1.0, Realm Translation Table.
+-- The translation of a realm, as rows by level and IPA granule, and not as tables of entries. RMM 1.0, Realm
+-- Translation Table.
 use Rattle.std.specs.Prelude.{ℕ, zero, suc, ◌+◌, ◌-◌, ◌*◌, ◌/◌, ◌%◌, ◌==◌, ◌&&◌, ◌||◌, Bool, true, false, not, nat_lt, nat_le, Option, Some, None, if◌then◌else◌}
 use Rattle.std.specs.Ordering.{nat_cmp, on, then_cmp}
 use Rattle.std.specs.declared.cmp.Ordering.{Ordering}
@@ -10,8 +11,8 @@ use Rattle.realm_model.specs.declared.states.EntryState.TheVariants.{Unassigned,
 use Rattle.realm_model.specs.declared.states.Ripas.{Ripas}
 use Rattle.realm_model.specs.declared.states.Ripas.TheVariants.{Empty, Ram, Destroyed}
 
--- An entry of the translation, at its place. RMM 1.0, RTT entry. A row that is ASSIGNED or TABLE has the granule that
--- it leads to. A TABLE row counts as EMPTY.
+-- An entry of a realm's translation. RMM 1.0, RTT entry. A row that is ASSIGNED or TABLE has the granule that it leads
+-- to. A TABLE row counts as EMPTY.
 pub record Row : Type 0 where
   pub state : EntryState
   pub ripas : Ripas
@@ -36,7 +37,7 @@ pub record Walk : Type 0 where
   pub level : ℕ
   pub row : Row
 
--- A walk towards a level ends at the row of the greatest level, at most this one, that covers the IPA granule.
+-- A walk ends at the deepest row that covers the IPA granule, at the given level or above.
 unfoldable pub walk : Rows → ℕ → ℕ → Option Walk
 walk rows ipa zero = None
 walk rows ipa (suc level) = elim (row_at rows (suc level) ipa) [
@@ -73,7 +74,7 @@ is_assigned row = is_assigned_state row.state
 abbrev pub is_table : Row → Bool
 is_table row = is_table_state row.state
 
--- the granule of the table that a row leads to, and that of the page of data
+-- the table that a TABLE row leads to; for `data_of`, the page that an ASSIGNED row leads to
 abbrev pub table_of : Row → Option ℕ
 table_of row = if is_table row then row.granule else None
 
@@ -88,22 +89,22 @@ unmapped_ripas Destroyed = Destroyed
 
 -- ---- several rows at once
 
--- The `n` rows of the level from an IPA granule on are there, and the test holds of each. Commands ask only for rows
--- below a table, and these are all there, so no command is refused for a missing row.
+-- All `n` rows of a level from an IPA granule on exist, and the test holds of each. Commands ask only for rows of a
+-- table, and these all exist, so no command is refused for a missing row.
 unfoldable pub all_rows : (Row → Bool) → Rows → ℕ → ℕ → ℕ → Bool
 all_rows test rows level first zero = true
 all_rows test rows level first (suc n) =
     elim (get rows (level, first + n * covered_count level)) [ Some row ↦ test row | None ↦ false ]
     && all_rows test rows level first n
 
--- the rows with `n` rows of the level from an IPA granule on, each made from the row before
+-- the rows after `change` is applied to `n` rows of a level, from an IPA granule on
 unfoldable pub put_rows : (Option Row → Row) → Rows → ℕ → ℕ → ℕ → Rows
 put_rows change rows level first zero = rows
 put_rows change rows level first (suc n) =
     let place : ℕ × ℕ = (level, first + n * covered_count level) in
     insert (put_rows change rows level first n) place (change (get rows place))
 
--- the rows without those of the level at `count` IPA granules
+-- the rows without those of a level that are at `count` IPA granules from `first` on
 unfoldable pub drop_rows : Rows → ℕ → ℕ → ℕ → Rows
 drop_rows rows level first count =
     retain_keys rows (λ place. not (place.0 == level && nat_le first place.1 && nat_lt place.1 (first + count)))
@@ -124,16 +125,17 @@ unfoldable pub with_table : Rows → ℕ → ℕ → ℕ → Ripas → Rows
 with_table rows level ipa granule ripas =
     put_rows (λ _. unassigned ripas) (put_row rows (level - 1) ipa (table granule)) level ipa 512
 
--- The rows without that table: its own are removed, and the row above is DESTROYED. RMM 1.0, RMI_RTT_DESTROY.
+-- The rows without a table: its own are removed, and the row above becomes UNASSIGNED and DESTROYED. RMM 1.0,
+-- RMI_RTT_DESTROY.
 unfoldable pub without_table : Rows → ℕ → ℕ → Rows
 without_table rows level ipa =
     put_row (drop_rows rows level ipa (512 * covered_count level)) (level - 1) ipa (unassigned Destroyed)
 
--- no row of that table is ASSIGNED or TABLE
+-- all rows of the table of a level at an IPA granule are UNASSIGNED
 unfoldable pub is_table_unused : Rows → ℕ → ℕ → Bool
 is_table_unused rows level ipa = all_rows is_unassigned rows level ipa 512
 
--- A row that becomes RAM. Commands change only rows that are there, so the first case never comes.
+-- A row with its RIPAS changed to RAM. Commands change only rows that exist, so the first case never comes.
 abbrev pub as_ram : Option Row → Row
 as_ram None = unassigned Ram
 as_ram (Some row) = record row { ripas = Ram }

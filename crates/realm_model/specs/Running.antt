@@ -9,16 +9,16 @@ use Rattle.realm_model.specs.Command.Check.{is_ready}
 use Rattle.realm_model.specs.Outcome.{realm_is}
 use Rattle.realm_model.specs.World.{World, realm_of}
 
--- the REC is there, and RUNNING
+-- the REC exists and is RUNNING
 abbrev pub is_rec_running : Option RecRow → Bool
 is_rec_running None = false
 is_rec_running (Some rec) = not (is_ready rec.state)
 
--- in the realm of a build, the REC of a number runs
+-- the realm has a REC with this number, and it is RUNNING
 abbrev pub rec_runs : Option Seen → ℕ → Bool
 rec_runs realm number = realm_is realm (λ rd row. is_rec_running (get row.recs number))
 
--- the REC that an operation created runs
+-- the operation created a REC, and that REC is RUNNING
 abbrev pub is_running : Option Seen → Act → Bool
 is_running realm (Rec granule auxiliaries number) = rec_runs realm number
 is_running realm _ = false
@@ -28,7 +28,7 @@ abbrev pub next_number : Option Seen → ℕ
 next_number None = 0
 next_number (Some rd) = elim rd.cell.descriptor [ Some realm ↦ realm.next | None ↦ 0 ]
 
--- the number of RECs of a build's realm that run: each has a number below the next
+-- the count of RUNNING RECs in a build's realm, among the numbers below the next
 unfoldable pub running_count : Option Seen → ℕ
 running_count realm = length (filter (rec_runs realm) (range_with_len 0 (next_number realm)))
 
@@ -36,7 +36,7 @@ running_count realm = length (filter (rec_runs realm) (range_with_len 0 (next_nu
 abbrev pub IsAtRest : Option Seen → Type 0
 IsAtRest realm = running_count realm ≡ 0
 
--- a build's realm is at rest exactly when no REC runs, by any number
+-- a build's realm is at rest exactly when no number is that of a RUNNING REC
 abbrev pub RestIsOfAll : World → ℕ → Type 0
 RestIsOfAll world build =
     IsAtRest (realm_of build world) ↔ ((number : ℕ) → rec_runs (realm_of build world) number ≡ false)

@@ -30,7 +30,7 @@ abbrev pub is_table_kind : Option Mapping → Bool
 is_table_kind None = false
 is_table_kind (Some row) = is_table_state row.state
 
--- a row of the root, or below a table
+-- the place is of level 1, or the row above it is TABLE
 abbrev pub has_table : (ℕ × ℕ → Option Mapping) → ℕ × ℕ → Bool
 has_table rows place = place.0 == 1 || is_table_kind (rows (place.0 - 1, first_covered (place.0 - 1) place.1))
 
@@ -41,7 +41,8 @@ pub record IsPlace (width : ℕ) (place : ℕ × ℕ) : Type 0 where
   pub first : first_covered place.0 place.1 ≡ place.1
   pub inside : place.1 < served_space width
 
--- an UNASSIGNED row has no granule, an ASSIGNED one is of level 3, and above each row that is not of level 1 is a table
+-- Each row has a place, the shape of its state and, below level 1, a TABLE row above. An UNASSIGNED row has no granule.
+-- An ASSIGNED row, of level 3, and a TABLE row, of level 1 or 2, have one.
 pub record IsSoundRows (width : ℕ) (rows : ℕ × ℕ → Option Mapping) : Type 0 where
   pub placed : (place : ℕ × ℕ) → is_some (rows place) ≡ true → IsPlace width place
   pub shaped : (place : ℕ × ℕ) → IsShaped place.0 (rows place)
@@ -67,7 +68,7 @@ abbrev pub is_rd_state : GranuleState → Bool
 is_rd_state Rd = true
 is_rd_state _ = false
 
--- a page that is zero: of every state but UNDELEGATED and DATA
+-- a granule in this state has a zero page: any state but UNDELEGATED and DATA
 abbrev pub is_zero_state : GranuleState → Bool
 is_zero_state Undelegated = false
 is_zero_state Data = false

@@ -22,8 +22,8 @@ abbrev pub outcome_in : Limits → World → Event → Outcome
 outcome_in limits world event =
     outcome_of limits.vmids limits.aux (used_vmids world.machine) event.act (realm_of event.build world) (named_cells world event.act)
 
--- The build is there, and it leases the granules named (for a Take, nobody does). The operation's own numbers are in
--- range, and its own fields agree with the machine.
+-- The build exists and leases the granules that the operation names; for a Take, nobody leases them. The operation's
+-- own numbers are in range, and its own fields agree with the machine.
 abbrev pub is_allowed : Limits → World → Event → Bool
 is_allowed limits world event =
     nat_lt event.build limits.builds

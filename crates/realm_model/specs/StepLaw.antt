@@ -11,7 +11,7 @@ use Rattle.realm_model.specs.Outcome.{is_in_range, fits}
 use Rattle.realm_model.specs.World.{World, realm_of}
 use Rattle.realm_model.specs.Step.{step, named_cells, outcome_in}
 
--- the list with one element at each of some places
+-- the list after the same element is put at each of the places
 unfoldable pub set_each : {X : Type 0} → X → List ℕ → List X → List X
 set_each x [] xs = xs
 set_each x (place ∷ places) xs = set_each x places (slice_set xs place x)
@@ -23,7 +23,7 @@ leases_after build (Take order first) leases = set_each (Some build) (block orde
 leases_after build (UnTake order first) leases = set_each None (block order first) leases
 leases_after build _ leases = leases
 
--- An event leads from one world to another. The build is there. Each granule named is inside the machine and leased by
+-- An event leads from one world to another. The build exists. Each granule named is inside the machine and leased by
 -- the build, or by nobody for a Take. The operation's own numbers are in range, and its own fields agree with the
 -- machine. Its command is not refused. The machine is changed as the command says, and the leases as the operation
 -- says.
@@ -37,6 +37,6 @@ pub record IsStep (limits : Limits) (world : World) (event : Event) (next : Worl
   pub machine : next.machine ≡ machine_after_all updates world.machine
   pub leases : next.leases ≡ leases_after event.build event.act world.leases
 
--- a step is exactly that, so the guards in the updates add nothing
+-- `step` leads to a world exactly if IsStep holds, so the lease checks of updates never fail
 abbrev pub StepIsExact : Limits → World → Event → Type 0
 StepIsExact limits world event = (next : World) → (step limits world event ≡ Some next) ↔ IsStep limits world event next

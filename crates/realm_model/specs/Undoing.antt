@@ -19,11 +19,11 @@ abbrev pub reverses : List Act → List Act
 reverses [] = []
 reverses (act ∷ acts) = elim (reverse_of act) [ Some r ↦ r ∷ reverses acts | None ↦ reverses acts ]
 
--- all that a build has open, undone, the newest first
+-- the events that reverse all that a build has open, the newest first
 abbrev pub undoing : ℕ → List Event → List Event
 undoing build history = map (by build) (reverses (reverse (open_entries build history)))
 
--- an operation that is open, the newest of its build, is undone
+-- the reverse of the build's newest open operation is legal next, and leaves the other operations open
 pub record IsUndoneNext (limits : Limits) (history : List Event) (build : ℕ) (act : Act) : Type 0 where
   pub back : Act
   pub reverse_is : reverse_of act ≡ Some back
@@ -76,7 +76,7 @@ abbrev pub OtherActOwnsSame : Limits → ℕ → World → Act → World → Typ
 OtherActOwnsSame limits build world act next =
     is_paired act ≡ false → is_reverse act ≡ false → step limits world (by build act) ≡ Some next → OwnsSame world next
 
--- the ownership after an operation depends on the ownership before alone
+-- the ownership after an operation depends only on the ownership before it
 abbrev pub OwnershipFollows : Limits → ℕ → Act → World → World → World → World → Type 0
 OwnershipFollows limits build act w v next other =
     OwnsSame w v → step limits w (by build act) ≡ Some next → step limits v (by build act) ≡ Some other → OwnsSame next other

@@ -1,4 +1,4 @@
--- The updates of a command: one granule after another, each alone.
+-- The updates of a command, made in sequence, each of one granule.
 use Rattle.std.specs.Prelude.{ℕ, List, [], ◌∷◌, Option, Some, None, Result, Ok, Err, slice_set}
 use Rattle.realm_model.specs.declared.rmi.Rmi.{Rmi}
 use Rattle.realm_model.specs.Machine.{Cell, Machine, blank, cell_at}

@@ -19,7 +19,7 @@ opening limits = record { machine = replicate limits.pages blank; leases = repli
 abbrev pub same_lease : Option ℕ → Option ℕ → Bool
 same_lease a b = option_eq nat_eq a b
 
--- the granule is inside the machine and leased so
+-- the granule is inside the machine and has this lease
 abbrev pub is_leased_to : Option ℕ → List (Option ℕ) → ℕ → Bool
 is_leased_to lease leases granule = option_eq same_lease (slice_get leases granule) (Some lease)
 
@@ -48,7 +48,8 @@ updated build update world = record {
   leases = slice_set world.leases (granule_of update) (lease_after build update);
 }
 
--- One update after another, each of a granule that the build leases; only a free one is leased.
+-- The world after a build's updates in sequence, if each granule has the lease that its update requires. To be leased,
+-- a granule must be free; for any other update the build must lease it.
 unfoldable pub updated_all : ℕ → List Update → World → Option World
 updated_all build [] world = Some world
 updated_all build (update ∷ updates) world =
@@ -61,7 +62,7 @@ each f [] cells = []
 each f (lease ∷ leases) [] = []
 each f (lease ∷ leases) (cell ∷ cells) = f lease cell ∷ each f leases cells
 
--- the granules of some builds are free and blank, and so the realms of these builds are removed
+-- a granule whose lease `hides` selects becomes free and blank, so the realms of hidden builds are removed
 abbrev pub unleased : (Option ℕ → Bool) → Option ℕ → Option ℕ
 unleased hides lease = cond (hides lease) None lease
 

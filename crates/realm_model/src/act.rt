@@ -1,4 +1,4 @@
-//! Operations, their kinds, and events. An event is an accepted operation and its build.
+//! The types for the operations and events of the realm model. An event is an accepted operation and its build.
 ghost use Rattle.std.specs.Prelude.{◌≡◌, ◌↔◌, true};
 ghost use Rattle.realm_model.specs.Kind.{act_kind};
 
@@ -12,12 +12,12 @@ use granule_addr::{BuildId, Gran, IpaGran, Level, Order, PageOff, RecNo, Root, V
 /// of `Unknown`.
 #[derive(PartialEq, Eq, Drop)]
 pub enum Act {
-    /// The lease of a block of free pages to a build.
+    /// The host leases a block of free pages to a build.
     Take {
         order: Order,
         first: Gran,
     },
-    /// The clearing and return of a leased block of pages.
+    /// A build gives back a leased block of pages, and the block is cleared.
     UnTake {
         order: Order,
         first: Gran,

@@ -26,7 +26,8 @@ pub fn builds_can_be_left_out()
     ensures { (limits : Limits) (history : List Event) (build : ℕ) → IsLegal limits history → Noninterference limits history build }
 {}
 
-/// The events of one build in a legal history are legal alone. They lead to the build's part of the model's world.
+/// The events of one build in a legal history are a legal history by themselves. They lead to the build's part of the
+/// model's world.
 pub fn builds_can_be_taken_alone()
     ensures { (limits : Limits) (history : List Event) (build : ℕ) → IsLegal limits history → IsLegalAlone limits history build }
 {}
@@ -43,13 +44,13 @@ pub fn events_of_two_builds_commute()
     ensures { (limits : Limits) (history : List Event) (one other : Event) → EventsCommute limits history one other }
 {}
 
-/// The function `step` agrees with the relation `IsStep`. From any world of the model that a history leads to, `step`
-/// leads exactly to the worlds that `IsStep` allows.
+/// The function `step` and the relation `IsStep` describe the same steps of the model. From any world of the model that
+/// a history leads to, `step` leads exactly to the worlds that `IsStep` allows.
 pub fn step_is_exact()
     ensures { (limits : Limits) (history : List Event) (world : World) (event : Event) → replay limits history ≡ Some world → StepIsExact limits world event }
 {}
 
-/// Reverses match operations in stack order, the newest operation first. If each operation with a reverse is pushed and
+/// Operations and their reverses match like pushes and pops of a stack. If each operation with a reverse is pushed and
 /// each reverse pops, exactly the operations without a matching reverse remain.
 pub fn matching_is_a_stack()
     ensures { (acts : List Act) → MatchingIsAStack acts }
@@ -60,7 +61,7 @@ pub fn pages_are_leased()
     ensures { (limits : Limits) (history : List Event) (world : World) (build : ℕ) → IsLegal limits history → replay limits history ≡ Some world → PagesAreLeased limits history build world }
 {}
 
-/// Every world of the model that a history leads to satisfies the invariant `IsReachable`.
+/// The invariant `IsReachable` holds in every world of the model that a history reaches.
 pub fn reached_worlds_are_sound()
     ensures { (limits : Limits) (history : List Event) (world : World) → replay limits history ≡ Some world → IsReachable limits world }
 {}
@@ -81,7 +82,7 @@ pub fn room_is_taken()
         → IsLegal limits history → replay limits history ≡ Some world → RoomIsTaken limits history world event next }
 {}
 
-/// The history capacity that a build has used is the sum over its operations.
+/// The history capacity used by a build is the sum of what its operations use.
 pub fn room_is_a_sum()
     ensures { (limits : Limits) (history : List Event) (world : World) (build : ℕ) → IsLegal limits history → replay limits history ≡ Some world → RoomIsSum history world build }
 {}
@@ -100,30 +101,29 @@ pub fn what_is_left_is_accepted()
         → IsLegal limits history → replay limits history ≡ Some world → WhatIsLeftIsAccepted limits capacity most history world build }
 {}
 
-/// A build's realm is the one that its open Realm operation created.
+/// A build's realm is the one whose creation the build has not undone yet.
 pub fn realms_are_open_acts()
     ensures { (limits : Limits) (history : List Event) (world : World) (build : ℕ) → IsLegal limits history → replay limits history ≡ Some world → RealmIsOpen history world build }
 {}
 
-/// The VMIDs in use are those of open Realm operations.
+/// The VMIDs in use are those of realms whose creation is not undone yet.
 pub fn vmids_are_of_open_acts()
     ensures { (limits : Limits) (history : List Event) (world : World) (vmid : ℕ) → IsLegal limits history → replay limits history ≡ Some world → VmidIsOpen history world vmid }
 {}
 
-/// A reverse right after its operation restores the ownership of granules. The reverse is accepted, and the ownership
-/// is that before the operation.
+/// Reversing an operation right away restores the ownership of granules before it. The reverse is accepted.
 pub fn pairs_lead_back()
     ensures { (limits : Limits) (history : List Event) (world : World) (build : ℕ) (act back : Act) (middle : World)
         → replay limits history ≡ Some world → PairLeadsBack limits build world act back middle }
 {}
 
-/// An operation that neither has nor is a reverse changes no ownership of granules.
+/// An operation changes no ownership of granules unless it has a reverse or is one.
 pub fn other_acts_own_the_same()
     ensures { (limits : Limits) (world : World) (build : ℕ) (act : Act) (next : World) → OtherActOwnsSame limits build world act next }
 {}
 
-/// The ownership after an operation depends only on the operation and the ownership before. Worlds that own the same
-/// still do after the same operation.
+/// The ownership of granules after an operation depends only on the operation and the ownership before. Worlds that own
+/// the same still do after the same operation.
 pub fn ownership_follows()
     ensures { (limits : Limits) (history past : List Event) (world twin : World) (build : ℕ) (act : Act) (next other : World)
         → replay limits history ≡ Some world → replay limits past ≡ Some twin → OwnershipFollows limits build act world twin next other }
@@ -136,8 +136,8 @@ pub fn newest_can_be_undone()
         → IsLegal limits history → replay limits history ≡ Some world → NewestCanBeUndone limits history build world act }
 {}
 
-/// A build with no open operation has no effect on the model's world. The history without the build's events leads to
-/// the same world.
+/// A build with nothing left to undo has no effect on the model's world. The history without the build's events leads
+/// to the same world.
 pub fn nothing_open_is_noninterference()
     ensures { (limits : Limits) (history : List Event) (world : World) (build : ℕ) → IsLegal limits history → replay limits history ≡ Some world → NothingOpenIsNoninterference limits history build world }
 {}
@@ -148,7 +148,7 @@ pub fn all_can_be_undone()
     ensures { (limits : Limits) (history : List Event) (world : World) (build : ℕ) → IsLegal limits history → replay limits history ≡ Some world → AllCanBeUndone limits history build world }
 {}
 
-/// A build without running RECs still has none after another build's event or a reverse.
+/// Neither another build's event nor an undo starts a REC of a build that runs none.
 pub fn builds_stay_at_rest()
     ensures { (limits : Limits) (history : List Event) (world : World) (build : ℕ) (event : Event) (next : World) → replay limits history ≡ Some world → StaysAtRest limits world build event next }
 {}
@@ -161,23 +161,23 @@ pub fn aborts_go_on()
         → AbortGoesOn limits history later build begun world }
 {}
 
-/// A build's mark is valid as soon as it is set.
+/// A rollback point of a build, called a mark, is valid when it is set.
 pub fn new_marks_are_valid()
     ensures { (build : ℕ) (history : List Event) → IsValidMark (mark_at build history) history }
 {}
 
-/// A build's mark remains valid until the build has fewer open operations than at the mark.
+/// A mark remains valid until its build undoes an operation from before the mark. The build then has fewer open
+/// operations than at the mark.
 pub fn marks_remain_valid()
     ensures { (mark : Mark) (history : List Event) (event : Event) → StaysValid mark history event }
 {}
 
-/// A build can be rolled back to a valid mark unless a newer REC runs. A newer REC is one that the build created since
-/// the mark.
+/// A build can be rolled back to a valid mark unless a REC created later runs. Only RECs of the build itself count.
 pub fn marks_can_be_rolled_back_to()
     ensures { (limits : Limits) (history : List Event) (world : World) (mark : Mark) → IsLegal limits history → replay limits history ≡ Some world → CanRollBack limits history mark world }
 {}
 
-/// A realm's RECs are those that open Rec operations of its build created. A REC that was created later has a higher
+/// A realm's RECs are those whose creation its build has not undone yet. A REC that was created later has a higher
 /// number.
 pub fn recs_are_open_acts()
     ensures { (limits : Limits) (history : List Event) (world : World) (build : ℕ) → IsLegal limits history → replay limits history ≡ Some world → RecsAreOpen history world build }

@@ -21,13 +21,13 @@ state_word RecAux = codes "REC_AUX"
 state_word Data = codes "DATA"
 state_word Rtt = codes "RTT"
 
--- the sum of the bytes, which is in the line of a page that the host can read, and of a realm's data
+-- the sum of a page's bytes, which the line has only if the page is UNDELEGATED or DATA
 abbrev pub sum_numbers : GranuleState → ℕ → List ℕ
 sum_numbers Undelegated sum = sum ∷ []
 sum_numbers Data sum = sum ∷ []
 sum_numbers _ sum = []
 
--- the build, its number of the page, the state, and the sum of the page's bytes if the line has it
+-- the build, its number for the page, the state, and the sum of bytes if one is shown
 abbrev pub page_line : ℕ → ℕ → GranuleState → ℕ → List ℕ
 page_line build page state sum =
     decimal build ++ (codes " page" ++ (then_number page ++ (32 ∷ state_word state ++ (spelled_numbers (sum_numbers state sum) ++ 10 ∷ []))))

@@ -62,7 +62,8 @@ check_lengths builds order =
 
 -- ---- the plan
 
--- If the plan gives up, a build whose step is refused leaves out its other steps, and aborts.
+-- A plan has four settings, the steps of each build, and a schedule. If the plan gives up, a build whose step is
+-- refused leaves out its other steps, and aborts.
 pub record Plan : Type 0 where
   pub pages : ℕ
   pub vmids : ℕ
@@ -72,7 +73,8 @@ pub record Plan : Type 0 where
   pub order : List ℕ
   pub gives_up : Bool
 
--- Steps before turns, and turns before limits. No document says that a plan gives up.
+-- The plan of the contents, or the first fault: of steps, then of turns, then of limits. No document says that a plan
+-- gives up.
 unfoldable pub plan_of_contents : Contents → Result Plan PlanFault
 plan_of_contents c =
     builds_of 0 c.builds >>= (λ builds.
@@ -81,12 +83,12 @@ plan_of_contents c =
     check_lengths builds order >>= (λ _.
     Ok (record { pages = n.pages; vmids = n.vmids; aux = n.aux; history = n.history; builds = builds; order = order; gives_up = false })))))
 
--- the document that the bytes are
+-- the document that the bytes spell, if they are UTF-8 and can be parsed
 unfoldable pub document_of : List ℕ → Option Members
 document_of bytes = if is_utf8 bytes then parse_document bytes else None
 
--- The plan that the bytes are, or the one fault. Of several faults it is the first in the order of their numbers, but
--- too many bytes, a fault of limits, come before all others.
+-- The plan that the bytes spell, or the one fault. Of several faults it is the first in the order of their numbers,
+-- but too many bytes, a fault of limits, come before all others.
 unfoldable pub plan_of : List ℕ → Result Plan PlanFault
 plan_of bytes =
     if nat_lt 1048576 (length bytes) then Err fault.Limit

@@ -23,7 +23,7 @@ page_step_at word ns =
     else if bytes_eq word (codes "delegate") then one page (λ p. whole (Delegate p)) ns
     else None
 
--- a realm without a width has two numbers, and three otherwise
+-- the step `realm` has two numbers without a width, and three with one
 abbrev pub short_realm_at : List ℕ → Option PlanStep
 short_realm_at ns = two page page (λ rd root. WidthLeftOut rd root) ns
 

@@ -10,7 +10,7 @@ use Rattle.host_commands.specs.declared.cmd.Step.TheVariants.{Ask, Undo, Abort, 
 use Rattle.realm_plan.specs.declared.step.PlanStep.{PlanStep}
 use Rattle.realm_plan.specs.declared.step.PlanStep.TheVariants.{Whole, WidthLeftOut}
 
--- the greatest number of a build's page, as many as the largest machine has
+-- the greatest number of a build's page, since the largest machine has 4096 pages
 abbrev pub page : ℕ
 page = 4095
 

@@ -9,7 +9,7 @@ use host_commands::{Refusal, Reply};
 use realm_model::Kind;
 use std::fmt;
 
-/// The printed word for the kind of an operation, such as `take` or `rtt`.
+/// The printed word for the kind of an undone operation, such as `take` or `rtt`.
 #[derive(Clone, Copy)]
 pub struct KindWord(pub Kind);
 

@@ -25,7 +25,7 @@ fn array_at<'a>(table: &'a Table, key: &str) -> Option<&'a Array>
     value_at(table, key)?.as_array()
 }
 
-/// Returns the integer at a key of a TOML table. If the key is missing, returns the default.
+/// Returns the integer at a key, or the default if the TOML table lacks the key.
 fn integer_at(table: &Table, key: &str, default: Option<i64>) -> Option<i64>
     ensures { result ≡ whole_of default (get_member key.now (table_view table.now)) }
 {

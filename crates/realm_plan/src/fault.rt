@@ -14,8 +14,8 @@ pub enum PlanFault {
     /// A key of a plan that is missing, unknown or of the wrong kind.
     #[error("plan 21 key")]
     Key,
-    /// A text in a plan's list of steps that does not spell a step. It is text `step` of build `build`, the first such
-    /// text of the lowest build that has one. Builds and steps are counted from 0.
+    /// A plan's step whose text cannot be parsed. It is text `step` of build `build`, the first such text of the lowest
+    /// build that has one. Builds and steps are counted from 0.
     #[error("plan 22 step {build} {step}")]
     Step { build: usize, step: usize },
     /// An entry of a plan's schedule `order` that names no build. It is the first such entry, and `place` is its index,

@@ -41,8 +41,8 @@ fn between(low: u16, high: u16, whole: i64) -> Result<u16, PlanError>
     }
 }
 
-/// Returns an error if a checked length is not within its limits. `holds` is whether it is. The error is the fault
-/// `Limit`.
+/// Returns an error if the check of a length has failed. `holds` is whether the length is within its limits. The error
+/// is the fault `Limit`.
 fn within(holds: bool) -> Result<(), PlanError>
     ensures value { Gives (λ n. n) result (within_at holds) }
 {
@@ -53,8 +53,8 @@ fn within(holds: bool) -> Result<(), PlanError>
     }
 }
 
-/// Checks that the values of a plan's integer keys are within their limits. Returns the values, or the fault `Limit` if
-/// one of them is not.
+/// Returns the values of a plan's integer keys, if they are within their limits. The error is the fault `Limit` if one
+/// of them is not.
 #[tactic(auto, unfolding(crate::specs::Plan::plan_numbers_of))]
 pub fn numbers_of(contents: &Contents<'_>) -> Result<Numbers, PlanError>
     ensures value { Gives (λ n. n) result (plan_numbers_of (contents_view contents.now)) }

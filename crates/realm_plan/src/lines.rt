@@ -87,7 +87,7 @@ pub fn push_realm(
     writeln!(text, "{build} realm {word} vmid {}", vmid.number())
 }
 
-/// Appends the line with the number of granules that no build leases. It is the last line of a host's map.
+/// Appends the line that gives the number of unleased granules. It is the last line of a host's map.
 pub fn push_free(text: &mut String, count: u16) -> Result<(), AllocError>
     ensures { OnOk result (string_bytes text.new ≡ string_bytes text.old ++ free_line count) }
 {

@@ -29,9 +29,9 @@ pub struct Plan {
     pub builds: Vec<Vec<PlanStep>>,
     /// The schedule: for each turn, the build that takes it.
     pub order: Vec<BuildId>,
-    /// Whether a build skips its remaining steps and aborts after a step is refused.
+    /// Whether a build skips its remaining steps and aborts after a step of it is refused.
     pub gives_up: bool,
-    /// The abort step, which a build performs after a refusal if `gives_up` is set.
+    /// The abort step, which a build performs after a step of it is refused, if `gives_up` is set.
     pub abort: PlanStep,
     pub ghost pages_in_limits: { (1 ≤ pages) × (pages ≤ 4096) },
     pub ghost vmids_in_limits: { 1 ≤ vmids },
@@ -112,7 +112,8 @@ impl Plan {
         Plan::from_contents(alloc, &contents)
     }
 
-    /// Returns the plan with `gives_up` set, so that builds abort after a refusal. The bytes of a plan never set it.
+    /// Returns the plan with `gives_up` set, so that a build whose step is refused aborts. The bytes of a plan never
+    /// set it.
     pub fn giving_up(self) -> Plan
         ensures { plan_view result ≡ record (plan_view self) { gives_up = true } }
     {

@@ -11,7 +11,7 @@ use decimal_text::{cut_at_space, numbers_of};
 use granule_addr::IpaWidth;
 use host_commands::{Cmd, Step};
 
-/// A step of a plan, with all its numbers or with the width left out.
+/// A step of a plan, which may leave out the IPA width of a realm.
 #[derive(Drop)]
 pub enum PlanStep {
     /// A step that is written with all its numbers.
@@ -21,7 +21,7 @@ pub enum PlanStep {
 }
 
 impl PlanStep {
-    /// Returns the step for the host, with a left-out width filled in. No memory is taken.
+    /// Returns the complete step, with the smallest IPA width if the width is left out. No memory is taken.
     pub fn asked(&self) -> Step
         ensures { result ≡ asked self.now }
     {

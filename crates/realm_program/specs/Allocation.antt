@@ -7,7 +7,7 @@ use Rattle.realm_model.specs.declared.act.Act.TheVariants.{Peek, Realm, Rec}
 abbrev pub allocation : ℕ → ℕ → ℕ → Allocated
 allocation vmid number byte = record { vmid = vmid; number = number; byte = byte }
 
--- the values that were allocated for an operation; those that it does not hold may be anything
+-- the values that were allocated for an operation, with defaults for those that it does not hold
 abbrev pub allocated_in : Act → Allocated
 allocated_in (Realm rd root vmid) = allocation vmid 0 0
 allocated_in (Rec granule auxiliaries number) = allocation 1 number 0

@@ -31,11 +31,11 @@ use Rattle.build_seats.specs.declared.report.Report.{Report}
 abbrev pub granule_of_number : List ℕ → ℕ → Option ℕ
 granule_of_number pages page = option_and_then (λ number. if nat_lt number 4096 then Some number else None) (slice_get pages page)
 
--- the granules are those of the pages with these numbers, each of them there
+-- the build has each page with one of these numbers, and these are their granules, in sequence
 abbrev pub AreGranules : List ℕ → List ℕ → List ℕ → Type 0
 AreGranules pages numbers granules = map (granule_of_number pages) numbers ≡ map (λ granule. Some granule) granules
 
--- one of the pages with these numbers is not there, or is no granule
+-- for some of these numbers the build has no page, or the page is no granule
 abbrev pub HaveNoGranules : List ℕ → List ℕ → Type 0
 HaveNoGranules pages numbers = (granules : List ℕ) → ¬ AreGranules pages numbers granules
 
@@ -62,8 +62,8 @@ pub record IsFittingReply (pages : List ℕ) (cmd : Cmd) (reply : Reply) (act : 
 
 -- ---- undos
 
--- The operation is the reverse of the last of those that are open. The reply has its kind, and the number of those
--- left.
+-- The operation is the reverse of the newest open one. The reply has the kind of the operation that is undone, and the
+-- number of those left open.
 pub record IsFittingUndo (opened : List Act) (undone : Undone) (act : Act) : Type 0 where
   pub act_is : option_and_then reverse_of (last_or None opened) ≡ Some act
   pub kind_is : option_and_then act_kind (last_or None opened) ≡ Some undone.kind

@@ -16,23 +16,23 @@ use Rattle.build_seats.specs.declared.report.Answer.{Answer}
 use Rattle.build_seats.specs.declared.report.Answer.TheVariants as answer
 use Rattle.realm_program.specs.Fitting.{AnswerFits}
 
--- One event of the build ends the history, and the answer matches there.
+-- The history grows by one event of the build, and the answer matches that event.
 pub record FitsNext (host : HostView) (build : ℕ) (asked : Question) (told : Answer) (new : HostView) : Type 0 where
   pub act : Act
   pub grows : new.history ≡ host.history ++ by build act ∷ []
   pub fits : AnswerFits (pages_of build host.history) (open_entries build host.history) (Some (by build act)) asked told
 
--- the reply of a host to a command matches
+-- for a legal history and at most 4096 pages, a host's reply to a command matches its event
 abbrev pub HostReplyFits : HostView → ℕ → Cmd → Reply → HostView → Type 0
 HostReplyFits host build cmd reply new =
     IsLegal host.limits host.history → host.limits.pages ≤ 4096 → IsReplied host build cmd reply new
     → FitsNext host build (question.Do cmd) (answer.Replied reply) new
 
--- the reply of a host to an undo matches
+-- a host's reply to an undo matches its event
 abbrev pub HostUndoFits : HostView → ℕ → Undone → HostView → Type 0
 HostUndoFits host build undone new = IsUndone host build undone new → FitsNext host build question.Undo (answer.Undone undone) new
 
--- The answer to a mark matches whatever the build's next event is.
+-- A host's answer to a mark matches, without an event of the build.
 abbrev pub HostMarkFits : HostView → ℕ → Mark → HostView → Type 0
 HostMarkFits host build mark new =
     IsMarkedAs host build mark new → AnswerFits (pages_of build host.history) (open_entries build host.history) None question.Mark (answer.Marked mark.length)

@@ -5,8 +5,8 @@ use Rattle.plan_replay.specs.Run.{map_text}
 use Rattle.realm_plan.specs.Plan.{Plan}
 use Rattle.realm_program.specs.Workers.{worker_seats, IsWorkersText}
 
--- Two runs after which each build's seat has the same events have the same map. They have the same text if the workers
--- have the same lines too.
+-- If two runs leave the builds with the same seats, they have the same map. If they leave the same workers, they have
+-- the same text.
 abbrev pub ScheduleIsNotRevealed : Plan → (ℕ → ℕ → Type 0) → (ℕ → ℕ → Type 0) → HostView → Type 0
 ScheduleIsNotRevealed plan passes stops opened =
     (text other : List ℕ) (run : IsWorkersText plan passes stops opened text) (again : IsWorkersText plan passes stops opened other)

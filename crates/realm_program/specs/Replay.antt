@@ -30,7 +30,7 @@ pub record IsText (plan : Plan) (text : List ℕ) : Type 0 where
   pub run : IsReportedRun plan (opening_host plan) last [] lines
   pub whole : text ≡ lines ++ map_text last
 
--- The text with a build of the plan left out: the map of the history of some run without the build's events.
+-- The text of a plan with one build left out. It is the map of some run's history without the build's events.
 pub record IsErasedText (plan : Plan) (build : ℕ) (text : List ℕ) : Type 0 where
   pub of_plan : build < length plan.builds
   pub last : HostView

@@ -31,7 +31,7 @@ abbrev pub ends_step : Asked → Option ReportLine → Bool
 ends_step this None = true
 ends_step this (Some next) = not (is_same_step this next.asked)
 
--- The answer that a line has: of an undo, whether an abort or a step back ends with it.
+-- The answer that a line shows. For an undo, it includes whether an abort or a step back ends there.
 abbrev pub answer_of_line : Answer → Bool → TurnAnswer
 answer_of_line (answer.Replied reply) ends = tells.Replied reply
 answer_of_line (answer.Undone undone) ends = if ends then tells.Ended undone.kind else tells.Undone undone.kind
@@ -39,7 +39,7 @@ answer_of_line (answer.Marked length) ends = tells.Marked length
 answer_of_line answer.Nothing ends = tells.Nothing
 answer_of_line (answer.Refused refusal) ends = tells.Refused refusal
 
--- A line of this step, and the one that comes next. A line of no step has no text.
+-- The text of a line, given its step and the next line. A line without a step has no text.
 abbrev pub line_text : ℕ → Option PlanStep → ReportLine → Option ReportLine → List ℕ
 line_text build None line next = []
 line_text build (Some step) line next =

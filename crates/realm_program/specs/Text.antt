@@ -11,7 +11,7 @@ use Rattle.build_seats.specs.declared.report.Report.{Report}
 abbrev pub steps_of_build : Plan → ℕ → List PlanStep
 steps_of_build plan build = slice_index_or plan.builds build []
 
--- the lines of a report, which have the steps as they are in the plan
+-- the text of a report, with the steps as they are in the plan
 abbrev pub report_lines : Plan → Report × Vec Step → List ℕ
 report_lines plan (report, asks) = report_text report.build (steps_of_build plan report.build) report.lines.items
 

@@ -23,7 +23,7 @@ use Rattle.realm_program.specs.declared.run_fault.RunFault.TheVariants.{Memory, 
 
 -- ---- workers
 
--- the worker of a build that has asked nothing of its steps
+-- the worker of a build before its first step
 abbrev pub new_worker : Plan → ℕ → WorkerView
 new_worker plan build = record { seat = new_seat build; steps = map asked (steps_of_build plan build); lines = []; ended = false }
 

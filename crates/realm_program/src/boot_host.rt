@@ -1,4 +1,5 @@
-//! The boot of hosts on new stores, whose pages are all free. The trait of the stores that can be built is here too.
+//! Boots a host, and creates the store of pages that it uses. All pages of a new store are free. The trait of the
+//! stores that can be built is here too.
 ghost use Rattle.std.specs.Prelude.{◌≡◌, ◌≤◌, IfOk, ◌⊎◌, ◌<◌, ◌↔◌, true, replicate, IsErrOf};
 ghost use Rattle.realm_host.specs.Host.{booted_by};
 ghost use Rattle.realm_plan.specs.PlanView.{plan_view};
@@ -11,7 +12,7 @@ use realm_host::{Host, Settings};
 use realm_plan::Plan;
 use std::alloc::{AllocError, Global};
 
-/// Boots a host on a new store. The host has the given settings, and the store has `pages` free pages.
+/// Boots a host with the given settings and a new store of pages. The store has `pages` pages, all free.
 pub fn boot_by<S: BuildableStore>(
     alloc: Global,
     settings: Settings,
@@ -32,7 +33,8 @@ pub fn boot_by<S: BuildableStore>(
     }
 }
 
-/// Boots a plan's host on a new store. The settings and the number of pages are the plan's, and all pages are free.
+/// Boots the host that a plan describes, and creates its store of pages. The settings and the number of pages are the
+/// plan's, and all pages are free.
 pub fn boot<S: BuildableStore>(alloc: Global, plan: &Plan) -> Result<Host<S>, AllocError>
     ensures { IfOk result (λ host. host ≡ opening_host (plan_view plan.now)) }
 {

@@ -1,4 +1,4 @@
-//! The comparison of a command and its reply with an event.
+//! Checks whether a command and the host's reply to it match an event.
 ghost use Rattle.std.specs.Prelude.{◌≡◌, ◌↔◌, length, IsTrue};
 ghost use Rattle.std.specs.List.{flat_map};
 ghost use Rattle.host_commands.specs.Replies.{reply_of};
@@ -65,8 +65,8 @@ fn is_reply_to(opened: &[Act], reply: &Reply, act: &Act) -> bool
     }
 }
 
-/// Whether a build's command and its reply match an operation. They do if `cmd` can be performed as `act` and answered
-/// with `reply`. The build's open operations are `opened`.
+/// Whether `act` can be the operation of a build's command `cmd`, and `reply` is the reply to it. The build's open
+/// operations are `opened`.
 pub(crate) fn command_and_reply_match(opened: &[Act], cmd: &Cmd, reply: &Reply, act: &Act) -> bool
     ensures { IsTrue result ↔ IsFittingReply (flat_map pages_held opened.now) cmd.now reply.now act.now }
 {

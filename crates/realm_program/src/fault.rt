@@ -1,4 +1,4 @@
-//! The reasons why a program prints no text or only part of it.
+//! The reasons why a program prints nothing, or only part of its text.
 ghost use Rattle.std.specs.Prelude.{◌≡◌};
 ghost use Rattle.realm_program.specs.declared.fault.Fault.TheVariants.{Memory, Device};
 
@@ -21,11 +21,12 @@ pub enum Fault {
     /// A failed allocation.
     #[error("memory")]
     Memory,
-    /// A build whose worker thread waited in vain for its turn.
+    /// A build whose worker thread the scheduler did not let continue.
     #[error("thread")]
     Stuck(BuildId),
-    /// A mismatch between a run and its records. In a run in threads: the history does not match a worker's report, or
-    /// the events of a worker's seat. In runs of many schedules: a schedule cannot begin as the run before it says.
+    /// A contradiction between the records that are kept of a run. In a run in threads: the history does not match a
+    /// worker's report, or the events of a worker's seat. In runs of many schedules: a schedule cannot begin as the run
+    /// before it says.
     #[error("mismatch")]
     Mismatch,
     /// A failed read or write.

@@ -1,4 +1,4 @@
-//! The comparison of a report's line with an event.
+//! Checks whether a line of a worker's report agrees with a history of events.
 ghost use Rattle.std.specs.Prelude.{◌≡◌, ◌↔◌, Option, slice_get, IsTrue, IsSomeAnd};
 ghost use Rattle.std.specs.List.{flat_map};
 ghost use Rattle.realm_model.specs.History.{pages_held};

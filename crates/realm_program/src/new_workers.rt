@@ -1,4 +1,4 @@
-//! The creation of workers, which perform the steps of a plan's builds.
+//! Creates the workers, which perform the steps of a plan's builds.
 ghost use Rattle.std.specs.Prelude.{◌≡◌, ◌<◌, map, vec_len, IfOk};
 ghost use Rattle.std.specs.List.{range_with_len};
 ghost use Rattle.realm_plan.specs.Asked.{asked};
@@ -40,7 +40,8 @@ fn worker_of<L: Ledgers>(
     }
 }
 
-/// Returns a new worker for each build's session on a shared host. The workers are in the sequence of the seats.
+/// Creates a worker for each build, to perform the build's steps on a shared host. The workers are in the sequence of
+/// the seats.
 pub fn workers_of<L: Ledgers>(
     alloc: Global,
     plan: &Plan,

@@ -1,4 +1,5 @@
-//! The pages of a build and their granules. They are computed from the build's open operations.
+//! Functions that find the granule for each page number of a build. The granules are computed from the build's open
+//! operations.
 ghost use Rattle.std.specs.Prelude.{◌≡◌, ◌↔◌, ◌+◌, ◌<◌, ◌≤◌, length, IsTrue, IfSome, IfNone};
 ghost use Rattle.std.specs.List.{flat_map, range_with_len};
 ghost use Rattle.host_commands.specs.Needs.{operands};
@@ -88,8 +89,8 @@ fn push_run(granules: &mut ArrayVec<Gran, 17>, opened: &[Act], first: u16, count
     Some(())
 }
 
-/// Returns the granules of the pages that a command names. The build's open operations are `opened`. Returns `None` if
-/// one of the pages is not there, or is no granule of a machine.
+/// Returns the granules that a command names by the page numbers of its build. The build's open operations are
+/// `opened`. Returns `None` if one of the pages is not there, or is no granule of a machine.
 #[tactic(auto, unfolding(host_commands::specs::Needs::operands))]
 pub(crate) fn granules_of(opened: &[Act], cmd: &Cmd) -> Option<ArrayVec<Gran, 17>>
     ensures some { IfSome result (λ granules. AreGranules (flat_map pages_held opened.now) (operands cmd.now) granules.items) }

@@ -1,4 +1,4 @@
-//! The errors that can end a plan's run in threads.
+//! The errors of a plan's run in which each build has its own thread.
 ghost use Rattle.std.specs.Prelude.{◌≡◌};
 ghost use Rattle.realm_program.specs.declared.run_fault.RunFault.TheVariants.{Memory};
 
@@ -6,13 +6,13 @@ use granule_addr::BuildId;
 use std::alloc::AllocError;
 use thiserror::Error;
 
-/// The reason why a plan's run in threads gives no text.
+/// The reason why the run of a plan in threads fails.
 #[derive(Clone, Copy, Debug, Error)]
 pub enum RunFault {
     /// A failed allocation.
     #[error("memory")]
     Memory,
-    /// The lowest build whose worker thread waited in vain for its turn.
+    /// The lowest-numbered build whose worker thread the scheduler did not let continue.
     #[error("thread")]
     Stuck(BuildId),
     /// A mismatch between the records of a build and the history of events. A build's report, or the list of events of

@@ -1,4 +1,4 @@
-//! The run of a plan in threads, from its input to its text. A plan is read, and the text of its run is written.
+//! Reads a plan, runs its builds in threads, and writes the output text.
 ghost use Rattle.std.specs.Prelude.{◌≡◌, ◌+◌, ◌≤◌, ◌↔◌, ◌⊎◌, false, true, Err, IfOk, IfErr, string_bytes};
 ghost use Rattle.realm_plan.specs.PlanView.{plan_view};
 ghost use Rattle.realm_program.specs.Printed.{IsEnd};
@@ -42,10 +42,10 @@ fn threads_text_of<H: Threads + Wait + Sync, G: Gate + Sync>(
     run_text(rt, alloc, plan, host, gate).map_err(fault_of)
 }
 
-/// Reads a plan, runs it in threads, and writes the text. The text is that of the run, in which each build has a worker
-/// in a thread of its own. The workers get their turns from the gate. The plan's schedule plays no part. The sequence
-/// in which the builds took the lock is not printed. Runs of a plan in which each build got the same answers, with the
-/// same allocations, have the same text.
+/// Reads a plan, runs each build in its own thread, and writes the output text. Each thread has the worker of one
+/// build. The workers get their turns from the gate. The plan's schedule plays no part. The sequence in which the
+/// builds took the lock is not printed. Runs of a plan in which each build got the same answers, with the same
+/// allocations, have the same text.
 ///
 /// The text is complete before any of it is written. Errors: the fault of a plan. `Stuck`: the worker of this build,
 /// and of no lower one, waited in vain for a turn. `Mismatch`: the events of a build's seat are not the build's part of

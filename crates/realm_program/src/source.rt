@@ -1,4 +1,4 @@
-//! The reading of a plan from an input.
+//! A function that reads a plan from an input.
 ghost use Rattle.std.specs.Prelude.{◌≡◌, ◌+◌, ◌≤◌, ◌↔◌, false, true, IfOk, IfErr, Err};
 ghost use Rattle.realm_plan.specs.PlanView.{plan_view};
 ghost use Rattle.realm_program.specs.Printed.{IsPlanOf, HasNoPlan};

@@ -1,4 +1,4 @@
-//! The text of a plan's run, and the printed map without one build.
+//! Functions that run a plan, and return or write the output text. The printed map without one build is here too.
 ghost use Rattle.std.specs.Prelude.{◌≡◌, ◌+◌, ◌<◌, ◌≤◌, ◌↔◌, ◌⊎◌, ◌≢◌, [], false, true, Err, IfOk, IfErr, string_bytes, vec_len};
 ghost use Rattle.std.specs.Result.{OnOk};
 ghost use Rattle.plan_replay.specs.Run.{IsReportedRun};

@@ -1,4 +1,4 @@
-//! The text that a plan's run in threads prints.
+//! The output text of a run in which each build has its own thread.
 ghost use Rattle.std.specs.Prelude.{◌≡◌, ◌++◌, ◌⊎◌, OnOk, IfOk, IfErr, All, string_bytes};
 ghost use Rattle.std.specs.List.{flat_map};
 ghost use Rattle.plan_replay.specs.Run.{map_text};
@@ -53,8 +53,8 @@ fn text_of<S: PageStore>(
     Ok(text)
 }
 
-/// Returns the text of a run in threads, if all reports match the history. Errors: `Mismatch`, if a report does not
-/// match the host's history; `Memory`, if allocation failed.
+/// Returns the output text of a threaded run if all workers' reports match the history. Errors: `Mismatch`, if a report
+/// does not match the host's history; `Memory`, if allocation failed.
 pub fn audited_text_of<S: PageStore>(
     alloc: Global,
     plan: &Plan,

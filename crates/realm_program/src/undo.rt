@@ -1,4 +1,4 @@
-//! The comparison of an undo and its reply with an event.
+//! Checks whether an undo and the host's reply to it match an event.
 ghost use Rattle.std.specs.Prelude.{◌≡◌, ◌↔◌, Some, IsTrue};
 ghost use Rattle.realm_model.specs.Kind.{act_kind};
 ghost use Rattle.realm_program.specs.Fitting.{IsFittingUndo};
@@ -16,8 +16,8 @@ fn is_of_kind(act: &Act, kind: Kind) -> bool
     }
 }
 
-/// Whether a build's undo and its reply match an operation. They do if the undo can be performed as `act` and answered
-/// with `undone`. The build's open operations are `opened`.
+/// Whether `act` is the reverse of the newest open operation of a build, and `undone` is the reply to that undo. The
+/// build's open operations are `opened`.
 pub(crate) fn undo_and_reply_match(opened: &[Act], undone: &Undone, act: &Act) -> bool
     ensures { IsTrue result ↔ IsFittingUndo opened.now undone.now act.now }
 {

@@ -1,4 +1,4 @@
-//! The run of a plan with one thread for each build. The results of the builds' workers are here too.
+//! Runs each build of a plan in a thread of its own. The results of the builds' workers are here too.
 ghost use Rattle.std.specs.Prelude.{◌≡◌, [], map, vec_len, string_bytes, IfOk, IfErr};
 ghost use Rattle.realm_plan.specs.PlanView.{plan_view};
 ghost use Rattle.realm_program.specs.Workers.{AreLeft, IsWithoutWorkersText, IsWorkersText, worker_seats, IsReportOf};
@@ -99,9 +99,9 @@ fn run_with<
     run_shared(rt, alloc, plan, shared, seats, gate)
 }
 
-/// Runs a plan with one thread for each build. Each build is run by a worker in its own thread, on a host whose history
-/// is empty. Returns the text of the run, complete in memory: the lines of the reports by build, the host's map, and
-/// `audit ok`. Runs in which each build got the same have the same map, in whatever sequence the builds took the lock.
+/// Runs each build of a plan in its own thread, and returns the output text. A worker runs each build, on a host whose
+/// history is empty. The text is complete in memory: the lines of the reports by build, the host's map, and `audit ok`.
+/// Runs in which each build got the same have the same map, in whatever sequence the builds took the lock.
 ///
 /// Errors. `Stuck`: the worker of this build, and of no lower one, waited in vain for a turn of the gate. `Mismatch`:
 /// the host is not closed, or a report does not match its history. `Memory`: allocation failed.
@@ -121,7 +121,7 @@ pub fn run_text<R: Threads + Wait + Sync, S: PageStore + Drop + Send, G: Gate + 
     run_with::<R, S, G, Brand>(rt, alloc, plan, Blanks::new(), host, gate)
 }
 
-/// The results that the workers of a plan's builds leave at their end. For each worker, they are the seat, and the
+/// The results of the workers that performed the steps of a plan's builds. For each worker, they are the seat, and the
 /// report paired with the worker's steps.
 #[derive(Drop)]
 pub struct Ends<L: Ledgers> {
@@ -129,8 +129,8 @@ pub struct Ends<L: Ledgers> {
     pub reports: Vec<(Report, Vec<Step>)>,
 }
 
-/// Ends the workers, and returns their sessions on the host and their reports. The results are in the order of the
-/// workers.
+/// Ends the workers of a plan's builds, and returns their results. The results are the workers' sessions on the host
+/// (seats) and their reports, in the order of the workers.
 pub(crate) fn ends_of<L: Ledgers>(
     alloc: Global,
     workers: Vec<Worker<L>>,

@@ -1,4 +1,4 @@
-//! The command-line program that replays a plan of builds, or runs the builds in threads. A plan comes on standard
+//! The command-line program that runs a plan of realm builds, by its schedule or in threads. A plan comes on standard
 //! input, and the text of its run goes to standard output.
 #![tactic(auto)]
 
@@ -17,8 +17,8 @@ use std::rt::Env;
 use std::sync::Wait;
 use std::thread::Threads;
 
-/// Replays or runs a plan of builds, as the command-line arguments say. Reads the plan from `input`, and writes the
-/// resulting text to `output`.
+/// Runs a plan of realm builds, by its schedule or in threads as the arguments say. Reads the plan from `input`, and
+/// writes the resulting text to `output`.
 fn perform<H: Env + AllocGlobal + Threads + Wait + Sync, R: Read, W: Write>(
     rt: &H,
     input: &mut Told<R>,

@@ -24,8 +24,8 @@ fn awaited(asked: ViewSubcommand) -> &'static str {
     }
 }
 
-/// Returns the kind of text by which a subcommand's output is coloured on a terminal. It is `None` if the output has no
-/// colour.
+/// Returns the kind of a subcommand's output, which decides its colours on a terminal. It is `None` if the output has
+/// no colour.
 fn painting(asked: ViewSubcommand) -> Option<TextKind> {
     match asked {
         ViewSubcommand::Check | ViewSubcommand::Why { .. } => Some(TextKind::Messages),

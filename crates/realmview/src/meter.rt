@@ -1,4 +1,4 @@
-//! Shows the progress through a sample of schedules on a terminal.
+//! Shows on a terminal how many schedules of a sample have been run.
 use std::cell::Cell;
 use std::io::IsTerminal;
 use std::time::Instant;
@@ -17,7 +17,7 @@ pub struct Meter<'a> {
 }
 
 impl Meter<'_> {
-    /// Creates a progress line, which prints nothing if standard error is no terminal.
+    /// Creates a progress line, which prints only if standard error is a terminal.
     pub fn new(rt: &HostRuntime) -> Meter<'_> {
         let begun = if rt.stderr().is_terminal() {
             Instant::now(rt).ok()

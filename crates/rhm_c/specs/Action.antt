@@ -37,7 +37,7 @@ abbrev pub plain_action : ℕ → ℕ → RawAction
 plain_action kind address =
     record (with_registers kind (record { x0 = 0; x1 = 0; x2 = 0; x3 = 0; x4 = 0; x5 = 0; x6 = 0 })) { address = address }
 
--- addresses, and zeros up to 16 of them
+-- the first 16 of these addresses, padded with zeros to 16
 abbrev pub padded : List ℕ → List ℕ
 padded auxiliaries = map (λ place. slice_index_or auxiliaries place 0) (range_with_len 0 16)
 
@@ -67,7 +67,7 @@ raw_action action = rec_action action
 abbrev pub raw_at : List HostAction → ℕ → RawAction
 raw_at actions place = elim (slice_get actions place) [ Some action ↦ raw_action action | None ↦ plain_action 0 0 ]
 
--- Operations of a host as C has them: X0 of the model, and at most 5, the first of them in sequence.
+-- Operations of a host as C has them: their number, the model's X0, and the first five in sequence.
 abbrev pub raw_actions : ℕ → List HostAction → RawActions
 raw_actions expected actions = record {
   count = length actions;

@@ -23,7 +23,7 @@ only status = record { status = status; value = 0 }
 abbrev pub done : ℕ → CallAnswer
 done value = record { status = 0; value = value }
 
--- a closed handle has no host
+-- the answer on a closed handle: status 14
 abbrev pub closed : CallAnswer
 closed = only 14
 
@@ -71,24 +71,25 @@ counted_as (Err refusal) = refused_as refusal
 
 -- ---- calls of a host
 
--- a call with an answer that C has in this form
+-- the host gives an answer to the call, and `given` is its form in C
 pub record IsAnsweredAs (form : HostAnswer → CallAnswer) (old : HostView) (build : ℕ) (call : Call) (given : CallAnswer) (new : HostView) : Type 0 where
   pub answer : HostAnswer
   pub is_answer : IsAnswer old build call answer new
   pub given_is : given ≡ form answer
 
--- an answer that is not the host's, with nothing changed
+-- the call returns this answer, and the host does not change
 abbrev pub IsOnly : HostView → CallAnswer → CallAnswer → HostView → Type 0
 IsOnly old answer given new = (given ≡ answer) × (new ≡ old)
 
--- The command that is asked for, performed at once.
+-- The host answers the command; if there is none, its status is returned and nothing changes.
 abbrev pub IsCommanded : Result (ℕ × Cmd) ℕ → HostView → CallAnswer → HostView → Type 0
 IsCommanded (Ok asked) old given new = IsAnsweredAs answered_as old asked.0 (Ask asked.1) given new
 IsCommanded (Err status) old given new = IsOnly old (only status) given new
 
 -- ---- calls on a handle
 
--- What holds of the host of a handle before and after a call; it stays in its place. A closed handle stays closed.
+-- `Is` holds of an open handle's host before and after a call, and the host stays in its place. A closed handle stays
+-- closed.
 abbrev pub IsOnHandle : (Place → HostView → CallAnswer → HostView → Type 0) → Option PlacedHost → CallAnswer → Option PlacedHost → Type 0
 IsOnHandle Is (Some old) given (Some new) = Is old.frame old.host given new.host × (new.frame ≡ old.frame)
 IsOnHandle Is None given None = given ≡ closed

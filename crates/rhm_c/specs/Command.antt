@@ -47,18 +47,18 @@ command_of_kinds_10_to_13 c =
     (if c.kind == 12 then Some (Exit c.rec) else
     (if c.kind == 13 then Some (Poke c.rec c.ipa c.offset c.value) else None)))
 
--- The command that is meant. There is none for an unknown kind, or if an operand is out of its range.
+-- The command that a C structure encodes. There is none for an unknown kind, or if an operand is out of its range.
 abbrev pub command_in : RawCommand → Option Cmd
 command_in c =
     if operands_fit c then (if nat_le c.kind 5 then command_of_kinds_0_to_5 c else (if nat_le c.kind 9 then command_of_kinds_6_to_9 c else command_of_kinds_10_to_13 c)) else None
 
 -- ---- builds
 
--- a host has at most 8 builds
+-- the build of this number, if it is below 8, the most builds that a host has
 abbrev pub build_in : ℕ → Option ℕ
 build_in build = if nat_lt build 8 then Some build else None
 
--- the status of a build that there is not, and of what is no command
+-- the statuses for a build that does not exist, and for a structure that encodes no command
 abbrev pub no_such_build : ℕ
 no_such_build = 1
 

@@ -1,4 +1,4 @@
--- Commands and undos that are committed, after the answer of the RMM in front of the host.
+-- Commands and undos that are committed, once the RMM has answered their calls.
 use Rattle.std.specs.Prelude.{ℕ, ◌==◌, ◌%◌, ◌-◌, ◌^◌, ◌||◌, Bool, true, List, Option, Some, None, Result, Ok, Err, if◌then◌else◌}
 use Rattle.std.specs.List.{list_all}
 use Rattle.arrayvec.specs.ArrayVec.{ArrayVec}
@@ -21,7 +21,7 @@ use Rattle.rhm_c.specs.declared.commit.FirmwareAnswer.{FirmwareAnswer}
 
 -- ---- the answer of the RMM, beside that of the model
 
--- an X0 that is not the model's, which is the word
+-- the answer if X0 is not the model's: status 16, and the model's word
 abbrev pub diverged : ℕ → CallAnswer
 diverged word = record { status = 16; value = word }
 
@@ -36,18 +36,19 @@ abbrev pub is_output : ℕ → HostAction → Bool
 is_output x1 (Calls call (Some known)) = x1 == known
 is_output x1 _ = true
 
--- The model performs the calls, and so has the RMM, with the outputs that are known. Or 16: it has not; or 17: there is
--- another output.
+-- The check of calls that the model performs: the RMM has performed them too, with the outputs that are known. Or 16:
+-- it has not; or 17: there is another output.
 abbrev pub check_performed : FirmwareAnswer → List HostAction → Result (Unit {0}) CallAnswer
 check_performed answer actions =
     if list_all (is_performed answer.x0) actions then (if list_all (is_output answer.x1) actions then Ok tt else Err (only 17)) else Err (diverged 0)
 
--- The model refuses the call, and so has the RMM, with the same word. Or 16: X0 is another one.
+-- The answer to a call that is refused: the refusal, or 16 if the model refuses it and X0 is another word.
 abbrev pub check_refused : ℕ → Refusal → CallAnswer
 check_refused x0 (Rmi rmi) = if x0 == result_word rmi then refused_as (Rmi rmi) else diverged (result_word rmi)
 check_refused x0 refusal = refused_as refusal
 
--- A call can be committed, by the refusal of the host that is asked for it, and by what was prepared; or the answer to it.
+-- The check whether a call can be committed, by the host's refusal, the call's preparation and the RMM's answer; or the
+-- answer if not.
 abbrev pub committable : FirmwareAnswer → Option Refusal → Result (ArrayVec HostAction) Refusal → Result (Unit {0}) CallAnswer
 committable answer (Some refusal) (Ok actions) = Err (check_refused answer.x0 refusal)
 committable answer None (Ok actions) = check_performed answer actions.items
@@ -55,7 +56,7 @@ committable answer refusal (Err own) = Err (refused_as own)
 
 -- ---- calls that are committed
 
--- it is performed as a host performs it, or there is another answer, and nothing changes
+-- if the check passes, the host answers the call; if not, this answer is given and nothing changes
 abbrev pub IsPerformedIf : Result (Unit {0}) CallAnswer → HostView → ℕ → Call → CallAnswer → HostView → Type 0
 IsPerformedIf (Ok done) old build call given new = IsAnsweredAs answered_as old build call given new
 IsPerformedIf (Err answer) old build call given new = IsOnly old answer given new
@@ -67,7 +68,8 @@ IsCommitted raw answer (Ok asked) place old given new =
     IsPerformedIf (committable answer (refusal_of old asked.0 (Ask asked.1)) (actions_asked place old asked.0 (raw.run % 64) asked.1)) old asked.0 (Ask asked.1) given new
 IsCommitted raw answer (Err status) place old given new = IsOnly old (only status) given new
 
--- An undo likewise. The model performs each that is prepared.
+-- An undo is performed exactly if the host does not refuse it, and the RMM has performed it too, with the outputs that
+-- are known. The model performs each that is prepared.
 abbrev pub IsUndoCommitted : FirmwareAnswer → Option ℕ → Place → HostView → CallAnswer → HostView → Type 0
 IsUndoCommitted answer (Some build) place old given new = IsPerformedIf (committable answer None (actions_back place old build)) old build Undo given new
 IsUndoCommitted answer None place old given new = IsOnly old (only no_such_build) given new

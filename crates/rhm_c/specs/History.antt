@@ -77,7 +77,7 @@ act_event place act = table_event place act
 abbrev pub raw_event : Place → Event → RawEvent
 raw_event place event = record (act_event place event.act) { build = event.build }
 
--- the event of a number
+-- the event at an index of the host's history, if it has one
 abbrev pub event_reading : ℕ → Place → HostView → Option RawEvent
 event_reading number place host = option_map (raw_event place) (slice_get host.history number)
 

@@ -16,12 +16,12 @@ use Rattle.history_calls.specs.Prepared.{actions_asked, actions_back}
 use Rattle.rhm_c.specs.declared.action.RawActions.{RawActions}
 use Rattle.rhm_c.specs.declared.command.RawCommand.{RawCommand}
 
--- X0 of the model, by its refusal
+-- the model's X0: the value of its refusal, or 0 without one
 abbrev pub word_of : Option Refusal → ℕ
 word_of (Some refusal) = refusal_value refusal
 word_of None = 0
 
--- the status, and the operations with X0 of the model; those before stay if there are none
+-- the status, and the operations with the model's X0; if preparing is refused, the old operations stay
 abbrev pub prepared_or_refused : Result (ArrayVec HostAction) Refusal → Option Refusal → RawActions → ℕ × RawActions
 prepared_or_refused (Ok actions) refusal old = (0, raw_actions (word_of refusal) actions.items)
 prepared_or_refused (Err own) refusal old = (refusal_status own, old)
@@ -41,7 +41,7 @@ prepared_undo build old place host = elim (build_in build) [
   | None ↦ (no_such_build, old)
 ]
 
--- the same of the host of a handle; a closed one has none
+-- the status and the operations for an open handle; a closed one has status 14, and the old operations stay
 abbrev pub on_handle : (RawActions → Place → HostView → ℕ × RawActions) → RawActions → Option PlacedHost → ℕ × RawActions
 on_handle f old (Some placed) = f old placed.frame placed.host
 on_handle f old None = (14, old)

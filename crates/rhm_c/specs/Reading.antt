@@ -21,7 +21,7 @@ use Rattle.rhm_c.specs.declared.reading.PageReading.{PageReading}
 use Rattle.rhm_c.specs.declared.reading.RealmReading.{RealmReading}
 use Rattle.rhm_c.specs.declared.reading.RecReading.{RecReading}
 
--- What is read is written, and whether there was anything is returned; if there was nothing, what was to be written stays as it is.
+-- The new value is the one that was read, or the old one if nothing was; the answer is whether anything was.
 pub record IsRead {A : Type 0} (read : Option A) (old : A) (answer : Bool) (new : A) : Type 0 where
   pub is_there : answer ≡ is_some read
   pub value : new ≡ unwrap_or read old
@@ -111,7 +111,7 @@ realm_reading build place host =
 abbrev pub rec_seen : Place → ℕ × RecAttributes → RecReading
 rec_seen place rec = record { address = address place rec.0; state = rec_state_number rec.1.state }
 
--- the REC of a number in the realm of a build
+-- the reading of a REC, by its number in a build's realm
 abbrev pub rec_reading : ℕ → ℕ → Place → HostView → Option RecReading
 rec_reading build number place host =
     option_and_then (λ of. if nat_le number 0xFFFF then option_map (rec_seen place) (rec_at (world_of host) of number) else None) (build_in build)

@@ -1,4 +1,4 @@
--- Undos, aborts, marks and ways back of a build that is named by its number.
+-- Undos, aborts, marks and rollbacks of a build, which is given by its number.
 use Rattle.std.specs.Prelude.{◌≡◌, ℕ, Option, Some, None, Result, Ok, Err, unwrap_or}
 use Rattle.host_commands.specs.declared.refusal.Refusal.{Refusal}
 use Rattle.host_commands.specs.declared.refusal.Refusal.TheVariants.{NothingToUndo}
@@ -15,12 +15,12 @@ use Rattle.rhm_c.specs.declared.answer.CallAnswer.{CallAnswer}
 use Rattle.rhm_c.specs.declared.build_call.BuildCall.{BuildCall}
 use Rattle.rhm_c.specs.declared.build_call.BuildCall.TheVariants as calls
 
--- what holds of a build before and after a call; nothing changes if there is no such build
+-- `Is` holds of a build before and after a call; nothing changes if there is no such build
 abbrev pub IsOfBuild : (HostView → ℕ → CallAnswer → HostView → Type 0) → Option ℕ → HostView → CallAnswer → HostView → Type 0
 IsOfBuild Is (Some build) old given new = Is old build given new
 IsOfBuild Is None old given new = IsOnly old (only no_such_build) given new
 
--- an undo
+-- the host answers an undo of the build, and `given` is its form in C
 abbrev pub IsUndoneHere : HostView → ℕ → CallAnswer → HostView → Type 0
 IsUndoneHere old build given new = IsAnsweredAs answered_as old build Undo given new
 
@@ -54,7 +54,7 @@ pub record IsMarkedHere (old : HostView) (build : ℕ) (given : CallAnswer) (new
 abbrev pub refusal_without_mark : HostView → ℕ → Refusal
 refusal_without_mark host build = unwrap_or (first_that_holds (build_checks (summary_of host) build)) NothingToUndo
 
--- a way back to the mark that is kept
+-- the host answers a rollback to the mark that is kept; without a mark there is a refusal, and nothing changes
 abbrev pub IsBackTo : Option Mark → HostView → ℕ → CallAnswer → HostView → Type 0
 IsBackTo (Some mark) old build given new = IsCountedAs (λ host of result after. IsBackAnswer host of mark result after) old build given new
 IsBackTo None old build given new = IsOnly old (refused_as (refusal_without_mark old build)) given new

@@ -11,22 +11,22 @@ use crate::placed_host::PlainHost;
 use granule_addr::BuildId;
 use std::alloc::Global;
 
-/// Begins the abort of a build.
+/// Begins to abort a build: the host refuses its commands until it has no operation open.
 pub(crate) fn begin(host: &mut PlainHost, build: BuildId) -> CallAnswer
     ensures { IsBegunHere host.old build result host.new }
 {
     counted(&host.begin_abort(build))
 }
 
-/// Undoes all open operations of a build.
+/// Aborts a build: undoes all its reversible operations that are not undone yet.
 pub(crate) fn abort(host: &mut PlainHost, build: BuildId) -> CallAnswer
     ensures { IsAbortedHere host.old build result host.new }
 {
     counted(&host.abort(build))
 }
 
-/// Begins the abort of a build. Returns 0, with the number of operations that it has open in `value`. Until it has
-/// none, its commands are refused, and each of its undos is performed.
+/// Begins to abort a build: the host refuses its commands until it has no operation open. Until then each of its undos
+/// is performed. Returns 0, with the number of operations that it has open in `value`.
 ///
 /// Else nothing changes: 1, 2 and 8 are the refusals, and 14 a closed handle.
 #[unsafe(no_mangle)]
@@ -42,8 +42,8 @@ pub extern "C" fn rhm_begin_abort(
     call_build(alloc, handle, build, BuildCall::BeginAbort, value)
 }
 
-/// Undoes all open operations of a build in one call. The newest is undone first. Returns 0, with the number of
-/// operations in `value`.
+/// Aborts a build in one call: undoes all its reversible operations that are not undone yet. The newest is undone
+/// first. Returns 0, with the number of operations in `value`.
 ///
 /// Else nothing changes: 1 and 8 are the refusals, and 14 a closed handle.
 #[unsafe(no_mangle)]

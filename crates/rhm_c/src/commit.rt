@@ -1,5 +1,5 @@
-//! Functions of the C interface that commit a prepared command or undo. The RMM has answered, and the host performs the
-//! command or the undo if the model's answer is the same.
+//! Functions of the C interface that complete a prepared command or a prepared undo. The RMM has answered, and the host
+//! performs the command or the undo if the model's answer is the same.
 ghost use Rattle.std.specs.Prelude.{◌≡◌};
 ghost use Rattle.std.specs.List.{list_all};
 ghost use Rattle.rhm_c.specs.Command as commands;
@@ -160,8 +160,8 @@ fn commit_undo(
     }
 }
 
-/// Performs a build's prepared command, if the RMM's answer is the model's. `answer` has the registers of the RMM's
-/// answer. Does and returns what `rhm_ask` would.
+/// Performs a prepared command of a build if the RMM answered as the model predicts. `answer` has the registers of the
+/// RMM's answer. If the model's answer is the same, does and returns what `rhm_ask` would.
 ///
 /// Else nothing changes. 16: X0 is not the model's, which is `value`: 0 if the model performs the call, and else the
 /// word of its refusal. 17: X0 is the model's, and X1 is not the output that the host knows.
@@ -185,8 +185,8 @@ pub extern "C" fn rhm_commit(
     given(committed, value)
 }
 
-/// Performs a build's prepared undo, if the RMM's answer is the model's. `rhm_commit` commits a command in the same
-/// way. Returns 0, with the number of operations that are left open in `value`.
+/// Performs a prepared undo of a build if the RMM answered as the model predicts. `rhm_commit` commits a command in the
+/// same way. Returns 0, with the number of operations that are left open in `value`.
 #[unsafe(no_mangle)]
 pub extern "C" fn rhm_commit_undo(
     alloc: Global,

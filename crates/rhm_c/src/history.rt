@@ -250,7 +250,7 @@ fn event_at(frame: Frame, host: &PlainHost, number: u64) -> Option<RawEvent>
     Some(raw_event(frame, event))
 }
 
-/// Returns the number of events in the history; 0 for a closed handle.
+/// Returns the number of events in a host's history; 0 for a closed handle.
 #[unsafe(no_mangle)]
 pub extern "C" fn rhm_event_count(alloc: Global, handle: &mut HostHandle) -> u64
     ensures count { result ≡ histories.event_count handle.old.held.host }

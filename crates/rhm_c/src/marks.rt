@@ -32,7 +32,7 @@ fn refusal_without_mark(host: &PlainHost, build: BuildId) -> Refusal
     }
 }
 
-/// Rolls a build back to its mark, by undoing all operations opened since.
+/// Rolls a build back to its marked point, by undoing what it has opened since.
 pub(crate) fn roll_back(host: &mut PlainHost, build: BuildId) -> CallAnswer
     ensures { IsBackHere host.old build result host.new }
 {
@@ -59,8 +59,8 @@ pub extern "C" fn rhm_mark(
     call_build(alloc, handle, build, BuildCall::Mark, value)
 }
 
-/// Rolls a build back to its mark, by undoing all operations opened since. All are undone in one call, the newest
-/// first. Returns 0, with the number of operations in `value`. The mark stays.
+/// Rolls a build back to its marked point, by undoing what it has opened since. All are undone in one
+/// call, the newest first. Returns 0, with the number of operations in `value`. The mark stays.
 ///
 /// Else nothing changes: 1, 2, 7 and 8 are the refusals, of which the first that holds comes, and 14 a closed handle. 7
 /// comes if the build has no mark.

@@ -11,8 +11,8 @@ use std::alloc::Global;
 /// A host that keeps the pages of its granules in a `PlainStore`.
 pub(crate) type PlainHost = Host<PlainStore>;
 
-/// A host, with the physical address and the number of its granules. The frame has the address of granule 0 and the
-/// number of granules.
+/// A host, together with the physical address of its first granule and the granule count. The frame has the address of
+/// granule 0 and the number of granules.
 #[derive(Drop)]
 pub struct PlacedHost {
     pub(crate) host: Host<PlainStore>,

@@ -1,5 +1,5 @@
-//! Functions of the C interface that prepare a command or undo, and change nothing. They give the operations that the
-//! hypervisor is to perform on its RMM.
+//! Functions of the C interface that list the RMM operations for a command or an undo. The hypervisor performs these
+//! operations on its RMM. The functions change nothing.
 ghost use Rattle.std.specs.Prelude.{◌≡◌};
 ghost use Rattle.rhm_c.specs.Preparing as preparing;
 
@@ -92,8 +92,9 @@ pub extern "C" fn rhm_prepare(
     status
 }
 
-/// Prepares a build's undo: lists the operations needed on the RMM, and changes nothing. `rhm_prepare` prepares a
-/// command in the same way. The refusals are 1, 7 and 8, and 14 is a closed handle.
+/// Lists the RMM operations needed to undo a build's newest open operation, and changes nothing. That is the last
+/// reversible one that is not undone yet. `rhm_prepare` prepares a command in the same way. The refusals are 1, 7 and
+/// 8, and 14 is a closed handle.
 #[unsafe(no_mangle)]
 pub extern "C" fn rhm_prepare_undo(
     alloc: Global,

@@ -12,9 +12,9 @@ use history_calls::Frame;
 use realm_host::{GranuleState, Mark, RealmState, RecState};
 use std::alloc::Global;
 
-/// The state of a build that a C program reads. It has the number of pages, the number of open operations, and flags
-/// for a mark and an abort. `mark` is the number of operations that were open at the mark, if the build has one. A flag
-/// is 1 if it holds, and 0 if not.
+/// The state of a build, as a C struct. It has the number of pages, the number of open operations, and flags for a mark
+/// and an abort. `mark` is the number of operations that were open at the mark, if the build has one. A flag is 1 if it
+/// holds, and 0 if not.
 #[repr(C)]
 #[derive(Drop)]
 pub struct BuildReading {
@@ -33,8 +33,8 @@ pub struct PageReading {
     pub state: u64,
 }
 
-/// The attributes of a build's realm that a C program reads. They are the addresses of its RD and first starting table,
-/// its state, VMID and IPA width, and the number of its next REC. `state` is 0 for NEW and 1 for ACTIVE.
+/// The attributes of a build's realm, as a C struct. They are the addresses of its RD and first starting table, its
+/// state, VMID and IPA width, and the number of its next REC. `state` is 0 for NEW and 1 for ACTIVE.
 #[repr(C)]
 #[derive(Drop)]
 pub struct RealmReading {

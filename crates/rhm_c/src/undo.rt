@@ -1,4 +1,4 @@
-//! Functions of the C interface that undo an operation in one call.
+//! Functions of the C interface that undo a build's newest open operation in one call.
 ghost use Rattle.std.specs.Prelude.{◌≡◌};
 ghost use Rattle.rhm_c.specs.Command.{build_in};
 ghost use Rattle.rhm_c.specs.Answer.{IsOnHandle};
@@ -11,7 +11,7 @@ use crate::placed_host::PlainHost;
 use granule_addr::BuildId;
 use std::alloc::Global;
 
-/// Reverses the newest open operation of a build.
+/// Undoes a build's newest reversible operation that is not undone yet.
 pub(crate) fn undo(host: &mut PlainHost, build: BuildId) -> CallAnswer
     ensures { IsUndoneHere host.old build result host.new }
 {
@@ -21,8 +21,8 @@ pub(crate) fn undo(host: &mut PlainHost, build: BuildId) -> CallAnswer
     }
 }
 
-/// Reverses the newest open operation of a build. It does so whatever other builds have done since. Returns 0, with the
-/// number of operations that are left open in `value`.
+/// Undoes a build's newest reversible operation that is not undone yet. It does so whatever other builds have done
+/// since. Returns 0, with the number of operations that are left open in `value`.
 ///
 /// Else nothing changes: 1, 7 and 8 are the refusals, and 14 a closed handle.
 #[unsafe(no_mangle)]

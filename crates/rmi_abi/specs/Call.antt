@@ -8,7 +8,7 @@ use Rattle.rmi_abi.specs.declared.registers.Registers.{Registers}
 
 -- ---- from registers
 
--- the call of a function up to REC_ENTER
+-- the call that registers hold, if its function identifier is one up to that of REC_ENTER
 abbrev pub first_call_in : Registers → Option Call
 first_call_in r =
     if r.x0 == 0xC4000150 then Some (Version r.x1) else
@@ -24,7 +24,7 @@ first_call_in r =
     (if r.x0 == 0xC400015B then Some (RecDestroy r.x1) else
     (if r.x0 == 0xC400015C then Some (RecEnter r.x1 r.x2) else None)))))))))))
 
--- the call of a function from RTT_CREATE on
+-- the call that registers hold, if its function identifier is one from that of RTT_CREATE on
 abbrev pub last_call_in : Registers → Option Call
 last_call_in r =
     if r.x0 == 0xC400015D then Some (RttCreate r.x1 r.x2 r.x3 r.x4) else
@@ -39,7 +39,7 @@ last_call_in r =
     (if r.x0 == 0xC4000168 then Some (RttInitRipas r.x1 r.x2 r.x3) else
     (if r.x0 == 0xC4000169 then Some (RttSetRipas r.x1 r.x2 r.x3 r.x4) else None))))))))))
 
--- The call that registers are.
+-- The call that registers hold, or None if the function is unknown.
 abbrev pub call_in : Registers → Option Call
 call_in r = if nat_le r.x0 0xC400015C then first_call_in r else last_call_in r
 
@@ -102,11 +102,11 @@ operand_count (RecAuxCount rd) = 1
 operand_count (RttInitRipas rd base top) = 3
 operand_count (RttSetRipas rd rec base top) = 4
 
--- register k has an operand, of that many
+-- the value of register k if that is one of the `count` operands, else 0
 abbrev pub operand : ℕ → ℕ → ℕ → ℕ
 operand count k x = if nat_le k count then x else 0
 
--- The function of registers and that many operands; zeros in the registers after them.
+-- The registers with their function and first `count` operands, and zeros after those.
 abbrev pub with_operands : ℕ → Registers → Registers
 with_operands count r = record {
   x0 = r.x0;

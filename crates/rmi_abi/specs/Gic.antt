@@ -11,12 +11,11 @@ gicv3_hcr_in page = word_of_page page 96
 abbrev pub gicv3_lr_in : List ℕ → ℕ → ℕ
 gicv3_lr_in page k = word_of_page page (97 + k)
 
--- The host sets no bits of gicv3_hcr but UIE, LRENPIE, NPIE, VGrp0EIE, VGrp0DIE, VGrp1EIE and VGrp1DIE, from bit 1 on,
--- and TDIR, bit 14.
+-- The host sets only permitted bits of gicv3_hcr. They are UIE, LRENPIE, NPIE, VGrp0EIE, VGrp0DIE, VGrp1EIE and
+-- VGrp1DIE, from bit 1 on, and TDIR, bit 14.
 abbrev pub is_gicv3_hcr : ℕ → Bool
 is_gicv3_hcr hcr = hcr % 2 == 0 && hcr / 2 ^ 8 % 2 ^ 6 == 0 && hcr / 2 ^ 15 == 0
 
--- The host does not set bit HW of a list register, and sets none that does not exist: GICV3_NUM_LRS is the number of
--- the last one.
+-- List register k has HW 0, and is 0 if it does not exist. GICV3_NUM_LRS is the number of the last list register.
 abbrev pub is_gicv3_lr : ℕ → List ℕ → ℕ → Bool
 is_gicv3_lr num_lrs page k = if nat_le k num_lrs then gicv3_lr_in page k / 2 ^ 61 % 2 == 0 else gicv3_lr_in page k == 0

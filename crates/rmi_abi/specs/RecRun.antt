@@ -41,7 +41,7 @@ reason_code Psci = 3
 reason_code RipasChange = 4
 reason_code HostCall = 5
 
--- Word k of a run page, of 256 to 511: the fields of an exit, and else 0.
+-- Word k, from 256 to 511, of a run page: the exit's field there, or else 0.
 abbrev pub exit_word : RecExit → ℕ → ℕ
 exit_word e k =
     if k == 256 then reason_code e.reason else

@@ -3,7 +3,7 @@ use Rattle.std.specs.Prelude.{ℕ, ◌+◌, ◌-◌, ◌*◌, ◌^◌, ◌/◌, 
 use Rattle.rmi_abi.specs.declared.word.Word.{Word}
 use Rattle.rmi_abi.specs.declared.word.Word.TheVariants.{Success, ErrorInput, ErrorRealm, ErrorRec, ErrorRtt, Running}
 
--- the word as X0 has it
+-- the value of X0 that encodes the result word
 abbrev pub number : Word → ℕ
 number Success = 0
 number ErrorInput = 1
@@ -21,7 +21,7 @@ word_at status index =
     (if status == 1 && index == 0 then Some ErrorInput else
     (if status == 3 && index == 0 then Some ErrorRec else None))))
 
--- the word that X0 is read as
+-- the standard's result word that a value of X0 encodes, if there is one; none for the value of Running
 abbrev pub word_of : ℕ → Option Word
 word_of x0 = if nat_lt x0 0x10000 then word_at (x0 % 256) (x0 / 256) else None
 

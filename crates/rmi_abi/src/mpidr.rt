@@ -1,4 +1,4 @@
-//! The check of MPIDR values, and the REC numbers that they encode.
+//! Functions that check MPIDR values, and decode REC numbers from them.
 ghost use Rattle.std.specs.Prelude.{◌≡◌};
 ghost use Rattle.rmi_abi.specs.Mpidr as affinities;
 

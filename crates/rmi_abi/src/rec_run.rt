@@ -47,8 +47,8 @@ impl EnterFlags {
     }
 }
 
-/// Returns the value of general-purpose register `k` for the entry of a REC. A host gives the value in the run page.
-/// RMM 1.0, RmiRecEnter.
+/// Returns the value for general-purpose register `k` at REC entry, from the run page. The host gives this value. RMM
+/// 1.0, RmiRecEnter.
 pub fn entry_gpr(page: &[u8], k: u8) -> u64
     requires page { length page.now ≡ 4096 }
     requires below { k < 31 }

@@ -41,8 +41,8 @@ pub struct RmmSettings {
     pub ignores_data_flags: bool,
     /// Whether DATA_CREATE requires that the RIPAS is RAM.
     pub data_needs_ram: bool,
-    /// Whether a command aligns its output `top` for an address in a live entry. If so, `top` is the start of that
-    /// entry; if not, `top` is the address itself.
+    /// Whether the output `top` for an address inside a live entry is that entry's start. If not, `top` is the address
+    /// itself.
     pub aligns_live_top: bool,
     /// Whether a PSCI exit shows only the function and the target.
     pub shows_target_alone: bool,
@@ -115,7 +115,7 @@ impl RmmSettings {
     }
 }
 
-/// RMM settings that are checked to be in range.
+/// A set of RMM settings that are all in their ranges.
 #[derive(Clone, Copy)]
 pub struct Platform {
     settings: RmmSettings,
@@ -135,7 +135,7 @@ impl Model for Platform {
 }
 
 impl Platform {
-    /// Creates a platform with the given settings. Returns `None` if a setting is out of its range.
+    /// Creates a platform from the given settings, if they are in their ranges. Returns `None` otherwise.
     pub fn new(settings: RmmSettings) -> Option<Platform>
         ensures { result ≡ (if ranges.is_platform settings then Some settings else None) }
     {

@@ -1,4 +1,5 @@
--- The attributes of a realm and of a REC beside their granules. RMM 1.0, Realm and REC attributes.
+-- The attributes of a realm without its RECs and translation, and of a REC without its granule. RMM 1.0, Realm and REC
+-- attributes.
 use Rattle.std.specs.Prelude.{ℕ, List}
 use Rattle.std.specs.FinMap.{FinMap}
 use Rattle.std.specs.Ordering.{nat_cmp}

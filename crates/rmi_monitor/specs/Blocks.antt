@@ -1,4 +1,4 @@
--- Blocks beside a history: those that are taken from an RMM's store, and those that are given back to it.
+-- Steps of a history that take a block from an RMM's store, or give one back to it.
 use Rattle.std.specs.Prelude.{◌≡◌, ℕ, ◌<◌, ◌≤◌, List, Some, None}
 use Rattle.std.specs.List.{last_or}
 use Rattle.page_arena.specs.Block.{IsFreeBlock}
@@ -11,19 +11,19 @@ use Rattle.realm_model.specs.Undoing.{by}
 use Rattle.rmi_monitor.specs.View.{MonitorView, IsGivable, with_block, without_block}
 use Rattle.rmi_monitor.specs.Mirror.{IsMirror, IsPerformed}
 
--- A free block of order 0 to 9 that is taken is a step of any build that there is.
+-- Any existing build can take a free block of order 0 to 9, and that is a step.
 abbrev pub TakenIsStep : Limits → List Event → World → MonitorView → ℕ → ℕ → ℕ → Type 0
 TakenIsStep limits history world monitor build order first =
     IsMirror limits history world monitor → build < limits.builds → order ≤ 9 → IsFreeBlock monitor.free order first
     → IsPerformed limits history world build (Take order first) (with_block monitor order first)
 
--- A block can be given back, and that is a step in turn.
+-- The block can be given back, and the event that gives it back is in turn and a step.
 pub record IsGivenBack (limits : Limits) (history : List Event) (world : World) (monitor : MonitorView) (build order first : ℕ) : Type 0 where
   pub givable : IsGivable monitor order first
   pub turn : IsInTurn history (by build (UnTake order first))
   pub performed : IsPerformed limits history world build (UnTake order first) (without_block monitor order first)
 
--- this holds if the Take is the newest operation that the build has open
+-- a block can be given back if its Take is the newest operation that the build has open
 abbrev pub GivenBackIsStep : Limits → List Event → World → MonitorView → ℕ → ℕ → ℕ → Type 0
 GivenBackIsStep limits history world monitor build order first =
     IsMirror limits history world monitor → last_or None (open_entries build history) ≡ Some (Take order first)

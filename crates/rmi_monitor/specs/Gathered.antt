@@ -1,9 +1,9 @@
--- A finite map from a list: the entries at indexes from 0 on.
+-- A finite map gathered from the entries at the indexes from 0 on.
 use Rattle.std.specs.Prelude.{◌≡◌, ◌<◌, ℕ, zero, suc, Option, Some, None}
 use Rattle.std.specs.FinMap.{FinMap, empty, insert}
 use Rattle.std.specs.Ordering.{nat_cmp}
 
--- the entry that an index adds to a map, if it has one
+-- the map with one more entry, or the same map if there is none
 abbrev pub added : {A : Type 0} → Option (ℕ × A) → FinMap nat_cmp A → FinMap nat_cmp A
 added None map = map
 added (Some entry) map = insert map entry.0 entry.1
@@ -13,6 +13,6 @@ unfoldable pub gathered : {A : Type 0} → (ℕ → Option (ℕ × A)) → ℕ �
 gathered entry_at zero = empty
 gathered entry_at (suc n) = added (entry_at n) (gathered entry_at n)
 
--- no two of the first `n` indexes have entries of one number
+-- no two of the first `n` indexes have entries with the same key
 abbrev pub IsOnce : {A : Type 0} → (ℕ → Option (ℕ × A)) → ℕ → Type 0
 IsOnce {A} entry_at n = (i j key : ℕ) (a b : A) → i < n → j < n → entry_at i ≡ Some (key, a) → entry_at j ≡ Some (key, b) → i ≡ j

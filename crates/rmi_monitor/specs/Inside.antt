@@ -46,7 +46,7 @@ fields_of vmids aux used granules pages free realms rec_counts recs = record {
   recs = recs;
 }
 
--- the realm whose RD a granule is
+-- the attributes of the realm whose RD is the granule
 abbrev pub realm_at : Fields → ℕ → Option RealmAttributes
 realm_at fields rd = slice_index_or fields.realms rd None
 
@@ -63,7 +63,7 @@ rec_at fields granule = slice_index_or fields.recs granule None
 abbrev pub is_of_realm : List Granule → ℕ → ℕ → Bool
 is_of_realm granules rd granule = option_eq nat_eq (granule_at granules granule).realm (Some rd)
 
--- the REC that a granule is, with its number, if it is a REC of the realm
+-- the number and the row of the REC that the granule holds, if the granule belongs to the realm
 abbrev pub rec_of : List Granule → List (Option RecAttributes) → ℕ → ℕ → Option (ℕ × RecRow)
 rec_of granules recs rd granule =
     if is_of_realm granules rd granule then option_map (λ rec. (rec.number, rec_row granule rec)) (slice_index_or recs granule None) else None
@@ -83,7 +83,7 @@ pub record IsRecAt (granules : List Granule) (recs : List (Option RecAttributes)
   pub at : rec_of granules recs rd granule ≡ Some (number, row)
   pub found : get (recs_of granules recs rd) number ≡ Some row
 
--- the realm of a granule, with its RECs and its translation
+-- the row of the realm whose RD is the granule, with its RECs and its translation
 abbrev pub descriptor_of : Fields → ℕ → Option RealmRow
 descriptor_of fields rd =
     option_map (λ realm. realm_row realm (recs_of fields.granules fields.recs rd) (rows fields.pages realm.root)) (realm_at fields rd)
@@ -122,7 +122,7 @@ pub record IsSoundAt (fields : Fields) (granule : ℕ) : Type 0 where
   pub rd : is_some (realm_at fields granule) ≡ is_rd_state (granule_at fields.granules granule).state
   pub rec : is_some (rec_at fields granule) ≡ is_rec_state (granule_at fields.granules granule).state
 
--- the granule of a REC belongs to a realm that is there, and its number is below the realm's next
+-- the REC's granule belongs to an existing realm, and the REC's number is below the realm's next
 pub record IsRecOf (fields : Fields) (granule : ℕ) (rec : RecAttributes) : Type 0 where
   pub rd : ℕ
   pub of : (granule_at fields.granules granule).realm ≡ Some rd
@@ -151,6 +151,7 @@ pub record IsWhole (fields : Fields) : Type 0 where
   pub each : (granule : ℕ) → IsSoundAt fields granule
   pub tables : (rd : ℕ) (realm : RealmAttributes) → realm_at fields rd ≡ Some realm → HasTables fields.pages fields.granules rd realm.root
   pub recs : HasRecs fields
-  -- A realm's count is that of its RECs. A VMID is used exactly when a realm has it, and then only one has it.
+  -- The count kept for a realm is the number of its RECs. A VMID is used exactly when a realm has it, and then only
+  -- one has it.
   pub counted : (rd : ℕ) → rec_count_at fields rd ≡ len (recs_of fields.granules fields.recs rd)
   pub vmids_used : (vmid : ℕ) → count_by (is_realm_with vmid) fields.realms ≡ (if is_used fields.used vmid then 1 else 0)

@@ -6,13 +6,13 @@ use Rattle.realm_model.specs.Command.Check.{is_new, is_protected}
 use Rattle.rmi_monitor.specs.Attributes.{RealmAttributes}
 use Rattle.rtt.specs.declared.tables.Tables.{Tables}
 
--- the tables of the realm of an RD, and the IPA granule of that number, which is protected there
+-- `at` has the realm's tables, with its RD, and the IPA granule, which is protected in the realm
 pub record IsLocated (realm : RealmAttributes) (rd ipa : ℕ) (at : Tables × ℕ) : Type 0 where
   pub tables : at.0 ≡ record { rd = rd; root = realm.root }
   pub same : at.1 ≡ ipa
   pub protected : is_protected_at ipa realm.root.width ≡ true
 
--- the same, by the cell of the RD in the machine
+-- the same, for the realm whose RD is granule `rd` of the machine
 pub record Locates (machine : Machine) (rd ipa : ℕ) (at : Tables × ℕ) : Type 0 where
   pub row : RealmRow
   pub there : (cell_at machine rd).descriptor ≡ Some row
@@ -25,6 +25,6 @@ pub record LocatesNew (machine : Machine) (rd ipa : ℕ) (at : Tables × ℕ) : 
   pub place : Locates machine rd ipa at
   pub is_fresh : is_new place.row.state ≡ true
 
--- there is no such realm, or the IPA granule is not protected there
+-- granule `rd` is no realm's RD, or the IPA granule is not protected in that realm
 abbrev pub IsNowhere : Machine → ℕ → ℕ → Type 0
 IsNowhere machine rd ipa = (row : RealmRow) → (cell_at machine rd).descriptor ≡ Some row → is_protected row ipa ≡ false

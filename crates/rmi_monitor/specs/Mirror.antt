@@ -20,8 +20,8 @@ use Rattle.realm_model.specs.declared.act.RealmAndRec.{RealmAndRec}
 use Rattle.rmi_monitor.specs.Performing.{outcome_on, IsReady}
 use Rattle.realm_model.specs.Places.{IsPlaceOf, rec_granule}
 
--- The history is legal and leads to the world, and the RMM has its machine. A granule is free exactly when nobody
--- leases it.
+-- The history is legal and leads to the world. The RMM has the world's machine, and the numbers of VMIDs and auxiliary
+-- granules of the limits. A granule is free exactly when nobody leases it.
 pub record IsMirror (limits : Limits) (history : List Event) (world : World) (monitor : MonitorView) : Type 0 where
   pub legal : IsLegal limits history
   pub world_is : replay limits history ≡ Some world
@@ -30,14 +30,14 @@ pub record IsMirror (limits : Limits) (history : List Event) (world : World) (mo
   pub machine : monitor.machine ≡ world.machine
   pub free : monitor.free ≡ map is_none world.leases
 
--- An RMM that has just been built is that of the empty history.
+-- An RMM that has just been built mirrors the empty history.
 abbrev pub FreshIsMirror : Limits → Type 0
 FreshIsMirror limits = IsMirror limits [] (opening limits) (fresh limits.vmids limits.aux limits.pages)
 
 -- ---- the requirements
 
--- The requirements on a command of a build before it goes to the RMM. The build is there and leases the granules named.
--- The operation's own numbers are in range, and its answers agree with the machine.
+-- The requirements on a build's command before it goes to the RMM. The build exists and leases the granules named. The
+-- operation's own numbers are in range, and its answers agree with the machine.
 pub record IsAsked (limits : Limits) (world : World) (build : ℕ) (act : Act) : Type 0 where
   pub command : is_command act ≡ true
   pub there : build < limits.builds
@@ -45,18 +45,18 @@ pub record IsAsked (limits : Limits) (world : World) (build : ℕ) (act : Act) :
   pub in_range : is_in_range act ≡ true
   pub fitting : fits act (realm_of build world) (named_cells world act) ≡ true
 
--- if an operation creates a REC, its build has fewer events than RECs have numbers
+-- if the operation creates a REC, its build has fewer than 65,535 events
 abbrev pub HasFewEvents : List Event → ℕ → Act → Type 0
 HasFewEvents history build (Rec granule auxiliaries number) = length (acts_of build history) < 65535
 HasFewEvents history build _ = Unit {0}
 
--- So an operation that is asked for can be performed.
+-- An operation that meets these requirements can be performed on an RMM that mirrors the history.
 abbrev pub AskedIsReady : Limits → List Event → World → MonitorView → ℕ → Act → RealmAndRec → Type 0
 AskedIsReady limits history world monitor build act place =
     IsMirror limits history world monitor → IsPlaceOf world build act place → IsAsked limits world build act → HasFewEvents history build act
     → IsReady monitor place act
 
--- A REC that is destroyed has the granule that its operation names.
+-- If an operation that destroys a REC meets the requirements, it names that REC's granule.
 abbrev pub UnRecNamesItsRec : Limits → World → ℕ → Act → Type 0
 UnRecNamesItsRec limits world build (UnRec granule auxiliaries number) =
     IsAsked limits world build (UnRec granule auxiliaries number) → rec_granule (realm_of build world) number ≡ Some granule
@@ -72,12 +72,12 @@ pub record IsPerformed (limits : Limits) (history : List Event) (world : World) 
   pub leases : next.leases ≡ leases_after build act world.leases
   pub mirror : IsMirror limits (history ++ by build act ∷ []) next new
 
--- The RMM's answer to an operation that is asked for is its outcome in the world. An operation that is done is a step.
+-- The operation is done, as a step; or it is refused with its outcome in the world, and nothing changes.
 abbrev pub IsStepOrRefusal : Limits → List Event → World → MonitorView → ℕ → Act → Result (Unit {0}) Rmi → MonitorView → Type 0
 IsStepOrRefusal limits history world old build act (Ok done) new = IsPerformed limits history world build act new
 IsStepOrRefusal limits history world old build act (Err rmi) new = (outcome_in limits world (by build act) ≡ Err rmi) × (new ≡ old)
 
--- this holds, for an operation in turn, of every answer that `perform` can give and every RMM that it can leave
+-- for an operation asked for in turn, each possible result of `perform` is a step or a refusal
 abbrev pub PerformedIsStep : Limits → List Event → World → MonitorView → ℕ → Act → RealmAndRec → Type 0
 PerformedIsStep limits history world monitor build act place =
     IsMirror limits history world monitor → IsPlaceOf world build act place → IsAsked limits world build act → IsInTurn history (by build act)
@@ -94,15 +94,15 @@ pub record IsAccepted (limits : Limits) (history : List Event) (world : World) (
   pub updates : List Update
   pub accepted : outcome_on monitor place.realm back ≡ Ok updates
 
--- The newest operation that a build has open can be undone by a command: it has a reverse that is one, and created no
--- REC that runs.
+-- The newest operation that the build has open can be undone by a command of the RMM. Its reverse is a command, and the
+-- operation created no REC that runs.
 pub record CanBeUndone (history : List Event) (world : World) (build : ℕ) (act back : Act) : Type 0 where
   pub newest : last_or None (open_entries build history) ≡ Some act
   pub reverse : reverse_of act ≡ Some back
   pub command : is_command back ≡ true
   pub at_rest : is_running (realm_of build world) act ≡ false
 
--- then the RMM accepts the reverse
+-- if a command can undo the newest open operation, the RMM accepts that command
 abbrev pub NewestIsAccepted : Limits → List Event → World → MonitorView → ℕ → Act → Act → RealmAndRec → Type 0
 NewestIsAccepted limits history world monitor build act back place =
     IsMirror limits history world monitor → IsPlaceOf world build back place → CanBeUndone history world build act back

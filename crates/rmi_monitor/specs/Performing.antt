@@ -33,16 +33,16 @@ is_in_realm _ = false
 
 -- ---- the outcome of an operation
 
--- the realm of an RD as commands see it
+-- a realm's RD as a command sees it, if there is one
 abbrev pub realm_on : MonitorView → Option ℕ → Option Seen
 realm_on monitor rd = option_map (seen_in monitor) rd
 
--- The outcome of an operation of a build whose realm has that RD.
+-- The outcome on the RMM of an operation by a build whose realm has that RD.
 abbrev pub outcome_on : MonitorView → Option ℕ → Act → Outcome
 outcome_on monitor rd act =
     outcome_of monitor.vmids monitor.aux (used_vmids monitor.machine) act (realm_on monitor rd) (map (seen_in monitor) (named act))
 
--- The answer, and the RMM after it, are the outcome of the command.
+-- The answer and the new RMM follow from the command's outcome.
 pub record IsDone (old : MonitorView) (outcome : Outcome) (result : Result (Unit {0}) Rmi) (new : MonitorView) : Type 0 where
   pub answer : Answers result outcome
   pub machine : new ≡ after_command outcome old
@@ -64,7 +64,7 @@ abbrev pub IsNumberReady : MonitorView → Option ℕ → Act → Type 0
 IsNumberReady monitor realm (Rec granule auxiliaries number) = HasNextNumber monitor realm
 IsNumberReady monitor realm _ = Unit {0}
 
--- `rec` is the granule of the realm's REC of that number, or None if there is none, and the granule is taken
+-- `rec` is the taken granule of the realm's REC with that number, or None if there is no such REC
 pub record IsRecReady (monitor : MonitorView) (realm : Option ℕ) (number : ℕ) (rec : Option ℕ) : Type 0 where
   pub is : rec ≡ rec_granule (realm_on monitor realm) number
   pub taken : IsTakenAt monitor rec

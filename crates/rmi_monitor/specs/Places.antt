@@ -26,12 +26,13 @@ is_delegated_at granules granule = elim (granule_at granules granule).state [ De
 abbrev pub is_undelegated_at : List Granule → ℕ → Bool
 is_undelegated_at granules granule = elim (granule_at granules granule).state [ Undelegated ↦ true | _ ↦ false ]
 
--- a granule can be a starting table beside that RD: it is DELEGATED, and another granule
+-- a granule can be a starting table of the new realm: it is DELEGATED, and not the RD
 abbrev pub is_fit_to_start : List Granule → ℕ → ℕ → Bool
 is_fit_to_start granules rd table = is_delegated_at granules table && not (table == rd)
 
--- The requirements of a new realm. The granule for the RD is DELEGATED, the starting tables are outside it from a
--- multiple of their count on, and the VMID is up to the machine's greatest.
+-- The granules and the VMID meet the requirements of a new realm, if other realms are disregarded. The RD and the
+-- starting tables are DELEGATED, and different granules. The first table is at a multiple of their count. The VMID is
+-- from 1 to the machine's greatest.
 abbrev pub are_fit_for_realm : List Granule → ℕ → Root → ℕ → ℕ → Bool
 are_fit_for_realm granules rd root vmid vmids =
     root.first % start_count root.width == 0 && is_delegated_at granules rd
@@ -41,7 +42,7 @@ are_fit_for_realm granules rd root vmid vmids =
 abbrev pub is_realm_with : ℕ → Option RealmAttributes → Bool
 is_realm_with vmid place = elim place [ Some realm ↦ realm.vmid == vmid | None ↦ false ]
 
--- the granules are DELEGATED, none is there twice, and there are `count` of them after the first
+-- the granules are DELEGATED and distinct, and `count` of them follow the first
 abbrev pub are_fit_for_rec : List Granule → ℕ → List ℕ → ℕ → Bool
 are_fit_for_rec granules first others count =
     list_all (is_delegated_at granules) (first ∷ others) && are_distinct (first ∷ others) && length others == count

@@ -14,7 +14,7 @@ use Rattle.realm_model.specs.Command.Realm.{realm_create}
 use Rattle.realm_model.specs.Step.{used_vmids}
 use Rattle.rmi_monitor.specs.Attributes.{RealmAttributes}
 
--- The numbers of VMIDs and of auxiliary granules of a REC, the machine, and for each granule whether it is free.
+-- An RMM's numbers of VMIDs and of auxiliary granules per REC, its machine, and for each granule whether it is free.
 pub record MonitorView : Type 0 where
   pub vmids : ℕ
   pub aux : ℕ
@@ -48,7 +48,7 @@ after_command outcome monitor = record monitor { machine = machine_after_command
 
 -- ---- realms
 
--- the command that creates a realm, on the granules that an RMM has and the VMIDs that its realms use
+-- the outcome of creating a realm, given the RMM's granules and the VMIDs in use
 abbrev pub make_realm : MonitorView → ℕ → Root → ℕ → Outcome
 make_realm monitor rd root vmid =
     realm_create monitor.vmids (used_vmids monitor.machine) (seen_in monitor rd) (map (seen_in monitor) (starting_tables root)) root vmid
@@ -63,7 +63,7 @@ attributes_of realm = record {
   measurement = realm.measurement;
 }
 
--- a granule is the REC of that number in the realm of that RD
+-- the granule holds the REC with that number in the realm whose RD is `rd`
 pub record IsRec (machine : Machine) (rd number granule : ℕ) : Type 0 where
   pub realm : RealmRow
   pub there : (cell_at machine rd).descriptor ≡ Some realm
@@ -75,8 +75,8 @@ pub record IsRec (machine : Machine) (rd number granule : ℕ) : Type 0 where
 abbrev pub rec_in : Machine → ℕ → ℕ → Option RecRow
 rec_in machine rd number = option_and_then (λ realm. get realm.recs number) (cell_at machine rd).descriptor
 
--- The outcome of a command on a REC is that of its definition on the realm and the number. If the granule is the REC of
--- no realm, the command is refused with an input error and nothing changes.
+-- A command on the granule's REC has the outcome that its definition gives for the realm and the number. If the granule
+-- is the REC of no realm, the command is refused with an input error and nothing changes.
 pub record IsOnRec {A : Type 0} (command : Seen → ℕ → Outcome) (old : MonitorView) (granule : ℕ) (result : Result A Rmi) (new : MonitorView) : Type 0 where
   pub answer : (rd number : ℕ) → IsRec old.machine rd number granule → Answers result (command (seen_in old rd) number)
   pub machine : (rd number : ℕ) → IsRec old.machine rd number granule → new ≡ after_command (command (seen_in old rd) number) old
@@ -88,7 +88,7 @@ pub record IsOnRec {A : Type 0} (command : Seen → ℕ → Outcome) (old : Moni
 abbrev pub with_block : MonitorView → ℕ → ℕ → MonitorView
 with_block monitor order first = record monitor { free = with_taken monitor.free order first }
 
--- a block that may be given back: all its granules are UNDELEGATED
+-- the block may be given back: it is taken, and all its granules are UNDELEGATED
 pub record IsGivable (monitor : MonitorView) (order first : ℕ) : Type 0 where
   pub taken : IsTakenBlock monitor.free order first
   pub undelegated : (granule : ℕ) → first ≤ granule → granule < first + 2 ^ order → is_undelegated (seen_in monitor granule) ≡ true

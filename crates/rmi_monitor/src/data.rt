@@ -77,8 +77,7 @@ impl<S: PageStore> Monitor<S> {
         Ok(at)
     }
 
-    /// Maps a DELEGATED granule into a realm as a data page. The bytes of the page are zero, and the RIPAS stays
-    /// unchanged.
+    /// Maps a DELEGATED granule into a realm as a data page whose bytes are zero. The RIPAS stays unchanged.
     ///
     /// RMM 1.0, RMI_DATA_CREATE_UNKNOWN. RMI_ERROR_INPUT comes if `rd` is no RD, `page` is not DELEGATED, or the IPA
     /// granule `ipa` is not protected. RMI_ERROR_RTT comes with the level at which the walk ended, unless that is 3 and

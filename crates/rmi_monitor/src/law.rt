@@ -14,8 +14,8 @@ pub fn a_new_monitor_agrees_with_the_model()
     ensures { (limits : Limits) → FreshIsMirror limits }
 {}
 
-/// Each operation that a build's command may perform meets the precondition of `perform`. If the operation creates a
-/// REC, its build must have fewer than 65,535 events.
+/// Each operation that meets the requirements on a build's command also meets the precondition of `perform`. If the
+/// operation creates a REC, its build must have fewer than 65,535 events.
 pub fn what_is_asked_can_be_performed()
     ensures { (limits : Limits) (history : List Event) (world : World) (monitor : MonitorView) (build : ℕ) (act : Act) (place : RealmAndRec) → AskedIsReady limits history world monitor build act place }
 {}
@@ -25,8 +25,8 @@ pub fn what_is_performed_is_a_step()
     ensures { (limits : Limits) (history : List Event) (world : World) (monitor : MonitorView) (build : ℕ) (act : Act) (place : RealmAndRec) → PerformedIsStep limits history world monitor build act place }
 {}
 
-/// The RMM does not refuse to reverse a build's newest open operation. This holds unless the operation created a REC
-/// that runs.
+/// The RMM accepts the command that performs a build's next undo. The operation that is undone is the newest that the
+/// build has open. The command is accepted unless that operation created a REC that runs.
 pub fn newest_is_accepted()
     ensures { (limits : Limits) (history : List Event) (world : World) (monitor : MonitorView) (build : ℕ) (act back : Act) (place : RealmAndRec)
         → NewestIsAccepted limits history world monitor build act back place }
@@ -37,12 +37,14 @@ pub fn rec_taken_away_is_the_one_named()
     ensures { (limits : Limits) (world : World) (build : ℕ) (act : Act) → UnRecNamesItsRec limits world build act }
 {}
 
-/// A Take of a free block is a step of the model. The Take is by any build, and the block has any order from 0 to 9.
+/// Taking a free block of granules for a build is a step of the model. This holds for each build, and for a block of
+/// any order from 0 to 9.
 pub fn what_is_taken_is_a_step()
     ensures { (limits : Limits) (history : List Event) (world : World) (monitor : MonitorView) (build order first : ℕ) → TakenIsStep limits history world monitor build order first }
 {}
 
-/// The reverse of a build's newest open Take is a step of the model. The RMM can give the block back.
+/// If a build's next undo gives back a block, that is a step of the model. The operation that is undone is a Take, the
+/// newest that the build has open. The RMM can give the block back.
 pub fn what_is_given_back_is_a_step()
     ensures { (limits : Limits) (history : List Event) (world : World) (monitor : MonitorView) (build order first : ℕ) → GivenBackIsStep limits history world monitor build order first }
 {}

@@ -26,7 +26,7 @@ pub fn extend_measurement(old: &[u8; 32], event: &[u8]) -> [u8; 32]
     hasher.finalize()
 }
 
-/// Returns the bytes by which a new data page extends a realm's measurement. They are the tag 1, the page's IPA
+/// Returns the bytes by which RMI_DATA_CREATE extends a realm's measurement. They are the tag 1, the page's IPA
 /// granule, and the SHA-256 digest of the page. The IPA granule is four bytes, big endian.
 ///
 /// RMM 1.0, Realm measurement, RMI_DATA_CREATE; the bytes are this profile's own.

@@ -1,4 +1,4 @@
-//! The simulated RMM, and the taking and giving back of page blocks.
+//! The simulated RMM, which also takes page blocks from its store and gives them back.
 ghost use Rattle.std.specs.Prelude.{◌≡◌, ◌<◌, ◌≤◌, ◌↔◌, ℕ, Bool, true, List, length, filter, replicate, sum, Some, None, IsTrue, IfOk, IfErr, IfSome, IfNone};
 ghost use Rattle.std.specs.Bool.{OnTrue, OnFalse};
 ghost use Rattle.page_arena.specs.Page.{page_at};

@@ -1,4 +1,4 @@
-//! The operations of builds, performed as commands of the RMM.
+//! Performs the operations of builds by commands of the simulated RMM.
 ghost use Rattle.std.specs.Prelude.{◌≡◌};
 ghost use Rattle.rmi_monitor.specs.View.{Answers, after_command};
 ghost use Rattle.rmi_monitor.specs.Performing.{IsReady, outcome_on};
@@ -8,8 +8,8 @@ use crate::realm_operation::in_realm;
 use page_arena::PageStore;
 use realm_model::{Act, RealmAndRec, Rmi};
 
-/// Performs an operation of a build as an RMM command. The command has the granules and numbers that the operation
-/// names. An answer in the operation, a byte that is read or the number of a REC, is taken as it is.
+/// Performs a build's operation by the RMM command that corresponds to it. The command has the granules and numbers
+/// that the operation names. An answer in the operation, a byte that is read or the number of a REC, is taken as it is.
 ///
 /// The answer and the machine after it are those of the operation's definition. A refusal changes nothing.
 #[tactic(auto, unfolding(realm_model::specs::Act::named, realm_model::specs::Outcome::outcome_of))]

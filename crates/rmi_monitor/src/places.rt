@@ -1,4 +1,5 @@
-//! Checks and changes of the states of granules. The checks are on granules that are to become a page or a REC.
+//! Functions that check and change the states of granules. The checks are on granules that are to become an RD, a
+//! table, a page or a REC, or that are to be copied.
 ghost use Rattle.std.specs.Prelude.{◌≡◌, ◌<◌, ◌&&◌, ◌∷◌, All, IsTrue, length, Some, None, option_map, slice_set};
 ghost use Rattle.std.specs.List.{list_all};
 ghost use Rattle.granule_addr.specs.Page.{zero_page};

@@ -103,8 +103,8 @@ impl<S: PageStore> Monitor<S> {
         Ok(())
     }
 
-    /// Destroys a realm without RECs or tables below its starting tables. The starting tables and the RD are then zero
-    /// and DELEGATED.
+    /// Destroys a realm that has no RECs, and no tables below its starting tables. The starting tables and the RD are
+    /// then zero and DELEGATED.
     ///
     /// RMM 1.0, RMI_REALM_DESTROY. RMI_ERROR_INPUT comes if the granule is no RD, RMI_ERROR_REALM if the realm has a
     /// REC, or an entry of a starting table is TABLE.

@@ -4,7 +4,7 @@ use Rattle.page_arena.specs.Word.{with_bytes}
 use Rattle.rmm_model.specs.Host.{is_host_page}
 use Rattle.rmm_model.specs.Machine.{Machine, page_in, number_of, with_page}
 
--- the host may access that many bytes from an address on, and they are in one granule
+-- the host may access the given number of bytes from an address on, all in one granule
 abbrev pub can_access_bytes : Machine → ℕ → ℕ → Bool
 can_access_bytes m address count = nat_le count (4096 - address % 4096) && is_host_page m address
 

@@ -7,7 +7,7 @@ use Rattle.rmm_model.specs.Step.{ripas_of}
 use Rattle.rmm_granules.specs.declared.rec_edit.RecEdit.{RecEdit}
 use Rattle.rmm_granules.specs.declared.rec_edit.RecEdit.TheVariants.{Ripas, Psci, Runnable, Nothing}
 
--- what changes of a REC at a step of its guest that makes an exit
+-- the change of a REC's attributes at a guest step that causes an exit
 abbrev pub exit_edit : GuestStep → RecEdit
 exit_edit (SetRipas base top ripas more) = Ripas (record { base = base; top = top; ripas = ripas_of ripas; changes_destroyed = more % 2 == 1 })
 exit_edit (CpuOn target entry_point context) = Psci (CpuOnRequest target entry_point context)

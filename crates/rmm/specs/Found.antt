@@ -148,7 +148,7 @@ pub record IsNewRec (m : Machine) (rd rec params : ℕ) (found : NewRec) : Type 
   pub next : found.realm.next_rec < 2 ^ 31
   pub count : found.realm.rec_count < 2 ^ 15
 
--- a request that can be complete
+-- a PSCI request that can be completed, with its calling REC and its target REC
 pub record IsCompletion (m : Machine) (calling target : ℕ) (found : Completion) : Type 0 where
   pub place : found.calling ≡ number_of m calling
   pub inside : found.calling < granule_count m

@@ -1,9 +1,9 @@
--- Readings of a machine that no host has. This RMM's own.
+-- Readings of a machine that a host cannot make. This RMM's own.
 use Rattle.std.specs.Prelude.{ℕ, ◌&&◌, nat_lt, Option, Some, None, if◌then◌else◌}
 use Rattle.page_arena.specs.Word.{word_of_page}
 use Rattle.rmm_model.specs.Machine.{Machine, page_in, is_aligned, is_inside, number_of}
 
--- word i of the granule that begins at an address, whatever its state; none comes where there is none
+-- word i of the granule that begins at an address, whatever its state, if there is one
 abbrev pub word_shown : Machine → ℕ → ℕ → Option ℕ
 word_shown m address i =
     if is_aligned address && is_inside m address && nat_lt i 512 then Some (word_of_page (page_in m (number_of m address)) i) else None

@@ -1,4 +1,5 @@
-//! Loads, stores and fills of memory by the host. The file also has readings of the states and words of granules.
+//! The host's accesses to memory: loads, stores and fills. The file also has readings of the states and words of
+//! granules.
 ghost use Rattle.std.specs.Prelude.{◌≡◌, ◌<◌, length, is_some, IfSome};
 ghost use Rattle.std.specs.Option.{option_copied};
 ghost use Rattle.rmm_model.specs.Machine.{granule_count, number_of};

@@ -1,4 +1,4 @@
-//! The RMM: its calls in registers, and the host's loads and stores.
+//! The simulated RMM, with functions for RMI calls and for the host's memory accesses.
 ghost use Rattle.std.specs.Prelude.{◌≡◌, length, IfSome};
 ghost use Rattle.std.specs.Option.{option_copied};
 ghost use Rattle.rmm_model.specs.Call.{rmi, performed};
@@ -124,8 +124,8 @@ impl<S: PageStore> Rmm<S> {
         store(&mut self.granules, address, word)
     }
 
-    /// Stores the given bytes from an address on. Returns `false`, with nothing changed, if the host faults, or if the
-    /// bytes do not fit in one granule.
+    /// Stores the given bytes in memory, starting at an address. Returns `false`, with nothing changed, if the host
+    /// faults, or if the bytes do not fit in one granule.
     pub fn store_bytes(&mut self, address: u64, bytes: &[u8]) -> bool
         ensures answer { result ≡ can_access_bytes self.old address (length bytes.now) }
         ensures machine { self.new ≡ after_store_bytes self.old address bytes.now }

@@ -1,4 +1,4 @@
-//! The lookup of the REC at an address that a command names.
+//! Finds the REC at the address that an RMI command is given.
 ghost use Rattle.std.specs.Prelude.{◌≡◌, ◌<◌, IfOk};
 ghost use Rattle.rmm_model.specs.Check.{first_failing, refusal_in, error_rec};
 ghost use Rattle.rmm_model.specs.Machine.{granule_count, number_of};

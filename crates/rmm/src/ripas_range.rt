@@ -1,4 +1,4 @@
-//! Checks and changes of RIPAS in a range of IPAs. The entries that change are those of one table.
+//! Functions that check a range of IPAs and change its RIPAS. The entries that change are those of one table.
 ghost use Rattle.std.specs.Prelude.{◌≡◌, ◌+◌, ◌^◌, ◌<◌, ◌≤◌, [], OnOk};
 ghost use Rattle.rmm_model.specs.Check.{first_failing, refusal_in};
 ghost use Rattle.rmm_model.specs.Level.{entry_index as index_of};

@@ -1,5 +1,5 @@
-//! The RMM's reads and writes of the run page of RMI_REC_ENTER. Registers are copied between a REC's page and its run
-//! page, and exits are written to run pages.
+//! Functions with which the RMM reads and writes the run page of RMI_REC_ENTER. Registers are copied between a REC's
+//! page and its run page, and exits are written to run pages.
 ghost use Rattle.std.specs.Prelude.{◌≡◌, ◌+◌, ◌<◌, ◌≤◌, ◌⊎◌, length};
 ghost use Rattle.rmm_model.specs.Machine.{granule_count, page_in, with_page};
 ghost use Rattle.rmm_model.specs.Table.{with_words_from};

@@ -1,4 +1,4 @@
-//! Writes of RTT entries to the tables at which RTT walks end.
+//! Writes an RTT entry into the table at which an RTT walk ended.
 ghost use Rattle.std.specs.Prelude.{◌≡◌, ◌<◌};
 ghost use Rattle.rmm_model.specs.Machine.{granule_count};
 ghost use Rattle.rmm_model.specs.Walk as walks;

@@ -39,7 +39,8 @@ fill_words round is_done =
 abbrev pub fill_reply_of : ℕ × Bool × Machine → TraceReply × Machine
 fill_reply_of after = (of_words (fill_words after.0 after.1), after.2)
 
--- a call or a fill by its name, with that many rounds at most after the first
+-- The answer to a named call or fill with at most `more` further rounds, and the resulting machine. Any other name
+-- is no command.
 unfoldable pub rounds_answered : List TraceWord → ℕ → Machine → TraceReply × Machine
 rounds_answered call more m =
     let place = first_place call in
@@ -51,7 +52,7 @@ rounds_answered call more m =
 abbrev pub single : Atom → Machine → TraceReply × Machine
 single a m = (of_words ([] ▷ put_word a), m)
 
--- a parameter page, or a reading
+-- the answer to a reading at an address, which leaves the machine unchanged
 unfoldable pub reading_answered : ℕ → List TraceWord → Machine → TraceReply × Machine
 reading_answered place ws m =
     let address = operand_at ws 0 0 in
@@ -81,7 +82,7 @@ other_answered place ws m =
 
 -- ---- questions
 
--- The answer of an RMM to a question, and its machine after it. A platform is no command here.
+-- The answer to a question on a given machine, and the resulting machine. A platform is no command here.
 unfoldable pub answered_on : List TraceWord → Machine → TraceReply × Machine
 answered_on question m =
     let place = first_place question in
@@ -99,14 +100,15 @@ abbrev pub answered_in : List TraceWord → Option Machine → TraceReply × Opt
 answered_in question (Some m) = ((answered_on question m).0, Some (answered_on question m).1)
 answered_in question None = (no_command, None)
 
--- The answer to a question of a trace, and the machine after it. A platform opens a fresh one; there is none before the first.
+-- The answer to a question of a trace, and the resulting machine. A platform opens a fresh machine, or is no command
+-- and changes nothing. Before the first platform that is opened there is none.
 unfoldable pub answered : List TraceWord → Option Machine → TraceReply × Option Machine
 answered question m =
     if first_place question == PLATFORM then after_opening (machine_of_platform (rest_of question)) m else answered_in question m
 
 -- ---- checks
 
--- the words of a call, without those that repeat it
+-- the question without a leading `repeat` and its count
 abbrev pub unrepeated : List TraceWord → List TraceWord
 unrepeated question = if first_place question == REPEAT then rest_of (rest_of question) else question
 
@@ -114,6 +116,6 @@ abbrev pub checks_in_round : List TraceWord → Machine → Option ℕ → Optio
 checks_in_round question m (Some round) = checks_at (asked (unrepeated question) round) m
 checks_in_round question m None = None
 
--- The checks of the call that an answer has refused, on a machine.
+-- The evaluated checks, on a machine, of the round that an answer refuses; none if it refuses none.
 unfoldable pub refused_checks : List TraceWord → TraceReply → Machine → Option (List EvaluatedCheck)
 refused_checks question reply m = checks_in_round question m reply.refused

@@ -28,7 +28,7 @@ is_refused x0 = not (x0 == 0) && not (x0 == 0xFFFFFFFFFFFFFFFE)
 unfoldable pub checks_at : Registers → Machine → Option (List EvaluatedCheck)
 checks_at r m = option_map (λ call. evaluated (command_of call m).checks) (call_in r)
 
--- the condition by which a call by registers is refused on a machine
+-- the condition of the first failing check of the call in these registers, on a machine, if any
 unfoldable pub deciding : Registers → Machine → Option Condition
 deciding r m = option_and_then (λ call. option_map (λ refusal. refusal.condition) (first_failing (command_of call m).checks)) (call_in r)
 
@@ -38,11 +38,11 @@ abbrev pub put_check_name : Option Condition → List TraceWord → List TraceWo
 put_check_name (Some condition) ws = put_word (Name (179 + condition_number condition)) ws
 put_check_name None ws = ws
 
--- the check that decides, on the machine of the refused call, which no refusal changes
+-- the name of the check that decided, if X0 is a refusal. A refusal leaves the machine unchanged.
 unfoldable pub put_check : Registers → Machine → ℕ → List TraceWord → List TraceWord
 put_check r m x0 ws = if is_refused x0 then put_check_name (deciding r m) ws else ws
 
--- how many rounds are before a refused one, if there are any
+-- the number of rounds before one that did not return RMI_SUCCESS, unless it is the first
 unfoldable pub put_after : ℕ → ℕ → List TraceWord → List TraceWord
 put_after x0 round ws = if not (x0 == 0) && not (round == 0) then put_value AFTER (Decimal round) ws else ws
 
@@ -50,11 +50,13 @@ put_after x0 round ws = if not (x0 == 0) && not (round == 0) then put_value AFTE
 unfoldable pub put_exit_of : ℕ → ℕ → ℕ → Machine → List TraceWord → List TraceWord
 put_exit_of place x0 run m ws = if place == RMI_REC_ENTER && x0 == 0 then put_exit m run ws else ws
 
--- the round of a call that is refused
+-- the number of the last round, if that round is refused
 abbrev pub refused_round : LastCall → Option ℕ
 refused_round it = if is_refused it.after.x0 then Some it.round else None
 
--- The answer to a call by the names of its outputs: the last of its rounds, the registers of that round, and the machine after it.
+-- The answer to a named call, from its last round. It has the status and the returned outputs. A REC exit follows an
+-- RMI_REC_ENTER with RMI_SUCCESS, and the deciding check follows a refusal. The number of earlier rounds, if there are
+-- any, follows a round that did not return RMI_SUCCESS.
 unfoldable pub call_reply : ℕ → Registers → LastCall → Machine → TraceReply
 call_reply place r it m = record {
   words = record { items = [] ▷ put_status it.after.x0 ▷ put_outputs place it.after ▷ put_exit_of place it.after.x0 r.x2 m ▷ put_check r m it.after.x0 ▷ put_after it.after.x0 it.round };
@@ -62,7 +64,7 @@ call_reply place r it m = record {
   refused = refused_round it;
 }
 
--- the answer to a raw call by its registers
+-- the answer to a raw call: X0, and the output registers of its command
 unfoldable pub raw_reply : Registers → LastCall → TraceReply
 raw_reply r it = record {
   words = record { items = [] ▷ put_registers (command_place r.x0) it.after };

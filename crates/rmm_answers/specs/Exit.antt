@@ -8,14 +8,14 @@ use Rattle.rmm_trace.specs.declared.word.TraceWord.{TraceWord}
 use Rattle.rmm_answers.specs.declared.place.TheConstants.{BASE, ESR, FAR, HPFAR, IMM, TOP}
 use Rattle.rmm_answers.specs.Put.{◌▷◌, put_word, put_value, put_output}
 
--- the field at an offset of the run page at an address; 0 if the page is not the host's
+-- the field at an offset in a run page; 0 if the host cannot read it
 abbrev pub field : Machine → ℕ → ℕ → ℕ
 field m run offset = unwrap_or (loaded m ((run + offset) % 2 ^ 64)) 0
 
 unfoldable pub put_field : Machine → ℕ → ℕ → ℕ → List TraceWord → List TraceWord
 put_field m run name offset ws = put_output name (field m run offset) ws
 
--- a register, if it or one after it is not 0
+-- the value of a register, if it is to be shown
 unfoldable pub put_gpr : Bool → ℕ → List TraceWord → List TraceWord
 put_gpr shown v ws = if shown then put_word (Hexadecimal v) ws else ws
 
@@ -39,6 +39,6 @@ put_fields m run reason ws =
     (if reason == 4 then (ws ▷ put_field m run BASE 0xD00 ▷ put_field m run TOP 0xD08 ▷ put_field m run RIPAS_OUTPUT 0xD10) else
     (if reason == 5 then (ws ▷ put_field m run IMM 0xE00 ▷ put_gprs_in m run) else ws)))
 
--- the exit of a REC that the run page at an address has
+-- the REC exit in a run page: its reason, and the fields for that reason
 unfoldable pub put_exit : Machine → ℕ → List TraceWord → List TraceWord
 put_exit m run ws = ws ▷ put_field m run EXIT 0x800 ▷ put_fields m run (field m run 0x800)

@@ -29,11 +29,11 @@ use Rattle.rmm_answers.specs.Replies.{of_words, no_command}
 
 -- ---- steps
 
--- the number of the kind of a step; one that is none if no step has the name
+-- the number of the step kind with this name; 15, which is no kind, if there is none
 unfoldable pub step_kind : ℕ → ℕ
 step_kind name = unwrap_or (position_from (λ step. step == name) 0 STEPS) 15
 
--- `destroyed` after a change of RIPAS is 1
+-- a step's fourth operand; for a RIPAS change, 1 if there is a fourth word (`destroyed`), else 0
 abbrev pub last_operand : ℕ → List TraceWord → ℕ
 last_operand name ws = if name == SET_RIPAS then (if nat_lt 3 (length ws) then 1 else 0) else operand_at ws 3 0
 
@@ -44,7 +44,7 @@ abbrev pub named_step : Atom → List TraceWord → Option StepWords
 named_step (Name name) ws = if nat_lt 4 (length ws) then None else Some (step_words name ws)
 named_step _ ws = None
 
--- The step that words are. A guest here has no call of the host with more than three registers.
+-- The guest step that the words denote, if any. A host call of a guest here has at most three registers.
 abbrev pub step_in : List TraceWord → Option StepWords
 step_in [] = None
 step_in (w ∷ ws) = named_step w.value ws
@@ -58,7 +58,7 @@ abbrev pub stepped : ℕ → Option StepWords → Machine → TraceReply × Mach
 stepped rec (Some step) m = (of_words (queued_words (queued m rec step).0), (queued m rec step).1)
 stepped rec None m = (no_command, m)
 
--- The answer to a step of a guest, and the machine after it: `REC STEP OPERAND ..`.
+-- The answer to a guest step, written `REC STEP OPERAND ..`, and the resulting machine.
 unfoldable pub guest_answered : List TraceWord → Machine → TraceReply × Machine
 guest_answered [] m = (no_command, m)
 guest_answered (rec ∷ ws) m = stepped (operand_at (rec ∷ ws) 0 0) (step_in ws) m
@@ -81,7 +81,7 @@ abbrev pub interrupt_words : Option Word → ℕ → Machine → List TraceWord
 interrupt_words (Some w) run m = left (number w) run m
 interrupt_words None run m = [] ▷ put_word (Name NOT) ▷ put_word (Name IS_RUNNING)
 
--- The answer to an interrupt of the host's, and the machine after it.
+-- The answer to a host interrupt, which ends the run of the REC at an address if it runs, and the resulting machine.
 unfoldable pub interrupt_answered : ℕ → Machine → TraceReply × Machine
 interrupt_answered address m =
     (of_words (interrupt_words (interrupted m address).0 (run_of (rec_named m address)) (interrupted m address).1), (interrupted m address).1)

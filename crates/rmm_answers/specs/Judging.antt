@@ -34,11 +34,11 @@ is_word_of x0 None = false
 abbrev pub is_ours : List EvaluatedCheck → ℕ → Bool
 is_ours rows x0 = is_word_of x0 (evaluated.first_failed rows)
 
--- the word that X0 is read as is allowed, and is another one than ours
+-- X0 is a word that the checks allow, other than ours
 abbrev pub allows_number : List EvaluatedCheck → ℕ → Bool
 allows_number rows x0 = allows rows (word_of x0) && not (is_ours rows x0)
 
--- a check was made and failed, and its word has a status and is another one than ours
+-- the check was made and failed, and its word has this status and is not ours
 abbrev pub has_status : List EvaluatedCheck → ℕ → CheckOutcome → Bool
 has_status rows status (Failed answer) = number answer.word % 256 == status && not (is_ours rows (number answer.word))
 has_status rows status _ = false
@@ -46,14 +46,14 @@ has_status rows status _ = false
 abbrev pub allows_index : List EvaluatedCheck → ℕ → ℕ → Bool
 allows_index rows status index = nat_lt index 256 && allows_number rows (status + 256 * index)
 
--- `-` is each index
+-- a refusal with the status and the written index is allowed; `-` means any index
 abbrev pub allows_index_in : List EvaluatedCheck → ℕ → Atom → Bool
 allows_index_in rows status (Name place) =
     if place == DASH then list_any (λ row. has_status rows status row.outcome) rows else allows_index rows status 0
 allows_index_in rows status (Decimal index) = allows_index rows status index
 allows_index_in rows status (Hexadecimal index) = allows_index rows status index
 
--- no index is 0
+-- a refusal with the status and the written index is allowed; an omitted index is 0
 abbrev pub allows_written : List EvaluatedCheck → ℕ → List TraceWord → Bool
 allows_written rows status [] = allows_index rows status 0
 allows_written rows status (w ∷ ws) = allows_index_in rows status w.value
@@ -82,7 +82,7 @@ abbrev pub is_text_allowed : List ℕ → Option (List EvaluatedCheck) → Bool
 is_text_allowed written (Some rows) = are_words_allowed (words_in 64 (slice_split (λ b. b == 32) written)) rows
 is_text_allowed written None = false
 
--- The verdict on a written answer, by our reply and the machine after it: ours, a refusal by another check of the refused call, or wrong.
+-- The verdict on a written answer: ours, a refusal by another check of the refused call, or wrong.
 unfoldable pub judged : Option Machine → List TraceWord → List ℕ → TraceReply → Verdict
 judged m question written reply =
     if is_written question written reply then Same

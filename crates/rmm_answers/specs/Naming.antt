@@ -33,7 +33,7 @@ named_call place ws =
     ▷ put_operand (slice_index_or forms 2 Absent) (operand_at ws 3 0) ▷ put_operand (slice_index_or forms 3 Absent) (operand_at ws 4 0)
     ▷ put_operand (slice_index_or forms 4 Absent) (operand_at ws 5 0)
 
--- The named call of a raw one; none comes for a function that is no command.
+-- A raw call rewritten by name; none if its function is no command.
 unfoldable pub named_question : List TraceWord → Option (List TraceWord)
 named_question question =
     let ws = rest_of question in
@@ -42,7 +42,7 @@ named_question question =
 
 -- ---- answers
 
--- the number of a register that is written; none comes if it is not, and for `-`
+-- the number that a raw answer gives for register `k`; none if the register is omitted or `-`
 abbrev pub written_number : List TraceWord → ℕ → Option ℕ
 written_number [] k = None
 written_number (w ∷ ws) zero = atom_number w.value
@@ -52,7 +52,7 @@ unfoldable pub put_written : ℕ → ℕ → ℕ → Option ℕ → List TraceWo
 put_written place x0 name (Some v) ws = put_returned place x0 name v ws
 put_written place x0 name None ws = ws
 
--- the answer of a command to registers with a result in X0
+-- a command's answer by name, from its X0 and its written registers: the status and the returned outputs
 unfoldable pub answer_by : ℕ → ℕ → List TraceWord → List TraceWord
 answer_by place x0 written =
     let names = outputs_of place in
@@ -64,6 +64,6 @@ abbrev pub answer_of : ℕ → Option ℕ → List TraceWord → Option (List Tr
 answer_of place (Some x0) written = Some (answer_by place x0 written)
 answer_of place None written = None
 
--- The named answer of a raw one to a raw call; none comes if X0 is not written.
+-- A raw answer to a raw call, rewritten by name; none if it gives no number for X0.
 unfoldable pub named_answer : List TraceWord → List TraceWord → Option (List TraceWord)
 named_answer question written = answer_of (command_place (operand_at (rest_of question) 0 0)) (written_number written 0) written

@@ -16,7 +16,7 @@ use Rattle.rmm_answers.specs.Put.{◌▷◌, put_word, put_output}
 unfoldable pub outputs_of : ℕ → List ℕ
 outputs_of place = slice_index_or OUTPUTS place NO_OUTPUTS
 
--- the place of the command of a function; that after the last command for any other number
+-- the place of the command with this function number; for other numbers, the place after the last
 unfoldable pub command_place : ℕ → ℕ
 command_place function = unwrap_or (position_from (λ f. f == function) 0 FUNCTIONS) PLATFORM
 
@@ -24,7 +24,7 @@ command_place function = unwrap_or (position_from (λ f. f == function) 0 FUNCTI
 abbrev pub has_top : ℕ → Bool
 has_top place = place == RMI_RTT_DESTROY || place == RMI_DATA_DESTROY || place == RMI_RTT_UNMAP_UNPROTECTED
 
--- Outputs come with RMI_SUCCESS, those of RMI_VERSION with either word, and some `top` with RMI_ERROR_RTT.
+-- An output is returned with RMI_SUCCESS, always by RMI_VERSION, and as `top` by some commands with RMI_ERROR_RTT.
 unfoldable pub is_returned : ℕ → ℕ → ℕ → Bool
 is_returned place x0 name =
     if name == NO_OUTPUT then false

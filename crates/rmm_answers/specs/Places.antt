@@ -24,7 +24,7 @@ answer_places =
 unfoldable pub has_name : ℕ → List ℕ → Bool
 has_name place text = bytes_eq (nth_text place names) text
 
--- each place is that of its name
+-- the table of names has each of these names at its place
 unfoldable pub are_answer_places_named : Bool
 are_answer_places_named = list_all (λ it. has_name it.0 it.1) answer_places
 
@@ -42,7 +42,7 @@ command_outputs =
     (codes "rmi_rtt_unmap_unprotected", codes "top" ∷ []) ∷ (codes "rmi_data_create", []) ∷ (codes "rmi_data_create_unknown", []) ∷
     (codes "rmi_data_destroy", codes "data" ∷ codes "top" ∷ []) ∷ (codes "rmi_psci_complete", []) ∷ []
 
--- the first outputs have these names, and there are no others
+-- the first places have these names, and all further places are 0
 unfoldable pub are_named : List (List ℕ) → List ℕ → Bool
 are_named [] [] = true
 are_named [] (place ∷ places) = place == 0 && are_named [] places

@@ -1,4 +1,4 @@
--- Platforms: the settings that words are, and the fresh machine of a platform.
+-- Platforms: the settings read from their words, and their fresh machines.
 use Rattle.std.specs.Prelude.{ℕ, ◌+◌, ◌%◌, ◌&&◌, nat_le, Bool, false, if◌then◌else◌, List, [], ◌∷◌, replicate, Option, Some, None}
 use Rattle.granule_addr.specs.Page.{zero_page}
 use Rattle.rmi_abi.specs.declared.settings.Layout.TheVariants.{Rel0, Eac5}
@@ -23,11 +23,11 @@ abbrev pub is_first : ℕ → List TraceWord → Bool
 is_first name [] = false
 is_first name (w ∷ ws) = is_name name w.value
 
--- a setting has the second of its values, whose name is after the first
+-- a setting is given its second value, whose place follows that of the first
 abbrev pub is_second : List TraceWord → ℕ → ℕ → Bool
 is_second ws name first = is_first (first + 1) (after_name name ws)
 
--- the settings that the words of a platform are
+-- the RMM settings read from a platform's words, with defaults for those not given
 unfoldable pub settings_in : List TraceWord → RmmSettings
 settings_in ws = record {
   base = operand_at ws 0 0;
@@ -53,7 +53,7 @@ settings_in ws = record {
   checks_gic = is_second ws GIC NONE;
 }
 
--- this RMM has such a platform: 1 to 4,096 granules, and each setting in its range
+-- the platform can be opened: it has 1 to 4,096 granules, and each setting is in its range
 abbrev pub is_opened : List TraceWord → Bool
 is_opened ws = nat_le 1 (operand_at ws 1 0) && nat_le (operand_at ws 1 0) 4096 && is_platform (settings_in ws)
 

@@ -1,4 +1,4 @@
--- Answers to readings, which no host has.
+-- Answers to readings of the machine's state, which no host can make.
 use Rattle.std.specs.Prelude.{ℕ, ◌+◌, ◌*◌, ◌%◌, ◌^◌, Bool, true, false, not, ◌||◌, if◌then◌else◌, List, [], take, Option, Some, None, option_and_then, unwrap_or}
 use Rattle.std.specs.List.{sum}
 use Rattle.rmi_abi.specs.declared.hash.HashAlgorithm.{HashAlgorithm}
@@ -67,7 +67,7 @@ realm_state_name SystemOff = IS_SYSTEM_OFF
 abbrev pub realm_named : Machine → ℕ → Option RmmRealm
 realm_named m address = option_and_then realm_of (state_shown m address)
 
--- the attributes of a realm of a machine from an address on
+-- the attributes of a realm in words, on a machine whose granules begin at `base`
 unfoldable pub realm_words : RmmRealm → ℕ → List TraceWord
 realm_words realm base =
     [] ▷ put_word (Name (realm_state_name realm.state)) ▷ put_value S2SZ (Decimal realm.s2sz) ▷ put_value LEVEL (Decimal realm.start_level)
@@ -93,7 +93,7 @@ abbrev pub rd_address : Machine → Option ℕ → ℕ
 rd_address m (Some rd) = (m.settings.base + 4096 * rd) % 2 ^ 64
 rd_address m None = 0
 
--- the address of the RD of the realm that owns the granule at an address; 0 if none does
+-- the RD address of the realm that owns the granule at an address; 0 if no realm does
 unfoldable pub owner_address : Machine → ℕ → ℕ
 owner_address m address = if is_inside m address then rd_address m (granule_at m (number_of m address)).owner else 0
 

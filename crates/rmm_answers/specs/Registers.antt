@@ -18,13 +18,13 @@ names_after (name ∷ names) = names
 abbrev pub is_same_output : Bool → TraceWord → TraceWord → Bool
 is_same_output is_output written ours = if is_output then is_same_register written ours else is_register written
 
--- the registers from X1 on, by the names of the outputs there
+-- the written registers from X1 on agree with ours wherever the command returns an output
 abbrev pub are_outputs_same : ℕ → ℕ → List ℕ → List TraceWord → List TraceWord → Bool
 are_outputs_same place x0 names [] ours = true
 are_outputs_same place x0 names (w ∷ ws) ours =
     is_same_output (is_returned place x0 (first_name names)) w (first_of ours) && are_outputs_same place x0 (names_after names) ws (rest_of ours)
 
--- The registers that are written of a command's answer are ours: X0, and the outputs that come with our X0.
+-- The written registers of a command's answer agree with ours: X0, and the outputs returned with our X0.
 abbrev pub registers_agree : ℕ → List TraceWord → List TraceWord → Bool
 registers_agree place [] ours = true
 registers_agree place (w ∷ ws) ours =

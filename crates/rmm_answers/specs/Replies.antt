@@ -19,11 +19,11 @@ use Rattle.rmm_answers.specs.Put.{◌▷◌, put_word}
 use Rattle.rmm_answers.specs.Registers.{registers_agree}
 use Rattle.rmm_answers.specs.Words.{first_place}
 
--- an answer that is words, and refuses no call
+-- an answer of these words that refuses no call
 abbrev pub of_words : List TraceWord → TraceReply
 of_words ws = record { words = record { items = ws }; rim = None; refused = None }
 
--- no answer: that to a platform
+-- the empty answer, as given to a platform that is opened
 abbrev pub no_answer : TraceReply
 no_answer = of_words []
 
@@ -56,7 +56,7 @@ is_unanswered reply = is_none_left reply.words.items && is_absent reply.rim
 abbrev pub reply_text : TraceReply → List ℕ
 reply_text reply = text_by reply.rim reply.words.items
 
--- The answer that is written to a question is ours: that to a raw call by its registers.
+-- A written answer to a question agrees with ours. Answers to raw calls are compared by registers.
 abbrev pub is_same_answer : List TraceWord → List TraceWord → List TraceWord → Bool
 is_same_answer question written ours =
     if first_place question == SMC then registers_agree (command_place (operand_at (rest_of question) 0 0)) written ours
@@ -66,7 +66,7 @@ abbrev pub are_same : List TraceWord → Option (List TraceWord) → List TraceW
 are_same question (Some written) ours = is_same_answer question written ours
 are_same question None ours = false
 
--- the words that a text is are the same as ours
+-- the text, read as words, agrees with our answer
 abbrev pub are_words : List TraceWord → List ℕ → List TraceWord → Bool
 are_words question written ours = are_same question (words_in 64 (slice_split (λ b. b == 32) written)) ours
 
@@ -74,6 +74,6 @@ abbrev pub is_written_by : List TraceWord → List ℕ → Option Digest → Lis
 is_written_by question written (Some digest) ours = bytes_eq written (digest_text digest)
 is_written_by question written None ours = are_words question written ours
 
--- A written answer to a question is this one: it is its digits, or its words are the same.
+-- A written answer agrees with the reply: with the digits of its digest, or with its words.
 unfoldable pub is_written : List TraceWord → List ℕ → TraceReply → Bool
 is_written question written reply = is_written_by question written reply.rim reply.words.items

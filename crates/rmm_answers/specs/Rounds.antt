@@ -26,17 +26,17 @@ registers_in None = record { x0 = 0; x1 = 0; x2 = 0; x3 = 0; x4 = 0; x5 = 0; x6 
 unfoldable pub asked : List TraceWord → ℕ → Registers
 asked call round = registers_in (call_registers call round)
 
--- the last round that is performed, and the registers after it
+-- a round as the last one performed, with its output registers, and the resulting machine
 abbrev pub last : ℕ → Registers × Machine → LastCall × Machine
 last round after = (record { round = round; after = after.0 }, after.1)
 
--- that many rounds at most after one, which goes on if it is RMI_SUCCESS
+-- the last round: `round`, or one of at most the given number after it; another follows only after RMI_SUCCESS
 unfoldable pub more_rounds : ℕ → List TraceWord → ℕ → Registers × Machine → LastCall × Machine
 more_rounds zero call round after = last round after
 more_rounds (suc left) call round after =
     if after.0.x0 == 0 then more_rounds left call (round + 1) (rmi (asked call (round + 1)) after.1) else last round after
 
--- The last round of a call, and the machine after it: there are that many rounds at most after the first.
+-- The last round of a call with at most `more` rounds after the first, and the resulting machine.
 unfoldable pub performed_rounds : ℕ → List TraceWord → Machine → LastCall × Machine
 performed_rounds more call m = more_rounds more call 0 (rmi (asked call 0) m)
 
@@ -56,6 +56,6 @@ more_fills zero operands round after = last_fill round after
 more_fills (suc left) operands round after =
     if after.0 then more_fills left operands (round + 1) (filled operands (round + 1) after.1) else last_fill round after
 
--- The last round of a fill, whether it is done, and the machine after it.
+-- The number of the last round of a fill, whether that round is done, and the resulting machine.
 unfoldable pub filled_rounds : ℕ → List TraceWord → Machine → ℕ × Bool × Machine
 filled_rounds more operands m = more_fills more operands 0 (filled operands 0 m)

@@ -3,6 +3,6 @@ use Rattle.std.specs.Prelude.{ℕ, List}
 use Rattle.rmm_trace.specs.declared.word.TraceWord.{TraceWord}
 use Rattle.rmm_trace.specs.Compare.{first_of, place_of}
 
--- the place of the name of a question; that of `-`, which is none, if no name is first
+-- the place of a question's name; without a name in front, that of `-`, which names no question
 abbrev pub first_place : List TraceWord → ℕ
 first_place ws = place_of (first_of ws).value

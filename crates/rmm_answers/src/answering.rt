@@ -1,4 +1,4 @@
-//! Functions that perform a trace's questions on an RMM, and write the answers.
+//! Functions that answer the questions of a trace by an RMM.
 ghost use Rattle.std.specs.Prelude.{◌≡◌, ◌-◌, []};
 ghost use Rattle.rmm_trace.specs.Access.{operand_at};
 ghost use Rattle.rmm_trace.specs.Compare.{rest_of};

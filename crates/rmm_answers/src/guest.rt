@@ -1,5 +1,4 @@
-//! Functions that answer a trace's questions about the guests of RECs. The questions are about steps of guests, the
-//! ends of their runs, and the results of steps.
+//! Functions that queue guest steps, interrupt RECs and report results, as a trace requests.
 ghost use Rattle.std.specs.Prelude.{◌≡◌, ◌==◌, ◌+◌, ◌<◌, ◌≤◌, length, []};
 ghost use Rattle.std.specs.List.{position_from};
 ghost use Rattle.rmm_answers.specs.Guest as guests;

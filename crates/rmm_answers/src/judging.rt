@@ -104,9 +104,8 @@ fn allows_name(checks: &EvaluatedChecks, place: usize, rest: &[TraceWord]) -> bo
     allows_written(checks, (place - RMI_SUCCESS) as u64, rest)
 }
 
-/// Whether a trace's answer is an allowed refusal, but not that of the deciding check. The evaluated checks allow its
-/// word, and the deciding check has a different word. The word is written as the name of its status with an index, or
-/// as X0.
+/// Whether an answer in a trace is an allowed refusal other than the model's. The evaluated checks allow its word, and
+/// the deciding check has a different word. The word is written as the name of its status with an index, or as X0.
 pub fn is_allowed(written: &[TraceWord], checks: &EvaluatedChecks) -> bool
     ensures { result ≡ judging.is_refusal_allowed written.now checks.now }
 {

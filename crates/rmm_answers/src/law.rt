@@ -10,7 +10,7 @@ ghost use Rattle.rmm_answers.specs.Call.{is_refused};
 ghost use Rattle.rmm_answers.specs.Places.{has_name, are_answer_places_named, are_outputs_named};
 ghost use Rattle.rmm_answers.specs.Places.{are_fields_named, are_steps_named};
 
-/// Proves that each constant of module `place` is the index of its name. The index is that in the table of names.
+/// Proves that each constant of `place` is the index of its name in the name table.
 pub fn answer_places_are_of_their_names()
     ensures { are_answer_places_named ≡ true }
 {}
@@ -23,7 +23,7 @@ pub fn tables_are_of_their_names()
     ensures steps { are_steps_named ≡ true }
 {}
 
-/// Proves that the table of names has each check's name, in parentheses.
+/// Proves that the table of names has each check's parenthesized name at the right index.
 pub fn checks_are_of_their_names()
     ensures { (c : Condition) → has_name (179 + condition_number c) (codes "(" ++ (name_of c ++ codes ")")) ≡ true }
 {}

@@ -14,8 +14,7 @@ use rmm_trace::TraceWord;
 use std::alloc::{AllocError, Global};
 use std::marker::Model;
 
-/// The RMM that answers the questions of a trace, if one is open. A `platform` question opens it; before the first such
-/// question there is none.
+/// The RMM that performs a trace's questions, or none before a `platform` question has opened one.
 #[derive(Drop)]
 pub struct TraceMachine {
     rmm: Option<Rmm<PlainStore>>,
@@ -35,7 +34,7 @@ impl Model for TraceMachine {
 }
 
 impl TraceMachine {
-    /// Creates a trace machine without an RMM. It is the machine before the first `platform` question.
+    /// Creates a `TraceMachine` that has no RMM yet. It is the machine before the first `platform` question.
     pub fn new() -> TraceMachine
         ensures { result ≡ None }
     {
@@ -72,9 +71,9 @@ impl TraceMachine {
         }
     }
 
-    /// Carries out a trace's question on the machine, and writes the answer to `reply`. A platform opens a fresh
-    /// machine, and it alone takes memory: an error leaves the machine as it is. Before the first platform any other
-    /// question is no command.
+    /// Performs what a question of a trace asks of the machine, and writes the answer to `reply`. A platform opens a
+    /// fresh machine, or is no command, and it alone takes memory: an error leaves the machine as it is. Before the
+    /// first platform that is opened any other question is no command.
     #[tactic(auto, unfolding(crate::specs::Answering::answered))]
     pub fn answer(
         &mut self,

@@ -1,4 +1,4 @@
-//! Functions that write the answers to a trace's memory accesses by the host.
+//! Functions that append the result of a host's memory access to an answer in a trace.
 ghost use Rattle.std.specs.Prelude.{◌≡◌, ◌+◌, ◌<◌, length};
 ghost use Rattle.rmm_answers.specs.Memory as memory;
 ghost use Rattle.rmm_answers.specs.Put.{put_word};

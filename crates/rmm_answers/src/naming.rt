@@ -169,8 +169,8 @@ fn answer_by(place: usize, x0: u64, written: &[TraceWord]) -> Sentence
     answer
 }
 
-/// Rewrites a raw answer with names, or returns `None` if X0 is not written. A raw answer has the words `X0 X1 ..`, and
-/// `question` is the raw call that it answers. Outputs that are not written are left out.
+/// Rewrites a raw answer with names, or returns `None` if it has no value for X0. A raw answer has the words
+/// `X0 X1 ..`, and `question` is the raw call that it answers. Outputs that are not written are left out.
 #[tactic(auto, unfolding(crate::specs::Naming::named_answer))]
 pub fn named_answer(question: &[TraceWord], written: &[TraceWord]) -> Option<Sentence>
     ensures { option_map (λ answer. answer.items) result ≡ naming.named_answer question.now written.now }

@@ -15,8 +15,8 @@ use rmm_trace::{Atom, FUNCTIONS, Sentence, index_of, status_of};
 // The place that means no output. No output has the name at this place.
 pub const NO_OUTPUT: usize = 0;
 
-/// The names of each command's outputs X1 to X4. A name is given by its place in the table of names; 0 is no output.
-/// The index of a command is the place of the command's own name. RMM 1.0, RMI commands.
+/// The names of each command's outputs X1 to X4, as indices into the table of names. Index 0 means no output. The index
+/// of a command is the place of the command's own name. RMM 1.0, RMI commands.
 pub const OUTPUTS: [[usize; 4]; 23] = [
     // rmi_version to rmi_granule_undelegate
     [LOWER, HIGHER, 0, 0],

@@ -14,8 +14,8 @@ use rmm_trace::place::{
 };
 use rmm_trace::{Atom, TraceWord, after_name, operand};
 
-/// The names and offsets of the fields of RmiRealmParams. A field is the place of its name in the table of names, and
-/// its offset in the page.
+/// The name index and the byte offset of each field of RmiRealmParams. The index is that in the table of names, and the
+/// offset is that in the page.
 pub const REALM_FIELDS: [(usize, u64); 12] = [
     (FLAGS, 0x0),
     (S2SZ, 0x8),
@@ -31,8 +31,8 @@ pub const REALM_FIELDS: [(usize, u64); 12] = [
     (RTT_NUM_START, 0x818),
 ];
 
-/// The names and offsets of the fields of RmiRecParams, without NUM_AUX. A field is the place of its name in the table
-/// of names, and its offset in the page. NUM_AUX is the number of values of `aux`.
+/// The name index and the byte offset of each RmiRecParams field except NUM_AUX. The index is that in the table of
+/// names, and the offset is that in the page. NUM_AUX is the number of values of `aux`.
 pub const REC_FIELDS: [(usize, u64); 5] = [
     (FLAGS, 0x0),
     (MPIDR, 0x100),
@@ -41,8 +41,8 @@ pub const REC_FIELDS: [(usize, u64); 5] = [
     (AUX, 0x808),
 ];
 
-/// The names and offsets of the fields of RmiRecEnter. A field is the place of its name in the table of names, and its
-/// offset in the page.
+/// The name index and the byte offset of each field of RmiRecEnter. The index is that in the table of names, and the
+/// offset is that in the page.
 pub const RUN_FIELDS: [(usize, u64); 4] = [
     (FLAGS, 0x0),
     (GPRS, 0x200),

@@ -1,4 +1,4 @@
-//! Constants for the names in a trace's answers, as indices into the table of names. The theorem
+//! Constants for names that occur in a trace's answers, as indices into the table of names. The theorem
 //! `answer_places_are_of_their_names` says which name is at each place.
 pub const DONE: usize = 116;
 

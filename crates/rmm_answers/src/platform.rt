@@ -1,4 +1,4 @@
-//! Functions that open an RMM for a trace's `platform` question. The settings are read from the question.
+//! Functions that open an RMM with the settings in a `platform` line of a trace.
 ghost use Rattle.std.specs.Prelude.{◌≡◌, ◌<◌, ◌≤◌, ◌==◌, IfOk, Some, replicate};
 ghost use Rattle.granule_addr.specs.Page.{zero_page};
 ghost use Rattle.rmm_granules.specs.Inside.{platform_machine};
@@ -115,14 +115,15 @@ fn open(alloc: Global, words: &[TraceWord]) -> Result<Option<Rmm<PlainStore>>, A
     }
 }
 
-/// Whether the first word of a trace's question is `platform`. Such a question opens a fresh machine.
+/// Whether a question in a trace begins with the word `platform`. Such a question opens a fresh machine, if this RMM
+/// has such a platform.
 pub fn is_platform(question: &[TraceWord]) -> bool
     ensures { result ≡ (first_place question.now == PLATFORM) }
 {
     first_place(question) == PLATFORM
 }
 
-/// Opens a fresh RMM with the settings of a trace's `platform` question. None comes if this RMM has no such platform. A
+/// Opens a new RMM with the settings in a trace's `platform` line. None comes if this RMM has no such platform. A
 /// platform has 1 to 4,096 granules below 2^47.
 pub fn open_platform(
     alloc: Global,

@@ -1,5 +1,4 @@
-//! Functions that answer a trace's questions about the state of granules, realms and RECs. No firmware offers a host
-//! these readings.
+//! Functions that report the state of granules, realms and RECs for a trace. No firmware offers a host these readings.
 ghost use Rattle.std.specs.Prelude.{◌≡◌, ◌+◌, ◌<◌, ◌≤◌, length, take, []};
 ghost use Rattle.std.specs.List.{sum};
 ghost use Rattle.rmm_model.specs.Command.PsciComplete as completion;

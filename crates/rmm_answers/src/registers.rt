@@ -1,5 +1,4 @@
-//! Functions that compare a raw answer in a trace register by register. A written answer is compared with the model's
-//! answer.
+//! Functions that compare a trace's raw answer with the model's answer, register by register.
 ghost use Rattle.std.specs.Prelude.{◌≡◌};
 ghost use Rattle.rmm_answers.specs.Registers as specs;
 

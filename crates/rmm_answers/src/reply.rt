@@ -1,4 +1,4 @@
-//! The RMM's reply to a trace's question, and its comparison with a written answer.
+//! The type for the RMM's reply to a question in a trace. A reply can be compared with a written answer.
 ghost use Rattle.std.specs.Prelude.{◌≡◌, ◌++◌, OnErr, OnOk};
 ghost use Rattle.std.specs.Str.{bytes_eq};
 ghost use Rattle.rmm_answers.specs.Replies as replies;
@@ -19,7 +19,8 @@ pub enum Digest {
     Sha512([u8; 64]),
 }
 
-/// The reply to a trace's question: words, or a measurement. The reply to a `platform` question is neither.
+/// The reply to a question in a trace: words, or a measurement. The reply to a `platform` question that opens a machine
+/// is neither.
 #[derive(Drop)]
 pub struct TraceReply {
     pub words: Sentence,

@@ -1,5 +1,5 @@
-//! Functions that perform the rounds of a repeated call or fill in a trace. The rounds end at the first that does not
-//! succeed.
+//! Functions that repeat an RMI call or a page fill, as a trace requests. The repetition ends at the first round that
+//! does not succeed.
 ghost use Rattle.std.specs.Prelude.{◌≡◌};
 ghost use Rattle.rmm_answers.specs.Rounds as rounds;
 

@@ -1,4 +1,4 @@
-//! Functions that read the words of a trace's question.
+//! Functions that read the words of a question in a trace.
 ghost use Rattle.std.specs.Prelude.{◌≡◌};
 ghost use Rattle.rmm_trace.specs.Compare.{rest_of};
 ghost use Rattle.rmm_answers.specs.Words as specs;

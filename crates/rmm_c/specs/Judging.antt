@@ -23,7 +23,7 @@ abbrev pub check_number : Option FailedCondition → ℕ
 check_number (Some refusal) = condition_number refusal.condition
 check_number None = 0
 
--- a function that is no command has no check
+-- the number of the first failing check; 0 if there is none, or the function is no command
 abbrev pub check_of_call : Option Call → Machine → ℕ
 check_of_call (Some call) m = check_number (first_failing (command_of call m).checks)
 check_of_call None m = 0
@@ -39,7 +39,7 @@ deciding_check r None = 0
 abbrev pub is_among_words : ℕ → List Word → Bool
 is_among_words x0 words = list_any (λ word. x0 == number word) words
 
--- a function that is no command is answered by NOT_SUPPORTED alone
+-- X0 is a word that the command may answer, or NOT_SUPPORTED if the function is no command
 abbrev pub is_answer_of_call : Option Call → ℕ → Machine → Bool
 is_answer_of_call (Some call) x0 m = is_among_words x0 (allowed_words (command_of call m))
 is_answer_of_call None x0 m = x0 == 2 ^ 64 - 1

@@ -16,11 +16,11 @@ answered_by Remark q m = (no_answer, m)
 answered_by Question q m = answered q m
 answered_by Neither q m = (no_command, m)
 
--- our answer to a line, and the machine after it: a remark asks nothing
+-- our answer to a line, and the new machine; a remark has no answer and changes nothing
 abbrev pub line_answered : RmmTraceLine → Option Machine → TraceReply × Option Machine
 line_answered line m = answered_by line.kind line.words.items m
 
--- the same of the bytes of a line
+-- our answer to a line given by its bytes, and the new machine
 abbrev pub on_line : List ℕ → Option Machine → TraceReply × Option Machine
 on_line bytes m = line_answered (line_in GROUPS START bytes) m
 

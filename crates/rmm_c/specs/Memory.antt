@@ -3,7 +3,7 @@ use Rattle.std.specs.Prelude.{ℕ, Bool, false, List, length, Option, unwrap_or,
 use Rattle.rmm.specs.Bytes.{can_access_bytes, after_store_bytes}
 use Rattle.rmm_model.specs.Machine.{Machine}
 
--- the host may access that many bytes from an address on
+-- the host may access `count` bytes from an address on
 abbrev pub can_access_on : ℕ → ℕ → Option Machine → Bool
 can_access_on address count m = unwrap_or (option_map (λ m. can_access_bytes m address count) m) false
 

@@ -18,7 +18,7 @@ use Rattle.rmm_model.specs.Machine.{Machine}
 use Rattle.rmm_c.specs.declared.attributes.RealmAttributes.{RealmAttributes}
 use Rattle.rmm_c.specs.declared.attributes.RecAttributes.{RecAttributes}
 
--- What is read is written, and whether there was anything is returned; if there was nothing, what was to be written stays as it is.
+-- The answer is whether a value was read. The new value is the one that was read, or the old one if none was.
 pub record Reports {A : Type 0} (read : Option A) (old : A) (answer : Bool) (new : A) : Type 0 where
   pub is_read : answer ≡ is_some read
   pub value : new ≡ unwrap_or read old
@@ -60,7 +60,7 @@ flag holds = if holds then 1 else 0
 abbrev pub state_code_shown : ℕ → Machine → Option ℕ
 state_code_shown address m = option_map granule_state_code (state_shown m address)
 
--- a realm of a machine whose first granule is at `base`
+-- the attributes of a realm, on a machine whose first granule is at `base`
 abbrev pub realm_attributes : ℕ → RmmRealm → RealmAttributes
 realm_attributes base realm = record {
   state = realm_state_code realm.state;

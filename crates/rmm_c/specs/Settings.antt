@@ -40,7 +40,7 @@ settings_of s = record {
   checks_gic = s.checks_gic;
 }
 
--- the platform of the settings; none comes for a setting out of its range
+-- the platform of the settings, or none if a setting is out of its range
 abbrev pub platform_of : PlatformSettings → Option RmmSettings
 platform_of s = if fit s && is_platform (settings_of s) then Some (settings_of s) else None
 

@@ -7,7 +7,7 @@ use Rattle.rmm_model.specs.Realm.{is_in_space}
 use Rattle.rmm_model.specs.Walk.{table_below}
 use Rattle.rmm_model.specs.Command.Operand.{realm_at}
 
--- there is an RD at an address, a level is one of its realm's tables, and an address one of its realm
+-- the granule at `rd` is an RD, the level is at most 3, and the IPA is in its realm's address space
 abbrev pub can_walk : Machine → ℕ → ℕ → ℕ → Bool
 can_walk m rd ipa level = is_some (realm_of (state_at m rd)) && (nat_le level 3 && is_in_space (realm_at m rd) ipa)
 

@@ -21,14 +21,14 @@ is_pass _ = false
 unfoldable pub is_passed : List EvaluatedCheck → Condition → Bool
 is_passed rows condition = list_any (λ row. condition_number row.condition == condition_number condition && is_pass row.outcome) rows
 
--- each check that a check comes after was made and passed
+-- for each of these conditions, a check was made and passed
 unfoldable pub is_made : List EvaluatedCheck → List Condition → Bool
 is_made rows after = list_all (is_passed rows) after
 
 abbrev pub outcome_of : Bool → Check → CheckOutcome
 outcome_of made c = if made then (if c.fails then Failed c.refusal.answer else Passed) else NotMade
 
--- a check after evaluated ones
+-- a check with its outcome, given the checks that are evaluated already
 abbrev pub row_after : List EvaluatedCheck → Check → EvaluatedCheck
 row_after rows c = record { condition = c.refusal.condition; outcome = outcome_of (is_made rows c.after) c }
 
@@ -41,7 +41,7 @@ evaluated_after rows (c ∷ cs) = evaluated_after (rows ++ row_after rows c ∷ 
 abbrev pub evaluated : List Check → List EvaluatedCheck
 evaluated checks = evaluated_after [] checks
 
--- checks are evaluated after others
+-- `after` is `before`, and then these checks with their outcomes
 pub record Adds (before : List EvaluatedCheck) (checks : List Check) (after : List EvaluatedCheck) : Type 0 where
   pub rows : after ≡ evaluated_after before checks
 

@@ -11,7 +11,7 @@ use Rattle.rmm_model.specs.Realm.{is_new}
 use Rattle.rmm_model.specs.Command.RecCreate.{all_aux, all_from, is_apart, can_be_aux}
 use Rattle.rmm_checks.specs.declared.rec_create.RecFacts.{RecFacts}
 
--- the facts of a page, for a REC at an address
+-- the facts of the REC parameters in a page, for a REC granule at an address
 abbrev pub facts_in : Machine → List ℕ → ℕ → RecFacts
 facts_in m page rec = record {
   has_count = num_aux_in page == m.settings.aux;
@@ -32,7 +32,7 @@ aux_rows facts =
     ∷ check AuxAlias (NumAux ∷ []) (not facts.are_apart) error_input
     ∷ check AuxState (AuxBound ∷ []) (not facts.are_delegated) error_input ∷ []
 
--- the checks of the number of a REC, by these facts
+-- the checks of the MPIDR, of the realm's state, and of its number of RECs, by these facts
 abbrev pub number_rows : RmmSettings → RmmRealm → RecFacts → List Check
 number_rows s realm facts =
     check ParamsValid (ParamsPas ∷ []) (not facts.is_mpidr) error_input

@@ -15,8 +15,7 @@ use std::marker::Model;
 pub enum CheckOutcome {
     NotMade,
     Passed,
-    /// The outcome of a failed check, with an answer of the command. The command gives that answer if this check
-    /// decides.
+    /// A failed check, with the answer that reports this failure. The command gives that answer if this check decides.
     Failed(SmcResult),
 }
 

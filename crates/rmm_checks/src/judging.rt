@@ -1,4 +1,4 @@
-//! Decides which answers to an RMI call its evaluated checks allow.
+//! Decides from an RMI call's checks which answers an RMM may give.
 ghost use Rattle.std.specs.Prelude.{◌≡◌, None};
 ghost use Rattle.std.specs.List.{list_any};
 ghost use Rattle.rmm_checks.specs.Evaluated as specs;

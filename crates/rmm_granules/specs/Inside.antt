@@ -1,4 +1,4 @@
--- The fields of granules, and the machine that they are.
+-- The machine that the fields of a Granules value represent, and the invariant of these fields.
 use Rattle.std.specs.Prelude.{◌≡◌, ℕ, ◌<◌, ◌≤◌, Bool, false, List, length, replicate}
 use Rattle.page_arena.specs.Page.{is_free}
 use Rattle.rmi_abi.specs.declared.settings.RmmSettings.{RmmSettings}
@@ -10,15 +10,16 @@ use Rattle.rmm_model.specs.Machine.{Machine, HasTables}
 abbrev pub machine_of : RmmSettings → List RmmGranule → List Bool → List (List ℕ) → Machine
 machine_of settings granules vmids pages = record { settings = settings; granules = granules; vmids = vmids; pages = pages }
 
--- the set of VMIDs of 16 bits that has none
+-- the empty set of 16-bit VMIDs, with a flag for each VMID
 unfoldable pub no_vmids : List Bool
 no_vmids = replicate 65536 false
 
--- the machine of a platform whose granules are all UNDELEGATED, and without realms
+-- the machine of a platform with all granules UNDELEGATED and with no realm
 abbrev pub platform_machine : RmmSettings → List (List ℕ) → Machine
 platform_machine settings pages = machine_of settings (replicate (length pages) (of_no_realm Undelegated)) no_vmids pages
 
--- There is a page for each granule, and each page is taken; each realm has its starting tables in the machine.
+-- Each granule has a page that is taken, and each realm's starting tables are in the machine. There are at most 4,096
+-- granules, and a flag for each 16-bit VMID.
 pub record IsWhole (settings : RmmSettings) (granules : List RmmGranule) (vmids : List Bool) (pages : List (List ℕ)) (free : List Bool) : Type 0 where
   pub as_many : length granules ≡ length pages
   pub few : length granules ≤ 4096

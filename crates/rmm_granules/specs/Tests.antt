@@ -13,6 +13,6 @@ aux_passes m Inside address = is_inside m address
 aux_passes m Delegated address = can_be_aux m address
 aux_passes m (Not other) address = not (address == other)
 
--- auxiliary granule k that parameters name passes a test
+-- auxiliary granule k of the REC parameters passes a test
 abbrev pub aux_test : Machine → AuxTest → List ℕ → ℕ → Bool
 aux_test m test page k = aux_passes m test (aux_in page k)

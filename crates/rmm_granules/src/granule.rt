@@ -1,4 +1,4 @@
-//! Lookups of granules and realms, and a comparison of owners.
+//! Functions that find granules and realms, and compare the owners of granules.
 ghost use Rattle.std.specs.Prelude.{◌≡◌, ◌+◌, ◌<◌, IfSome};
 ghost use Rattle.rmm_model.specs.Granule.{realm_of};
 ghost use Rattle.rmm_model.specs.Machine.{granule_count, granule_at};
@@ -46,7 +46,7 @@ pub fn realm_in<S: PageStore>(granules: &Granules<S>, rd: Gran) -> Option<RmmRea
     }
 }
 
-/// Whether two owners of granules are the same RD, or both none.
+/// Whether two owners of granules are the same RD, or are both absent.
 pub fn is_same_owner(a: Option<Gran>, b: Option<Gran>) -> bool
     ensures { result ≡ completing.is_same_owner a b }
 {

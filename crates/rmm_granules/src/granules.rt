@@ -183,8 +183,8 @@ impl<S: PageStore> Granules<S> {
         kept.state
     }
 
-    /// Returns the realm whose RD is the granule, or `None` for another granule. Its starting tables lie in the
-    /// machine.
+    /// Returns the realm of an RD granule, or `None` for a granule in another state. The realm's starting tables lie in
+    /// the machine.
     pub fn realm(&self, granule: Gran) -> Option<RmmRealm>
         requires { granule < granule_count self.now }
         ensures value { result ≡ realm_of (granule_at self.now granule).state }
@@ -193,7 +193,7 @@ impl<S: PageStore> Granules<S> {
         self.granules[granule.number() as usize].state.realm()
     }
 
-    /// Returns the attributes of the REC in a granule, or `None` for another granule.
+    /// Returns the attributes of a REC granule, or `None` for a granule in another state.
     pub fn rec(&self, granule: Gran) -> Option<RmmRec>
         requires { granule < granule_count self.now }
         ensures { result ≡ rec_of (granule_at self.now granule).state }

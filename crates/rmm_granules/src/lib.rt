@@ -1,4 +1,4 @@
-//! The granules of a platform: their attributes, their pages, and readings for failure conditions. The pages are in a
+//! The attributes and pages of a platform's granules, and functions that the RMM's checks use. The pages are in a
 //! store. RMM 1.0, RMI.
 //!
 //! `Granules` is seen as a machine. Each call of it reads or writes one granule or VMID, and the contract says which in

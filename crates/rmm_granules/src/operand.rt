@@ -47,7 +47,7 @@ impl OperandConditions {
         state: Condition::DataState,
     };
 
-    /// The failure conditions on the address of the page that RMI_DATA_CREATE copies.
+    /// The failure conditions on the address of the host's page that RMI_DATA_CREATE copies.
     pub const SOURCE: OperandConditions = OperandConditions {
         align: Condition::SrcAlign,
         bound: Condition::SrcBound,

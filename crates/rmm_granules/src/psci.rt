@@ -1,4 +1,4 @@
-//! PSCI requests of RECs, and statuses that complete them. RMM 1.0, RMI_PSCI_COMPLETE.
+//! Functions that check how the host completes a REC's PSCI request. RMM 1.0, RMI_PSCI_COMPLETE.
 ghost use Rattle.std.specs.Prelude.{◌≡◌};
 ghost use Rattle.rmm_model.specs.Command.PsciComplete as command;
 

@@ -20,7 +20,7 @@ pub enum RecEdit {
     PassStep,
     /// Sets the number of steps in the guest's queue.
     Steps(u8),
-    /// Adds one to the number of the guest's results.
+    /// Adds one to the number of the guest's results, modulo 32.
     AddResult,
     Ripas(RipasRequest),
     Psci(PsciRequest),

@@ -7,8 +7,8 @@ ghost use Rattle.rmm_model.specs.Command.RecEnter as entering;
 use rmi_abi::{EnterFlags, GicFields, RmmSettings};
 use rmm_model::{LastExit, RmmRec};
 
-/// Whether the host claims an emulated access, although the last exit was no emulatable abort. `flags` are the host's
-/// flags in the run page.
+/// Whether the host claims to have emulated an access, but the REC's last exit was no emulatable abort. `flags` are the
+/// host's flags in the run page.
 pub fn is_no_mmio(rec: &RmmRec, flags: u64) -> bool
     ensures { result ≡ entering.is_no_mmio rec.now flags }
 {

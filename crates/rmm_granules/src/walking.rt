@@ -1,4 +1,4 @@
-//! Walks of a realm's translation tables, and readings of the entries at their ends. RMM 1.0, RTT walk.
+//! Functions that walk a realm's translation tables, and read the entry where a walk ends. RMM 1.0, RTT walk.
 ghost use Rattle.std.specs.Prelude.{◌≡◌, ◌^◌, ◌<◌, ◌≤◌, IfSome};
 ghost use Rattle.rmm_model.specs.Entry.{descriptor_of};
 ghost use Rattle.rmm_model.specs.Machine.{granule_count};

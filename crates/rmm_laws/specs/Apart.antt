@@ -16,11 +16,11 @@ use Rattle.rmm_laws.specs.Role.{IsBegin}
 abbrev pub rd_named : Machine → ℕ → Option ℕ
 rd_named m address = if is_aligned address && is_inside m address && is_some (realm_of (state_at m address)) then Some (number_of m address) else None
 
--- the RD of the realm of the REC at an address, if a REC begins there
+-- the RD that owns the REC at an address, if a REC begins there
 abbrev pub realm_of_rec : Machine → ℕ → Option ℕ
 realm_of_rec m address = if is_rec_named m address then (granule_at m (number_of m address)).owner else None
 
--- The RD of the realm that a call is on, by its RD or by a REC of it. A call that creates a realm is on none.
+-- The RD of the existing realm that a call names, directly or through a REC. A call that creates a realm names none.
 abbrev pub named_realm : Machine → Call → Option ℕ
 named_realm m (RealmActivate rd) = rd_named m rd
 named_realm m (RealmDestroy rd) = rd_named m rd
@@ -42,7 +42,7 @@ named_realm m (DataCreateUnknown rd page ipa) = rd_named m rd
 named_realm m (DataDestroy rd ipa) = rd_named m rd
 named_realm m _ = None
 
--- a call gives a realm its VMID, or frees that of a realm
+-- a call is RMI_REALM_CREATE or RMI_REALM_DESTROY, which takes a VMID into use or frees one if it succeeds
 abbrev pub changes_vmids : Option Call → Bool
 changes_vmids (Some (RealmCreate rd params)) = true
 changes_vmids (Some (RealmDestroy rd)) = true
@@ -67,7 +67,7 @@ IsSpare m g = ((granule_at m g).state ≡ Undelegated) ⊎ ((granule_at m g).sta
 abbrev pub IsSameAt : Machine → Machine → ℕ → Type 0
 IsSameAt m n g = (granule_at n g ≡ granule_at m g) × (page_in n g ≡ page_in m g)
 
--- settings and VMIDs are those of before
+-- both machines have the same settings and the same VMIDs in use
 abbrev pub KeepsSettings : Machine → Machine → Type 0
 KeepsSettings m n = (n.settings ≡ m.settings) × (n.vmids ≡ m.vmids)
 
@@ -79,29 +79,29 @@ IsNormal m g = is_secure m (m.settings.base + g * 4096) ≡ false
 abbrev pub IsHostPage : Machine → ℕ → Type 0
 IsHostPage m address = IsBegin m address × (state_at m address ≡ Undelegated) × IsNormal m (number_of m address)
 
--- The page that a call reads is one of the host, outside the secure world. It is the source of DATA_CREATE, or it has the
--- parameters of a realm or a REC that is created.
+-- The input page of a call is a page of the host, outside the secure world. It is the source of DATA_CREATE, or the
+-- parameters of REALM_CREATE or REC_CREATE. Other calls are not restricted.
 abbrev pub IsFromHost : Machine → Call → Type 0
 IsFromHost m (DataCreate rd page ipa source flags) = IsHostPage m source
 IsFromHost m (RealmCreate rd params) = IsHostPage m params
 IsFromHost m (RecCreate rd rec params) = IsHostPage m params
 IsFromHost m call = Unit {0}
 
--- A call changes a page of the host outside the secure world. It delegates the granule at an address at which one begins,
--- which is DELEGATED and zero then. Or it enters a REC, whose guest and exit write pages of the host. Then the granule
--- keeps its attributes.
+-- A call may change a host page outside the secure world, in one of two ways. RMI_GRANULE_DELEGATE delegates the
+-- granule, which begins at the call's address and is DELEGATED and zero afterwards. In RMI_REC_ENTER the guest and the
+-- exit write host pages, and the granule keeps its attributes.
 abbrev pub IsHostChanged : Machine → Machine → Option Call → ℕ → Type 0
 IsHostChanged m n (Some (GranuleDelegate address)) g =
     IsBegin m address × (g ≡ number_of m address) × IsNormal m g × (granule_at n g ≡ of_no_realm Delegated) × (page_in n g ≡ zero_page)
 IsHostChanged m n (Some (RecEnter rec run)) g = IsNormal m g × (granule_at n g ≡ granule_at m g)
 IsHostChanged m n call g = ⊥
 
--- An interrupt changes a page of the host: it is that of the run of the REC at an address, outside the secure world. The
--- granule keeps its attributes.
+-- A granule is the run page of the REC at an address, and is outside the secure world. An interrupt may change the
+-- page, and the granule keeps its attributes.
 abbrev pub IsRunPage : Machine → Machine → ℕ → ℕ → Type 0
 IsRunPage m n rec g = (g ≡ number_of m (rec_in m (number_of m rec)).run) × IsNormal m g × (granule_at n g ≡ granule_at m g)
 
--- a granule is of another realm than the one that a call is on
+-- a granule belongs to a realm other than the one a call names, or there is no call
 abbrev pub IsOfAnother : Machine → Option Call → ℕ → Type 0
 IsOfAnother m (Some call) g = (IsOfRealm m (named_realm m call) g → ⊥) × (IsSpare m g → ⊥)
 IsOfAnother m None g = Unit {0}

@@ -14,8 +14,8 @@ use Rattle.rmm_model.specs.Command.Auxiliary.{aux_granule}
 use Rattle.rmm_model.specs.Command.Operand.{realm_at}
 use Rattle.rmm_laws.specs.Role.{IsBegin}
 
--- An address is that of a granule of a machine, of a state and the realm of an RD. In the other machine the granule is
--- DELEGATED and zero, and each other granule has the attributes that it had.
+-- A granule of a realm becomes a DELEGATED granule that is zero. Before, it begins at the address, with the given state
+-- and the RD as its owner. Each other granule keeps its attributes.
 pub record ComesBack (before after : Machine) (rd : ℕ) (state : RmmGranuleState) (address : ℕ) : Type 0 where
   pub begins : IsBegin before address
   pub was : granule_at before (number_of before address) ≡ of_realm rd state
@@ -23,11 +23,11 @@ pub record ComesBack (before after : Machine) (rd : ℕ) (state : RmmGranuleStat
   pub blank : page_in after (number_of before address) ≡ zero_page
   pub others : (granule : ℕ) → granule ≢ number_of before address → granule_at after granule ≡ granule_at before granule
 
--- the walk of an address of a realm ends at an entry that is ASSIGNED to the page at another address
+-- the walk of an IPA in a realm ends at an ASSIGNED entry with the given output address
 abbrev pub IsAssignedTo : Machine → ℕ → ℕ → ℕ → Type 0
 IsAssignedTo m rd ipa address = (ripas : RmmRipas) × (entry_at m (walk m (realm_at m rd) ipa 3) ipa ≡ Assigned ripas address)
 
--- A granule was UNDELEGATED in a machine. Or it was DELEGATED, and is zero in the other one.
+-- A granule is UNDELEGATED in the first machine, or it is DELEGATED there and zero in the second.
 abbrev pub IsReleased : Machine → Machine → ℕ → Type 0
 IsReleased m n granule = ((granule_at m granule).state ≡ Undelegated) ⊎ (((granule_at m granule).state ≡ Delegated) × (page_in n granule ≡ zero_page))
 
@@ -36,8 +36,8 @@ abbrev pub IsBeside : Machine → ℕ → ℕ → Type 0
 IsBeside m rec granule =
     (granule ≢ rec) × ((k : ℕ) → k < m.settings.aux → aux_granule m rec k ≢ Some granule) × ((granule_at m rec).owner ≢ Some granule)
 
--- A REC begins at an address of a machine, and does not run. It and each of its auxiliary granules is DELEGATED and zero
--- in the other machine. Each other granule but the RD of its realm has the attributes that it had.
+-- A REC that does not run and its auxiliary granules become DELEGATED granules that are zero. The REC begins at the
+-- address. Each other granule, except the RD of the REC's realm, keeps its attributes.
 pub record RecComesBack (before after : Machine) (address : ℕ) : Type 0 where
   pub was : is_rec_named before address ≡ true
   pub ready : is_running (rec_in before (number_of before address)).state ≡ false

@@ -11,8 +11,8 @@ use Rattle.rmm_model.specs.Command.RttFold.{is_aligned_above}
 abbrev pub CanReplaceTable : Machine → RmmRttEntry → ℕ → Type 0
 CanReplaceTable m entry level = (is_aligned_above entry level ≡ true) × (is_mapping entry ≡ true → m.settings.block_level < level)
 
--- Each granule has the attributes that it had, and each VMID is used if it was. Each entry of a table is as it was, and
--- so is the page of each other granule.
+-- Two machines have the same settings, VMIDs in use, granule attributes and table entries. The page of each granule
+-- that is no table is the same too.
 pub record IsAlike (m n : Machine) : Type 0 where
   pub settings : n.settings ≡ m.settings
   pub vmids : n.vmids ≡ m.vmids

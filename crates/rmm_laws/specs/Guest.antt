@@ -33,11 +33,11 @@ abbrev pub is_write : GuestStep → Bool
 is_write (Write ipa value size) = true
 is_write _ = false
 
--- a value is that of an access to a page of the host, outside the secure world
+-- a value is one that an access reads from some host page outside the secure world
 abbrev pub IsHostValue : Machine → AccessSize → ℕ → ℕ → Type 0
 IsHostValue m size ipa value = (h : ℕ) × ((granule_at m h).state ≡ Undelegated) × IsNormal m h × (value ≡ value_in (page_in m h) size ipa)
 
--- the first step of a REC has the outcome and the effect that it has for a realm
+-- a REC's first step has the outcome and the effect of that step in the given realm
 abbrev pub IsStepFor : Machine → RmmRealm → ℕ → ℕ → Type 0
 IsStepFor m realm g flags =
     let outcome = step_outcome m realm g flags (first_step m g) in
@@ -48,16 +48,17 @@ abbrev pub is_completed : PsciRequest → Bool
 is_completed (Complete value) = true
 is_completed _ = false
 
--- The host answers nothing to the last exit of a REC. That was at an access, and flags neither give an SEA nor emulate
--- it. Or it was an exit that takes no answer, and no request of PSCI is completed.
+-- The host gives no answer to a REC's last exit. After an abort at an unprotected address, the flags do not inject an
+-- SEA, and do not emulate an access that can be emulated. After an exit that takes no answer, no PSCI request is
+-- completed.
 abbrev pub IsUnanswered : LastExit → PsciRequest → ℕ → Type 0
 IsUnanswered EmulatableAbort psci flags = (injects_sea flags ≡ false) × (emulates_mmio flags ≡ false)
 IsUnanswered UnprotectedAbort psci flags = injects_sea flags ≡ false
 IsUnanswered Other psci flags = is_completed psci ≡ false
 IsUnanswered last psci flags = ⊥
 
--- A REC runs with the registers and the steps that it left with, and has no results. Words 0 to 191 of its page are those
--- of before.
+-- A REC is entered as it last exited, with the same registers and steps, and with no results. Words 0 to 191 of its
+-- page are unchanged.
 abbrev pub IsAsLeft : Machine → Machine → ℕ → RmmRec → ℕ → Type 0
 IsAsLeft m n g rec address =
     ((granule_at n g).state ≡ Rec (running_at rec address)) × ((i : ℕ) → i < 192 → word_of_page (page_in n g) i ≡ word_of_page (page_in m g) i)

@@ -1,4 +1,5 @@
--- Halves of a realm's address space, and what a table has in each. RMM 1.0, Realm attributes, RTT entry.
+-- The protected and unprotected halves of a realm's address space, and the table entries in each. RMM 1.0, Realm
+-- attributes, RTT entry.
 use Rattle.std.specs.Prelude.{◌≡◌, true, ℕ, ◌+◌, ◌-◌, ◌*◌, ◌/◌, ◌%◌, ◌^◌, ◌<◌, ◌≤◌, Some}
 use Rattle.rmi_abi.specs.declared.settings.RmmSettings.{RmmSettings}
 use Rattle.rmm_model.specs.declared.entry.RmmRttEntry.{RmmRttEntry}
@@ -12,7 +13,8 @@ use Rattle.rmm_model.specs.Machine.{Machine, granule_at, page_in}
 use Rattle.rmm_model.specs.Table.{entry_in_page}
 use Rattle.rmm_model.specs.Walk.{table_below}
 
--- An entry is of a kind of the half that an address is in. A live one is of an address of the realm.
+-- An entry fits an IPA: UNASSIGNED and ASSIGNED in the protected half, the NS states in the unprotected half. A live
+-- entry is inside the realm's address space.
 abbrev pub IsOfHalf : RmmRealm → ℕ → RmmRttEntry → Type 0
 IsOfHalf realm ipa (Unassigned ripas) = ipa < 2 ^ (realm.s2sz - 1)
 IsOfHalf realm ipa (Assigned ripas address) = ipa < 2 ^ (realm.s2sz - 1)
@@ -24,9 +26,10 @@ IsOfHalf realm ipa (Table address) = ipa < 2 ^ realm.s2sz
 abbrev pub IsPlaced : RmmSettings → ℕ → RmmRttEntry → Type 0
 IsPlaced s level e = is_mapping e ≡ true → (s.block_level ≤ level) × (descriptor_of e / 4096 * 4096 % entry_size level ≡ 0)
 
--- Entries are of the half that they cover. Functions give the level of each table, and its place among the tables of
--- the level by address. Starting tables are in their order, and a table below is at the place of the entry that leads
--- to it. Memory is mapped at levels at which there are pages or blocks, and begins at a multiple of their size.
+-- Each table entry fits the half of the address space that it covers. `level` gives the level of each table, and
+-- `place` its index by IPA among the tables of that level. Starting tables have indices from 0 on, and a table below
+-- has the index of the entry that leads to it. Memory is mapped at levels that allow blocks or pages, and is aligned to
+-- their size. An entry of a starting table covers less than the realm's address space.
 pub record IsHalved (m : Machine) (level place : ℕ → ℕ) : Type 0 where
   pub wide : (rd : ℕ) (realm : RmmRealm) → (granule_at m rd).state ≡ Rd realm → entry_size realm.start_level < 2 ^ realm.s2sz
   pub start : (rd k : ℕ) (realm : RmmRealm) → (granule_at m rd).state ≡ Rd realm → k < realm.table_count
@@ -37,7 +40,7 @@ pub record IsHalved (m : Machine) (level place : ℕ → ℕ) : Type 0 where
       → ipa / entry_size (level table) ≡ place table * 512 + i → IsOfHalf realm ipa (entry_in_page (page_in m table) i)
   pub block : (table i : ℕ) → (granule_at m table).state ≡ Rtt → i < 512 → IsPlaced m.settings (level table) (entry_in_page (page_in m table) i)
 
--- Entries are of the half that they cover, by some levels and places of tables.
+-- Tables have levels and indices with which each entry fits the half of the address space that it covers.
 pub record HasHalves (m : Machine) : Type 0 where
   pub level : ℕ → ℕ
   pub place : ℕ → ℕ

@@ -24,7 +24,7 @@ pub record Location : Type 0 where
 abbrev pub location : ℕ → ℕ → Option Location
 location address attributes = Some (record { address = address; attributes = attributes })
 
--- the location that far into the memory that an entry leads to
+-- the location at an offset into the memory that an entry maps, if it maps any
 abbrev pub location_of : RmmRttEntry → ℕ → Option Location
 location_of (Assigned ripas desc) offset = location (desc / 4096 * 4096 + offset) (desc % 4096)
 location_of (AssignedNs desc) offset = location (desc / 4096 * 4096 + offset) (desc % 4096)
@@ -34,8 +34,8 @@ location_of _ offset = None
 abbrev pub location_at : Machine → RmmRealm → ℕ → Option Location
 location_at m realm ipa = let found = walk m realm ipa 3 in location_of (entry_at m found ipa) (ipa % entry_size found.level)
 
--- A call may take an address of the realm of an RD to another location. It gives the page at an address, where there was
--- none: DATA_CREATE of a NEW realm, or DATA_CREATE_UNKNOWN. Or it takes the page, and leaves none: DATA_DESTROY.
+-- A call may change the location that an IPA of the given realm is mapped to. DATA_CREATE of a NEW realm and
+-- DATA_CREATE_UNKNOWN map a page where there was none. DATA_DESTROY leaves none.
 abbrev pub IsLocationGiven : Machine → Option Call → ℕ → ℕ → Option Location → Option Location → Type 0
 IsLocationGiven m (Some (DataCreate of page at source flags)) rd ipa old new =
     (rd ≡ number_of m of) × IsRealmIn m rd New × IsBetween at (at + 4096) ipa × (old ≡ None) × (new ≡ location (page + ipa % 4096) 0)
@@ -44,14 +44,14 @@ IsLocationGiven m (Some (DataCreateUnknown of page at)) rd ipa old new =
 IsLocationGiven m (Some (DataDestroy of at)) rd ipa old new = (rd ≡ number_of m of) × IsBetween at (at + 4096) ipa × (new ≡ None)
 IsLocationGiven m call rd ipa old new = ⊥
 
--- Each protected address of a realm that is there before and after a call leads to the location that it led to, or the
--- call gives it another one.
+-- Each protected IPA of a realm that exists before and after a call keeps its location, or the call gives it the new
+-- location.
 abbrev pub KeepsLocations : Machine → Option Call → Machine → Type 0
 KeepsLocations m call n =
     (rd ipa : ℕ) (before after : RmmRealm) → (granule_at m rd).state ≡ Rd before → (granule_at n rd).state ≡ Rd after → is_protected before ipa ≡ true
     → (location_at n after ipa ≡ location_at m before ipa) ⊎ IsLocationGiven m call rd ipa (location_at m before ipa) (location_at n after ipa)
 
--- each address of a page of a realm leads into a page of memory, and has a RIPAS
+-- each address of an IPA page is mapped to its offset in a page, and has the given RIPAS
 abbrev pub IsPageAt : Machine → RmmRealm → ℕ → ℕ → RmmRipas → Type 0
 IsPageAt m realm at page ripas = (ipa : ℕ) → IsBetween at (at + 4096) ipa → (location_at m realm ipa ≡ location (page + ipa % 4096) 0) × (ripas_at m realm ipa ≡ ripas)
 
@@ -66,9 +66,9 @@ content_of m None = None
 abbrev pub content_at : Machine → RmmRealm → ℕ → Option (List ℕ)
 content_at m realm ipa = content_of m (location_at m realm ipa)
 
--- A call may give an address of the realm of an RD other bytes. The page that DATA_CREATE gives has those of the host's
--- page, and the one that DATA_CREATE_UNKNOWN gives is zero. DATA_DESTROY leaves none. While a REC of the realm is entered,
--- its guest writes.
+-- A call may change the bytes that an IPA of the given realm leads to. DATA_CREATE of a NEW realm gives those of the
+-- host's page, and DATA_CREATE_UNKNOWN gives zeros, where there were none. DATA_DESTROY leaves none. When a REC of the
+-- realm is entered, its guest may write any bytes.
 abbrev pub IsContentGiven : Machine → Option Call → ℕ → ℕ → Option (List ℕ) → Option (List ℕ) → Type 0
 IsContentGiven m (Some (DataCreate of page at source flags)) rd ipa old new =
     (rd ≡ number_of m of) × IsRealmIn m rd New × IsBetween at (at + 4096) ipa × (old ≡ None) × (new ≡ Some (page_in m (number_of m source)))
@@ -77,8 +77,8 @@ IsContentGiven m (Some (DataDestroy of at)) rd ipa old new = (rd ≡ number_of m
 IsContentGiven m (Some (RecEnter rec run)) rd ipa old new = (granule_at m (number_of m rec)).owner ≡ Some rd
 IsContentGiven m call rd ipa old new = ⊥
 
--- Each protected address of a realm that is there before and after a call leads to the bytes that it led to, or the call
--- gives it others.
+-- Each protected IPA of a realm that exists before and after a call keeps its bytes, or the call gives it the new
+-- bytes.
 abbrev pub KeepsContents : Machine → Option Call → Machine → Type 0
 KeepsContents m call n =
     (rd ipa : ℕ) (before after : RmmRealm) → (granule_at m rd).state ≡ Rd before → (granule_at n rd).state ≡ Rd after → is_protected before ipa ≡ true

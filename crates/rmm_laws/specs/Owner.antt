@@ -27,8 +27,9 @@ abbrev pub IsOwner : Machine → Option ℕ → Type 0
 IsOwner m (Some rd) = is_rd (granule_at m rd).state ≡ true
 IsOwner m None = ⊥
 
--- A granule of no realm and an RD have no owner, and a DELEGATED granule is zero. Each other granule is of the realm of
--- an RD. A REC names the addresses at which its auxiliary granules begin.
+-- A granule has the owner that its state requires. UNDELEGATED and DELEGATED granules and RDs have none, and each other
+-- granule has an RD as its owner. A DELEGATED granule is zero. A REC names the addresses at which its auxiliary
+-- granules begin.
 abbrev pub IsOrderly : Machine → RmmGranuleState → Option ℕ → List ℕ → Type 0
 IsOrderly m Undelegated owner page = owner ≡ None
 IsOrderly m Delegated owner page = (owner ≡ None) × (page ≡ zero_page)
@@ -47,15 +48,15 @@ abbrev pub is_owner : ℕ → Option ℕ → Bool
 is_owner rd (Some other) = other == rd
 is_owner rd None = false
 
--- a granule is a REC of the realm of an RD
+-- a granule is a REC whose owner is the given RD
 abbrev pub is_rec_in : ℕ → RmmGranule → Bool
 is_rec_in rd granule = is_some (rec_of granule.state) && is_owner rd granule.owner
 
--- a granule is a REC of an owner
+-- a granule is a REC with the given owner
 abbrev pub IsRecOf : Machine → ℕ → Option ℕ → Type 0
 IsRecOf m g owner = (rec : RmmRec) × ((granule_at m g).state ≡ IsRec rec) × ((granule_at m g).owner ≡ owner)
 
--- a call makes a REC of the realm of an RD
+-- a call is RMI_REC_CREATE of the given granule, for the realm whose RD is the given owner
 abbrev pub IsRecMade : Machine → Option Call → ℕ → Option ℕ → Type 0
 IsRecMade m (Some (RecCreate rd rec params)) g owner = (g ≡ number_of m rec) × (owner ≡ Some (number_of m rd))
 IsRecMade m call g owner = ⊥
@@ -65,8 +66,8 @@ abbrev pub KeepsRecs : Machine → Option Call → Machine → Type 0
 KeepsRecs m call n =
     (g : ℕ) (rec : RmmRec) → (granule_at n g).state ≡ IsRec rec → IsRecOf m g (granule_at n g).owner ⊎ IsRecMade m call g (granule_at n g).owner
 
--- Each granule has the owner and the page that its state asks for, and each RD counts the RECs of its realm. Entries of
--- tables are of the half of the address space that they cover.
+-- Each granule has the owner and the page that its state requires, and each RD counts the RECs of its realm. Each table
+-- entry fits the half of the address space that it covers.
 pub record IsOrdered (m : Machine) : Type 0 where
   pub each : (granule : ℕ) → IsOrderlyAt m granule
   pub recs : (rd : ℕ) (realm : RmmRealm) → (granule_at m rd).state ≡ Rd realm → realm.rec_count ≡ count_by (is_rec_in rd) m.granules

@@ -32,8 +32,7 @@ abbrev pub IsOneOf : Word → List Word → Type 0
 IsOneOf word [] = ⊥
 IsOneOf word (first ∷ rest) = (first ≡ word) ⊎ IsOneOf word rest
 
--- A call enters the REC that begins at an address. It is not RUNNING in the machine before the call, and RUNNING in the
--- one after it.
+-- A call is RMI_REC_ENTER of a REC that is not RUNNING before the call, and RUNNING after it.
 abbrev pub IsRecEnter : Machine → Machine → Option Call → Type 0
 IsRecEnter m n (Some (RecEnter rec run)) =
     (is_rec_named m rec ≡ true) × (is_running (rec_in m (number_of m rec)).state ≡ false) × (is_running (rec_in n (number_of m rec)).state ≡ true)

@@ -13,15 +13,15 @@ use Rattle.rmm_model.specs.Step.{is_ripas_range, ripas_of}
 use Rattle.rmm_model.specs.Command.Operand.{rec_at}
 use Rattle.rmm_model.specs.Command.RecEnter.{owner_realm}
 
--- what is left of a request, from a later address on
+-- a request is the rest of another one: only its base may differ, and is no lower
 abbrev pub IsRest : RipasRequest → RipasRequest → Type 0
 IsRest rest asked = (asked.base ≤ rest.base) × (rest ≡ record asked { base = rest.base })
 
--- RMI_RTT_SET_RIPAS begins where the REC at an address asks, and the REC asks from a later address on then.
+-- RMI_RTT_SET_RIPAS begins at the base of a REC's request, which then has base `stop` and is otherwise unchanged.
 abbrev pub IsRestFrom : Machine → Machine → ℕ → ℕ → ℕ → Type 0
 IsRestFrom m n rec base stop = (base ≡ (rec_at m rec).ripas.base) × ((rec_in n (number_of m rec)).ripas ≡ record (rec_at m rec).ripas { base = stop })
 
--- A call changes what a REC asks for: it enters the REC, or it changes RIPAS for a part of the range.
+-- A call may give a REC this RIPAS request: RMI_REC_ENTER any, RMI_RTT_SET_RIPAS the rest of the old one.
 abbrev pub IsRequested : Machine → Option Call → ℕ → RipasRequest → Type 0
 IsRequested m (Some (RecEnter rec run)) g asked = g ≡ number_of m rec
 IsRequested m (Some (RttSetRipas rd rec base top)) g asked = (g ≡ number_of m rec) × IsRest asked (rec_in m g).ripas

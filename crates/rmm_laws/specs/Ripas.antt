@@ -31,20 +31,20 @@ abbrev pub IsWithoutMemory : Machine → RmmRealm → ℕ → Type 0
 IsWithoutMemory m realm ipa =
     (is_protected realm ipa ≡ true) × ((is_ram (ripas_at m realm ipa) ≡ false) ⊎ (is_live (entry_at m (walk m realm ipa 3) ipa) ≡ false))
 
--- What comes of an access to such an address, by its exception class. It is an SEA if RIPAS is EMPTY. If not, an exit
--- shows the host the page of the address, and nothing else.
+-- The outcome of an access to an address without memory, for a given exception class. It is an SEA if RIPAS is EMPTY.
+-- If not, an exit shows the host the page of the address, and nothing else.
 abbrev pub outcome_without_memory : Machine → RmmRealm → ℕ → ℕ → StepOutcome
 outcome_without_memory m realm class ipa =
     if is_empty (ripas_at m realm ipa) then IsResult Sea else
     IsExit (record (only_reason Sync) { esr = class + 4 + (walk m realm ipa 3).level; hpfar = ipa / 4096 * 16 }) Other
 
--- an address is one from a base on, below a top
+-- an address is at or above a base and below a top
 abbrev pub IsBetween : ℕ → ℕ → ℕ → Type 0
 IsBetween base top ipa = (base ≤ ipa) × (ipa < top)
 
--- A call may give an address of the realm of an RD another RIPAS. RAM comes by RTT_INIT_RIPAS and DATA_CREATE of a NEW
--- realm, and DESTROYED by DATA_DESTROY, where it was RAM, and RTT_DESTROY. By RTT_SET_RIPAS comes what a REC of the realm asks for, within
--- the range that it asks for. It takes the place of DESTROYED only if the REC asks for that too.
+-- A call may change the RIPAS of an IPA in the given realm. RTT_INIT_RIPAS and DATA_CREATE of a NEW realm make it RAM.
+-- DATA_DESTROY makes RAM DESTROYED, and RTT_DESTROY makes any RIPAS DESTROYED. RTT_SET_RIPAS gives the RIPAS that a REC
+-- of the realm asks for, within the range that it asks for. It replaces DESTROYED only if the REC asks for that too.
 abbrev pub IsRipasGiven : Machine → Option Call → ℕ → ℕ → RmmRipas → RmmRipas → Type 0
 IsRipasGiven m (Some (RttInitRipas of base top)) rd ipa old Ram = (rd ≡ number_of m of) × IsRealmIn m rd New × IsBetween base top ipa
 IsRipasGiven m (Some (DataCreate of page at source flags)) rd ipa old Ram =
@@ -57,15 +57,15 @@ IsRipasGiven m (Some (RttSetRipas of rec base top)) rd ipa old ripas =
     × (old ≡ Destroyed → (rec_at m rec).ripas.changes_destroyed ≡ true)
 IsRipasGiven m call rd ipa old ripas = ⊥
 
--- Each protected address of a realm that is there before and after a call has the RIPAS that it had, or the call gives
--- it another one.
+-- Each protected IPA of a realm that exists before and after a call keeps its RIPAS, or the call gives it the new one.
 abbrev pub KeepsRipas : Machine → Option Call → Machine → Type 0
 KeepsRipas m call n =
     (rd ipa : ℕ) (before after : RmmRealm) → (granule_at m rd).state ≡ Rd before → (granule_at n rd).state ≡ Rd after → is_protected before ipa ≡ true
     → (ripas_at n after ipa ≡ ripas_at m before ipa) ⊎ IsRipasGiven m call rd ipa (ripas_at m before ipa) (ripas_at n after ipa)
 
--- From an address on up to another one, each protected address has a RIPAS. Its entry is the one before, but for RIPAS, so
--- it leads to the same page. Beside them each entry is as it was. Walks end where they did.
+-- Each protected IPA from `base` up to `stop`, a later address, has the given RIPAS afterwards. Its entry changes in
+-- RIPAS only, so it leads to the same page. Outside the range, the entries of protected IPAs are unchanged. Walks end
+-- where they did.
 pub record IsRipasSet (m n : Machine) (realm : RmmRealm) (ripas : RmmRipas) (base stop : ℕ) : Type 0 where
   pub further : base < stop
   pub walks : (ipa : ℕ) → is_protected realm ipa ≡ true → walk n realm ipa 3 ≡ walk m realm ipa 3

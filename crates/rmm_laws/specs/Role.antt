@@ -35,7 +35,7 @@ abbrev pub level_in : RmmGranuleState → ℕ → ℕ
 level_in Rtt level = level
 level_in _ level = 0
 
--- a granule of a machine, of which the function has the levels of tables
+-- a granule of a machine as one in use; the function gives the levels of tables
 abbrev pub used_at : Machine → (ℕ → ℕ) → ℕ → Used
 used_at m level g = record { number = g; attributes = granule_at m g; level = level_in (granule_at m g).state (level g) }
 
@@ -45,7 +45,7 @@ used_at m level g = record { number = g; attributes = granule_at m g; level = le
 abbrev pub page_count : ℕ → ℕ
 page_count level = entry_size level / 4096
 
--- an entry of a table of a level uses a table of the level below, or the pages of a mapping
+-- a granule that a table entry uses: the table below a TABLE entry, or a page of ASSIGNED memory
 abbrev pub entry_uses : Machine → Option ℕ → ℕ → RmmRttEntry → ℕ → Option Used
 entry_uses m owner level (Table address) part = if part == 0 then option_map (used Rtt owner (level + 1)) (granule_named m address) else None
 entry_uses m owner level (Assigned ripas address) part =
@@ -61,7 +61,7 @@ state_uses m (Rd realm) owner level page g i part =
     if nat_lt i realm.table_count && part == 0 then Some (used Rtt (Some g) realm.start_level (realm.first_table + i)) else None
 state_uses m _ owner level page g i part = None
 
--- What a granule uses at an index: one granule, or each page of a mapping as a part.
+-- The granule that a granule uses at an index and a part. Only a mapping has more than one part: its pages.
 unfoldable pub uses : Machine → (ℕ → ℕ) → ℕ → ℕ → ℕ → Option Used
 uses m level g i part = state_uses m (granule_at m g).state (granule_at m g).owner (level g) (page_in m g) g i part
 
@@ -76,7 +76,7 @@ pub record IsUsed (gives : ℕ → ℕ → ℕ → Option Used) (at : ℕ → Us
   pub once : (x i k : ℕ) (u : Used) → gives x i k ≡ Some u → u.number ≡ granule → (x ≡ user) × (i ≡ index) × (k ≡ part)
   pub role : has_user (at granule).attributes.state ≡ true
 
--- A granule is not used, and its state is none that is.
+-- No granule uses this granule, and its state is one that has no user.
 pub record HasNoUser (gives : ℕ → ℕ → ℕ → Option Used) (at : ℕ → Used) (granule : ℕ) : Type 0 where
   pub none : (x i k : ℕ) (u : Used) → gives x i k ≡ Some u → u.number ≢ granule
   pub role : has_user (at granule).attributes.state ≡ false
@@ -99,7 +99,7 @@ pub record IsSound (m : Machine) : Type 0 where
 abbrev pub IsBegin : Machine → ℕ → Type 0
 IsBegin m address = (is_inside m address ≡ true) × (address ≡ m.settings.base + number_of m address * 4096)
 
--- an entry has the address of a table or of memory of the machine, if it leads to one
+-- if an entry is TABLE or ASSIGNED, a granule of the machine begins at its address
 abbrev pub LeadsInside : Machine → RmmRttEntry → Type 0
 LeadsInside m (Table address) = IsBegin m address
 LeadsInside m (Assigned ripas address) = IsBegin m address

@@ -17,8 +17,8 @@ GoesOn (IsResult r) m g word n rest = rest
 GoesOn (IsExit exit last) m g word n rest = (word ≡ Success) × (n ≡ after_exit m g exit last)
 GoesOn Spins m g word n rest = (word ≡ Running) × (n ≡ m)
 
--- A REC runs for at most that many steps, is answered a word, and leaves a machine. After all of them it exits as by a
--- timer of the host's.
+-- A REC's run of at most a given number of steps ends with a word and a machine. If no step ends it, the REC exits as
+-- by a timer of the host's.
 unfoldable pub HasRun : Machine → ℕ → ℕ → ℕ → Word → Machine → Type 0
 HasRun m g flags zero word n = (word ≡ Success) × (n ≡ after_exit m g (only_reason Irq) Other)
 HasRun m g flags (suc count) word n =

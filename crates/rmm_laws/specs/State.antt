@@ -18,7 +18,7 @@ use Rattle.rmm_model.specs.Command.RipasRange.{change_count}
 use Rattle.rmm_model.specs.Command.RttInitRipas.{rim_with_ripas, init_changeable}
 use Rattle.rmm_laws.specs.Owner.{is_rd}
 
--- a granule is the RD of a realm of a state
+-- a granule is the RD of a realm in the given state
 abbrev pub IsRealmIn : Machine → ℕ → RmmRealmState → Type 0
 IsRealmIn m rd state = (realm : RmmRealm) × ((granule_at m rd).state ≡ Rd realm) × (realm.state ≡ state)
 
@@ -43,16 +43,16 @@ IsBrought m call rd state = ⊥
 abbrev pub fixed : RmmRealm → RmmRealm
 fixed realm = record realm { state = New; rim = []; next_rec = 0; rec_count = 0 }
 
--- a granule is the RD of a realm that has kept what a realm had
+-- a granule is the RD of a realm whose fixed attributes are those of the given realm
 abbrev pub IsLasting : Machine → ℕ → RmmRealm → Type 0
 IsLasting m rd realm = (other : RmmRealm) × ((granule_at m rd).state ≡ Rd other) × (fixed other ≡ fixed realm)
 
--- a call destroys the realm of an RD
+-- a call is RMI_REALM_DESTROY of the realm with the given RD
 abbrev pub IsDestroyed : Machine → Option Call → ℕ → Type 0
 IsDestroyed m (Some (RealmDestroy of)) rd = rd ≡ number_of m of
 IsDestroyed m call rd = ⊥
 
--- Each realm before a call is there after it, and has kept what it had, or the call destroys it.
+-- Each realm before a call exists after it with the same fixed attributes, or the call destroys it.
 abbrev pub KeepsRealms : Machine → Option Call → Machine → Type 0
 KeepsRealms m call n = (rd : ℕ) (realm : RmmRealm) → (granule_at m rd).state ≡ Rd realm → IsLasting n rd realm ⊎ IsDestroyed m call rd
 
@@ -60,18 +60,18 @@ KeepsRealms m call n = (rd : ℕ) (realm : RmmRealm) → (granule_at m rd).state
 abbrev pub HasRim : Machine → ℕ → List ℕ → Type 0
 HasRim m rd rim = (realm : RmmRealm) × ((granule_at m rd).state ≡ Rd realm) × (realm.rim ≡ rim)
 
--- Each realm after a call was there in that state before it, or the call brought it to its state.
+-- Each realm after a call had that state before it, or the call can bring it there.
 abbrev pub KeepsStates : Machine → Option Call → Machine → Type 0
 KeepsStates m call n = (rd : ℕ) (realm : RmmRealm) → (granule_at n rd).state ≡ Rd realm → IsRealmIn m rd realm.state ⊎ IsBrought m call rd realm.state
 
--- the RIM of a realm after entries from an address on became RAM, as far as they can be changed and are below another one
+-- a realm's RIM after RMI_RTT_INIT_RIPAS of a range, extended for each entry that the command sets to RAM
 abbrev pub rim_with_range : Machine → RmmRealm → ℕ → ℕ → List ℕ
 rim_with_range m realm base top =
     let found = walk m realm base 3 in
     rim_with_ripas realm.hash realm.rim (entry_size found.level) base (change_count m (init_changeable m.settings) found base top)
 
--- A call gives the realm of an RD a RIM: it creates the realm. Or it extends the RIM of a NEW one by a page of data, by a
--- range of RIPAS, or by a REC.
+-- A call gives this RIM to the realm with the given RD. RMI_REALM_CREATE sets the RIM. RMI_DATA_CREATE,
+-- RMI_RTT_INIT_RIPAS and RMI_REC_CREATE extend the RIM of a NEW realm.
 abbrev pub IsMeasured : Machine → Option Call → ℕ → List ℕ → Type 0
 IsMeasured m (Some (RealmCreate of params)) rd rim = (rd ≡ number_of m of) × (is_rd (granule_at m rd).state ≡ false) × (rim ≡ (realm_for m (params_at m params)).rim)
 IsMeasured m (Some (DataCreate of page ipa source flags)) rd rim =
@@ -81,7 +81,7 @@ IsMeasured m (Some (RttInitRipas of base top)) rd rim =
 IsMeasured m (Some (RecCreate of rec params)) rd rim = (rd ≡ number_of m of) × IsRealmIn m rd New × (rim ≡ rim_with_rec m.settings (realm_at m of) (page_in m (number_of m params)))
 IsMeasured m call rd rim = ⊥
 
--- a call is one that gives the realm of an RD a RIM if it succeeds
+-- a call is one that sets or extends the RIM of the given realm, if it succeeds
 abbrev pub Measures : Machine → Call → ℕ → Type 0
 Measures m (RealmCreate of params) rd = rd ≡ number_of m of
 Measures m (DataCreate of page ipa source flags) rd = rd ≡ number_of m of
@@ -89,6 +89,6 @@ Measures m (RttInitRipas of base top) rd = rd ≡ number_of m of
 Measures m (RecCreate of rec params) rd = rd ≡ number_of m of
 Measures m call rd = ⊥
 
--- Each realm after a call was there with that RIM before it, or the call gave it.
+-- Each realm after a call had the same RIM before it, or the call gave the realm that RIM.
 abbrev pub KeepsRims : Machine → Option Call → Machine → Type 0
 KeepsRims m call n = (rd : ℕ) (realm : RmmRealm) → (granule_at n rd).state ≡ Rd realm → HasRim m rd realm.rim ⊎ IsMeasured m call rd realm.rim

@@ -59,8 +59,8 @@ abbrev pub LeadsDown : ℕ → Machine → List Call → Machine → Type 0
 LeadsDown rd m [] n = m ≡ n
 LeadsDown rd m (call ∷ calls) n = IsOfTeardown m rd call × ((performed call m).0.word ≡ Success) × LeadsDown rd (performed call m).1 calls n
 
--- Some such calls lead to a machine in which each granule that the realm has now, the RD too, is UNDELEGATED and zero.
--- The VMID of the realm is free. Each granule of another realm is as it was.
+-- Some sequence of teardown calls succeeds and takes the realm down. Each granule that the realm has now, including its
+-- RD, is UNDELEGATED and zero afterwards. The VMID of the realm is free. Each granule of another realm is as it was.
 pub record CanBeTornDown (m : Machine) (rd : ℕ) : Type 0 where
   pub calls : List Call
   pub after : Machine

@@ -10,7 +10,7 @@ use Rattle.rmm_model.specs.Machine.{Machine, granule_at, page_in}
 use Rattle.rmm_model.specs.Table.{entry_in_page}
 use Rattle.rmm_model.specs.Walk.{entry_at, table_below, walk}
 
--- a granule is a table of the realm of an RD
+-- a granule is a table of the realm whose RD is given
 abbrev pub IsTableOf : Machine → ℕ → ℕ → Type 0
 IsTableOf m rd granule = granule_at m granule ≡ of_realm rd Rtt
 
@@ -18,15 +18,15 @@ IsTableOf m rd granule = granule_at m granule ≡ of_realm rd Rtt
 abbrev pub walked_to : ℕ → ℕ → RttWalk
 walked_to table level = record { table = table; level = level }
 
--- A table serves the addresses from one on, that many levels below the starting tables of a realm. It is a starting
--- table, or an entry of one that serves leads to it, and it serves what that entry covers.
+-- A table, a given number of levels below a realm's starting tables, serves the IPAs from `first` on. It is a starting
+-- table, or an entry of a table that serves leads to it, and it serves the IPAs that the entry covers.
 unfoldable pub Serves : Machine → RmmRealm → ℕ → ℕ → ℕ → Type 0
 Serves m realm zero table first = (k : ℕ) × (k < realm.table_count) × (table ≡ realm.first_table + k) × (first ≡ k * (512 * entry_size realm.start_level))
 Serves m realm (suc levels) table first = (above : ℕ) × (from : ℕ) × (i : ℕ) × Serves m realm levels above from × (i < 512) × (table_below m (entry_in_page (page_in m above) i) ≡ Some table)
     × (first ≡ from + i * entry_size (realm.start_level + levels))
 
--- A walk of an address towards a level ends at a table of the realm of an RD, which serves the address. The table is of
--- the level that the walk says. That is the level that the walk goes to, or the entry is no TABLE.
+-- The walk of an IPA towards level `to` ends at a table of the realm that serves the IPA. The walk's level is that of
+-- the table, and at most `to`. It is `to`, unless the entry there is no TABLE.
 pub record EndsWell (m : Machine) (level : ℕ → ℕ) (rd : ℕ) (realm : RmmRealm) (ipa to : ℕ) (found : RttWalk) : Type 0 where
   pub table : IsTableOf m rd found.table
   pub is_level : level found.table ≡ found.level
@@ -43,29 +43,30 @@ pub record EndsWell (m : Machine) (level : ℕ → ℕ) (rd : ℕ) (realm : RmmR
 abbrev pub IsDeadAt : Machine → RmmRealm → ℕ → Type 0
 IsDeadAt m realm ipa = is_live (entry_at m (walk m realm ipa 3) ipa) ≡ false
 
--- the first address after those that the table serves at which a walk ended
+-- the first address above those that the table at the end of a walk serves
 abbrev pub end_of : RttWalk → ℕ → ℕ
 end_of found ipa = (ipa / entry_size found.level / 512 + 1) * (512 * entry_size found.level)
 
--- A top is at a live entry of the table at which a walk of an address ended, or at the first address that the table does
--- not serve. It is at no entry before that of the address. It is the address, or an entry begins there.
+-- A top is at a live entry of the table where a walk ended, or at that table's end. It is not at an entry before that
+-- of the walked IPA. It is that IPA, or an entry begins there.
 pub record IsAtLive (m : Machine) (found : RttWalk) (ipa to : ℕ) : Type 0 where
   pub is : ((is_live (entry_at m found to) ≡ true) × (to < end_of found ipa)) ⊎ (to ≡ end_of found ipa)
   pub low : ipa / entry_size found.level ≤ to / entry_size found.level
   pub begins : (to ≡ ipa) ⊎ (to % entry_size found.level ≡ 0)
 
--- No live entry is passed at an address: the walk of the address ends at none, and the table at which a walk ended has
--- none there.
+-- An address has no live entry at the end of its own walk, nor in the given walk's table.
 abbrev pub IsPassed : Machine → RmmRealm → RttWalk → ℕ → Type 0
 IsPassed m realm found x = IsDeadAt m realm x × (is_live (entry_at m found x) ≡ false)
 
--- A top is after an address, and no live entry is passed from one to the other.
+-- A top is above an address, at a live entry of the walk's table or at that table's end. No live entry is passed from
+-- the address up to the top.
 pub record IsNextTop (m : Machine) (realm : RmmRealm) (found : RttWalk) (ipa to : ℕ) : Type 0 where
   pub further : ipa < to
   pub met : IsAtLive m found ipa to
   pub skipped : (x : ℕ) → ipa ≤ x → x < to → IsPassed m realm found x
 
--- The address of a TABLE entry is that at which a table of the realm begins, one level below, and of level 3 at most.
+-- A table of the realm begins at an entry's address. Its level is one more than that of the table with the entry, and
+-- at most 3.
 pub record LeadsToTable (m : Machine) (level : ℕ → ℕ) (rd table address : ℕ) : Type 0 where
   pub granule : ℕ
   pub begins : address ≡ m.settings.base + granule * 4096

@@ -83,9 +83,9 @@ pub fn refusals_change_nothing()
         → IsNotDone (step_outcome m realm rec flags step) → after_step m realm rec step (step_outcome m realm rec flags step) ≡ m }
 {}
 
-/// Each result word that an RMM may return for a refused call is a refusal. The word that the model returns is one of
-/// these words. If a call is not refused, RMI_SUCCESS alone is allowed, also of an RMI_REC_ENTER that is answered with
-/// the word of a REC that runs on.
+/// If the model refuses a call, an RMM may return only a refusal. The word by which the model refuses it is one of the
+/// allowed words. If a call is not refused, RMI_SUCCESS alone is allowed, also of an RMI_REC_ENTER that is answered
+/// with the word of a REC that runs on.
 pub fn only_refusals_are_allowed()
     ensures done { (call : Call) (m : Machine) → is_refusal (performed call m).0.word ≡ false → allowed_words (command_of call m) ≡ Success ∷ [] }
     ensures own { (call : Call) (m : Machine) → is_refusal (performed call m).0.word ≡ true → IsOneOf (performed call m).0.word (allowed_words (command_of call m)) }
@@ -144,10 +144,10 @@ pub fn tables_lead_to_tables()
         → LeadsToTable m proper.linked.level rd table address }
 {}
 
-/// RTT_DESTROY, RTT_FOLD and DATA_DESTROY return the address of a granule of the realm. If the call succeeds, its X1 is
-/// the address of a table or a page of the realm. That granule is DELEGATED and zero after the call. So is a REC that
-/// is destroyed, with its auxiliary granules. Other granules keep their attributes, but for the RD that counts the REC.
-/// What a call gives to the host is zero.
+/// A granule that RTT_DESTROY, RTT_FOLD, DATA_DESTROY or REC_DESTROY removes from its realm becomes DELEGATED and zero.
+/// If one of the first three calls succeeds, its X1 is the address of that granule, a table or a page of the realm. A
+/// REC is removed with its auxiliary granules. Other granules keep their attributes, but for the RD that counts the
+/// REC. What a call gives to the host is zero.
 pub fn granules_come_back()
     ensures destroyed { (m : Machine) (rd ipa level : ℕ) → IsProper m → (performed (RttDestroy rd ipa level) m).0.word ≡ Success
         → ComesBack m (performed (RttDestroy rd ipa level) m).1 (number_of m rd) Rtt (performed (RttDestroy rd ipa level) m).0.x1 }
@@ -176,13 +176,13 @@ pub fn tops_are_complete()
         → IsNextTop n (realm_at m rd) (walk n (realm_at m rd) ipa level) ipa answer.x1 }
 {}
 
-/// The RMI commands that tear a realm down succeed under the conditions listed here. RMI_REC_DESTROY succeeds for a REC
-/// that does not run, and RMI_DATA_DESTROY for a page. So do RMI_RTT_UNMAP_UNPROTECTED of a mapping, and
-/// RMI_RTT_DESTROY of a table without live entries. RMI_REALM_DESTROY succeeds for a realm without RECs and live
-/// entries, and RMI_GRANULE_UNDELEGATE for a DELEGATED granule, which is UNDELEGATED and zero then. After
-/// RMI_GRANULE_DELEGATE a granule is DELEGATED and zero. If a granule is DELEGATED, a step of a teardown succeeds while
-/// an entry of a realm is live. If no REC of it runs either, one succeeds until the realm is destroyed. What a realm
-/// had until its RMI_REALM_DESTROY is its RD and its starting tables, which are DELEGATED and zero.
+/// RMI commands of a realm's teardown succeed if their preconditions hold. RMI_REC_DESTROY succeeds for a REC that
+/// does not run, and RMI_DATA_DESTROY for a page. So do RMI_RTT_UNMAP_UNPROTECTED of a mapping, and RMI_RTT_DESTROY of
+/// a table without live entries. RMI_REALM_DESTROY succeeds for a realm without RECs and live entries, and
+/// RMI_GRANULE_UNDELEGATE for a DELEGATED granule, which is UNDELEGATED and zero then. After RMI_GRANULE_DELEGATE a
+/// granule is DELEGATED and zero. If a granule is DELEGATED, a step of a teardown succeeds while an entry of a realm is
+/// live. If no REC of it runs either, one succeeds until the realm is destroyed. What a realm had until its
+/// RMI_REALM_DESTROY is its RD and its starting tables, which are DELEGATED and zero.
 pub fn teardown_steps_succeed()
     ensures recs { (m : Machine) (rec : ℕ) → is_rec_named m rec ≡ true → is_running (rec_at m rec).state ≡ false → (performed (RecDestroy rec) m).0.word ≡ Success }
     ensures pages { (m : Machine) (rd ipa address : ℕ) (ripas : RmmRipas) → IsProper m → rd_named m rd ≡ Some (number_of m rd) → ipa % 4096 ≡ 0 → is_protected (realm_at m rd) ipa ≡ true

@@ -6,7 +6,7 @@ use Rattle.rmm_model.specs.declared.access.AccessSize.{AccessSize}
 use Rattle.rmm_model.specs.declared.access.AccessSize.TheVariants.{Byte, Halfword, Word, Doubleword}
 use Rattle.rmm_model.specs.Machine.{Machine, page_in, with_page, with_word}
 
--- the size of an access of that many bytes
+-- the access size for a number of bytes; any number but 2, 4 and 8 counts as 1
 abbrev pub access_size : ℕ → AccessSize
 access_size bytes = if bytes == 2 then Halfword else (if bytes == 4 then Word else (if bytes == 8 then Doubleword else Byte))
 
@@ -50,7 +50,7 @@ with_two_bytes m granule offset value = with_byte (with_byte m granule offset va
 unfoldable pub with_four_bytes : Machine → ℕ → ℕ → ℕ → Machine
 with_four_bytes m granule offset value = with_two_bytes (with_two_bytes m granule offset value) granule (offset + 2) (value / 2 ^ 16)
 
--- the machine after an access writes a value
+-- the machine after a write of the given size to a granule, at an IPA's page offset rounded down to the size
 unfoldable pub with_value : Machine → ℕ → AccessSize → ℕ → ℕ → Machine
 with_value m granule Byte ipa value = with_byte m granule (ipa % 4096) value
 with_value m granule Halfword ipa value = with_two_bytes m granule (ipa % 4096 / 2 * 2) value

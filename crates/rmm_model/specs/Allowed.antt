@@ -98,8 +98,8 @@ condition_number Status = 76
 abbrev pub is_among : List Condition → Condition → Bool
 is_among conditions condition = list_any (λ c. condition_number c == condition_number condition) conditions
 
--- A check is made if each check that it comes after was made and passed. The words are those of the checks that are
--- made and fail, after checks that were made and passed.
+-- The words of the checks that are made and fail, given the conditions that have passed. A check is made if each check
+-- that it comes after was made and passed.
 unfoldable pub words_after : List Condition → List Check → List Word
 words_after passed [] = []
 words_after passed (c ∷ cs) =
@@ -111,6 +111,7 @@ abbrev pub or_success : List Word → List Word
 or_success [] = Success ∷ []
 or_success (word ∷ words) = word ∷ words
 
--- The words that are allowed: those of all checks that are made and fail, and RMI_SUCCESS if there is none.
+-- The words with which an RMM may answer a command. They are those of all checks that are made and fail, or RMI_SUCCESS
+-- if there are none.
 unfoldable pub allowed_words : Command → List Word
 allowed_words command = or_success (words_after [] command.checks)

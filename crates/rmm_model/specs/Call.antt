@@ -58,7 +58,7 @@ command_of (RecDestroy rec) m = rec_destroy rec m
 command_of (RecEnter rec run) m = rec_enter rec run m
 command_of (PsciComplete calling target status) m = psci_complete calling target status m
 
--- the answer of a call, and the machine after it
+-- the answer to an RMI call, and the machine after the call
 unfoldable pub performed : Call → Machine → SmcResult × Machine
 performed call m = outcome (command_of call m) m
 

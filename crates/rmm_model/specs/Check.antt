@@ -46,13 +46,13 @@ first_failing (c ∷ cs) = cond c.fails (Some c.refusal) (first_failing cs)
 
 -- ---- commands
 
--- A command: its checks, its answer if none fails, and the machine after it then.
+-- A command: its checks, and the answer and the resulting machine if no check fails.
 pub record Command : Type 0 where
   pub checks : List Check
   pub answer : SmcResult
   pub machine : Machine
 
--- the answer of a command and the machine after it: a refusal changes nothing
+-- the answer to a command, and the resulting machine: a refused command leaves the machine unchanged
 abbrev pub decided : Option FailedCondition → Command → Machine → SmcResult × Machine
 decided (Some refusal) command m = (refusal.answer, m)
 decided None command m = (command.answer, command.machine)
@@ -60,7 +60,7 @@ decided None command m = (command.answer, command.machine)
 abbrev pub outcome : Command → Machine → SmcResult × Machine
 outcome command m = decided (first_failing command.checks) command m
 
--- the refusal of a result
+-- the refusal in a result, if the result is an error
 abbrev pub refusal_in : {X : Type 0} → Result X FailedCondition → Option FailedCondition
 refusal_in (Ok x) = None
 refusal_in (Err refusal) = Some refusal

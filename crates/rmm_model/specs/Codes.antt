@@ -1,4 +1,4 @@
--- The code of a machine, which is injective.
+-- An injective encoding of machines.
 use Rattle.std.specs.Prelude.{ℕ, Bool, List, refl}
 use Rattle.std.specs.Coded.{Coded, code_by, coded×, coded_ℕ, coded_bool, coded_list}
 use Rattle.rmi_abi.specs.declared.settings.RmmSettings.{RmmSettings}

@@ -23,7 +23,7 @@ descriptor_of UnassignedNs = 0
 
 -- ---- words
 
--- a word whose eight bytes are one
+-- a word that repeats one byte eight times
 abbrev pub repeated : ℕ → ℕ
 repeated byte = byte * 0x0101010101010101
 
@@ -117,7 +117,7 @@ state_code (Assigned ripas address) = 1
 state_code (AssignedNs descriptor) = 1
 state_code (Table address) = 2
 
--- the encoding of the RIPAS of a protected page or block, RmiRipas, and 0 of any other entry
+-- the encoding, RmiRipas, of the RIPAS of an UNASSIGNED or ASSIGNED entry; 0 for any other
 abbrev pub shown_ripas : RmmRttEntry → ℕ
 shown_ripas (Unassigned ripas) = ripas_code ripas
 shown_ripas (Assigned ripas address) = ripas_code ripas
@@ -125,19 +125,20 @@ shown_ripas _ = 0
 
 -- ---- children
 
--- Entry k of a table of a level that means the same as an entry above it: the memory of a mapping rises.
+-- Child k of an entry, in a table of a level. The children of a mapping lead to consecutive memory; those of any other
+-- entry equal it.
 abbrev pub child_entry : RmmRttEntry → ℕ → ℕ → RmmRttEntry
 child_entry (Assigned ripas address) level k = Assigned ripas (address + k * entry_size level)
 child_entry (AssignedNs descriptor) level k = AssignedNs (descriptor + k * entry_size level)
 child_entry entry level k = entry
 
--- the step by which the descriptors of children rise in a table of a level
+-- the difference between the descriptors of adjacent children of an entry, in a table of a level
 abbrev pub child_step : RmmRttEntry → ℕ → ℕ
 child_step (Assigned ripas address) level = entry_size level
 child_step (AssignedNs descriptor) level = entry_size level
 child_step entry level = 0
 
--- the byte that a page of children of an entry has throughout; one of a mapping has none
+-- the byte that fills the page of an entry's children; none unless it is UNASSIGNED or UNASSIGNED_NS
 abbrev pub repeated_byte : RmmRttEntry → Option ℕ
 repeated_byte (Unassigned ripas) = Some (ripas_code ripas)
 repeated_byte UnassignedNs = Some 3

@@ -14,7 +14,7 @@ abbrev pub is_delegated : RmmGranuleState → Bool
 is_delegated Delegated = true
 is_delegated _ = false
 
--- the realm of an RD
+-- the realm that a granule describes, if it is an RD
 abbrev pub realm_of : RmmGranuleState → Option RmmRealm
 realm_of (Rd realm) = Some realm
 realm_of _ = None
@@ -28,6 +28,6 @@ rec_of _ = None
 abbrev pub of_no_realm : RmmGranuleState → RmmGranule
 of_no_realm state = record { state = state; owner = None }
 
--- a granule of the realm of an RD
+-- a granule in a state, owned by the realm with the given RD
 abbrev pub of_realm : ℕ → RmmGranuleState → RmmGranule
 of_realm rd state = record { state = state; owner = Some rd }

@@ -20,7 +20,7 @@ use Rattle.rmm_model.specs.Command.PsciComplete.{with_rec}
 
 -- ---- steps
 
--- the step that words are
+-- the guest's step that words encode
 abbrev pub step_of : StepWords → GuestStep
 step_of w =
     if w.kind == 0 then Write w.a w.b (access_size w.c) else
@@ -74,7 +74,7 @@ result_value _ = 0
 abbrev pub rec_in : Machine → ℕ → Attributes
 rec_in m g = unwrap_or (rec_of (granule_at m g).state) no_rec
 
--- the words of a step at a place of the ring
+-- the machine after the words of a step are written to a place of the ring
 abbrev pub with_step_at : Machine → ℕ → ℕ → StepWords → Machine
 with_step_at m g place w =
     with_word (with_word (with_word (with_word (with_word m g (48 + 5 * place) w.kind) g (48 + 5 * place + 1) w.a) g (48 + 5 * place + 2) w.b)
@@ -84,13 +84,13 @@ with_step_at m g place w =
 abbrev pub first_step : Machine → ℕ → GuestStep
 first_step m g = step_of (words_at (page_in m g) ((rec_in m g).first_step % 16))
 
--- the guest of a REC after its first step
+-- the machine after the first step of a guest is removed from its ring
 unfoldable pub past_step : Machine → ℕ → Machine
 past_step m g =
     let rec = rec_in m g in
     with_rec m g (record rec { first_step = (rec.first_step % 16 + 1) % 16; step_count = rec.step_count - 1 })
 
--- the guest of a REC with one result more
+-- the machine after a result is added to the guest of a REC
 unfoldable pub with_result : Machine → ℕ → StepResult → Machine
 with_result m g r =
     let rec = rec_in m g in
@@ -103,7 +103,7 @@ with_result m g r =
 abbrev pub is_rec_named : Machine → ℕ → Bool
 is_rec_named m address = is_aligned address && is_inside m address && is_some (rec_of (state_at m address))
 
--- a step after those that a guest has
+-- the machine after a step is added at the end of a guest's ring
 unfoldable pub with_step : Machine → ℕ → StepWords → Machine
 with_step m g w =
     let rec = rec_in m g in

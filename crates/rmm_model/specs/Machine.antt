@@ -11,7 +11,7 @@ use Rattle.rmm_model.specs.declared.realm.RmmRealm.{RmmRealm}
 use Rattle.rmm_model.specs.Granule.{of_no_realm, realm_of}
 use Rattle.rmm_model.specs.Realm.{IsServed}
 
--- A machine, with a flag for each VMID that a realm has.
+-- A machine: its settings, granules and pages, and for each VMID whether a realm uses it.
 pub record Machine : Type 0 where
   pub settings : RmmSettings
   pub granules : List RmmGranule
@@ -23,7 +23,7 @@ pub record Machine : Type 0 where
 abbrev pub granule_count : Machine → ℕ
 granule_count m = length m.granules
 
--- a granule outside the machine counts as UNDELEGATED
+-- the granule with a number; one outside the machine counts as UNDELEGATED
 abbrev pub granule_at : Machine → ℕ → RmmGranule
 granule_at m granule = slice_index_or m.granules granule (of_no_realm Undelegated)
 
@@ -40,7 +40,7 @@ with_page m granule page = record m { pages = slice_set m.pages granule page }
 abbrev pub with_word : Machine → ℕ → ℕ → ℕ → Machine
 with_word m granule i word = with_page m granule (page_with_word (page_in m granule) i word)
 
--- a granule becomes one of no realm with a zero page
+-- the machine in which a granule has a given state, no owner and a zero page
 abbrev pub with_blank : Machine → ℕ → RmmGranuleState → Machine
 with_blank m granule state = with_page (with_granule m granule (of_no_realm state)) granule zero_page
 
@@ -53,11 +53,11 @@ is_aligned address = address % 4096 == 0
 unfoldable pub is_inside : Machine → ℕ → Bool
 is_inside m address = nat_le m.settings.base address && nat_lt ((address - m.settings.base) / 4096) (length m.granules)
 
--- the number of the granule of an address
+-- the number of the granule that contains an address
 unfoldable pub number_of : Machine → ℕ → ℕ
 number_of m address = (address - m.settings.base) / 4096
 
--- the state of the granule of an address
+-- the state of the granule that contains an address
 abbrev pub state_at : Machine → ℕ → RmmGranuleState
 state_at m address = (granule_at m (number_of m address)).state
 
@@ -67,11 +67,11 @@ is_secure m address = nat_le m.settings.secure_base address && nat_lt ((address 
 
 -- ---- realms
 
--- the granule of an RD has another realm
+-- the machine after the realm of an RD is replaced
 abbrev pub with_realm : Machine → ℕ → RmmRealm → Machine
 with_realm m rd realm = with_granule m rd (of_no_realm (Rd realm))
 
--- each RD has a realm whose starting tables are in the machine
+-- the starting tables of each RD's realm are in the machine, and serve its address space
 pub record HasTables (granules : List RmmGranule) : Type 0 where
   pub each : (granule : ℕ) → IfSome (realm_of (slice_index_or granules granule (of_no_realm Undelegated)).state) (IsServed (length granules))
 

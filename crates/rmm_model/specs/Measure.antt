@@ -20,7 +20,7 @@ digest Sha512 message = sha512 message
 
 -- ---- initial measurements
 
--- a page that is an RmiRealmParams with these fields, all else 0
+-- the page of an RmiRealmParams with the measured parameters of a realm, all else 0
 abbrev pub params_bytes : RealmParams → List ℕ
 params_bytes p = word p.flags ++ word p.s2sz ++ word p.sve_vl ++ word p.num_bps ++ word p.num_wps ++ word p.pmu_num_ctrs ++ word p.hash_algo ++ zeros 4040
 
@@ -35,13 +35,13 @@ type_of (Data ipa flags page) = 0
 type_of (Rec params) = 1
 type_of (Ripas base top) = 2
 
--- the bytes of a descriptor from 0x50 on, after those before
+-- a measurement descriptor: its first 0x50 bytes, then the content of the extension
 abbrev pub with_content : List ℕ → Extension → List ℕ
 with_content front (Data ipa flags page) = front ++ word ipa ++ word flags ++ page ++ zeros 96
 with_content front (Rec params) = front ++ params ++ zeros 112
 with_content front (Ripas base top) = front ++ word base ++ word top ++ zeros 160
 
--- a descriptor of 256 bytes: its type, its length and the measurement before come first
+-- a measurement descriptor of 256 bytes: its type, its length, the old RIM and the content
 abbrev pub descriptor : List ℕ → Extension → List ℕ
 descriptor rim extension = with_content (word (type_of extension) ++ word 0x100 ++ rim) extension
 

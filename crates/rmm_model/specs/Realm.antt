@@ -6,7 +6,7 @@ use Rattle.rmm_model.specs.declared.realm.RmmRealmState.{RmmRealmState}
 use Rattle.rmm_model.specs.declared.realm.RmmRealmState.TheVariants.{New}
 use Rattle.rmm_model.specs.Level.{entry_size}
 
--- the realm that a granule which is no RD counts as, after a check that has failed
+-- the placeholder realm for a granule that is no RD, after a failed check
 abbrev pub no_realm : RmmRealm
 no_realm = record { state = New; hash = Sha256; rim = []; s2sz = 0; start_level = 0; first_table = 0; table_count = 0; vmid = 0; next_rec = 0; rec_count = 0 }
 
@@ -32,16 +32,17 @@ is_unprotected realm ipa = not (is_protected realm ipa) && is_in_space realm ipa
 
 -- ---- starting tables
 
--- the number of starting tables of a level that an address space of that width takes
+-- the number of starting tables that an address space of a width needs at a level
 unfoldable pub start_count : ℕ → ℕ → ℕ
 start_count s2sz level = (2 ^ s2sz + (512 * entry_size level - 1)) / (512 * entry_size level)
 
--- A level at which a width begins: it has more than one entry there, in at most 16 tables, which are as many as it
--- takes.
+-- The starting level and the number of starting tables are valid for a width. The tables are as many as it needs, at
+-- most 16, and it spans more than one entry of the level.
 unfoldable pub is_start : ℕ → ℕ → ℕ → Bool
 is_start s2sz level count = nat_le level 3 && nat_lt (entry_size level) (2 ^ s2sz) && nat_le count 16 && count == start_count s2sz level
 
--- The starting tables of a realm are in a machine of that many granules, and serve each address of its width.
+-- The starting tables of a realm are in a machine of `count` granules, and serve its address space. The counts, the
+-- level and the width are within limits.
 pub record IsServed (count : ℕ) (realm : RmmRealm) : Type 0 where
   pub few : count ≤ 4096
   pub inside : realm.first_table + realm.table_count ≤ count

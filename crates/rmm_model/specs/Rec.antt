@@ -28,7 +28,7 @@ new_rec is_runnable mpidr = record {
   result_count = 0;
 }
 
--- the REC that a granule which is none counts as, after a check that has failed
+-- the placeholder REC for a granule that is no REC, after a failed check
 abbrev pub no_rec : RmmRec
 no_rec = new_rec false 0
 

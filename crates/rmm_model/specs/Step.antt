@@ -43,17 +43,17 @@ abbrev pub is_empty : RmmRipas → Bool
 is_empty Empty = true
 is_empty _ = false
 
--- the entry leads to memory of the guest
+-- the entry is ASSIGNED with RIPAS RAM, so a guest can access its memory
 abbrev pub is_memory : RmmRttEntry → Bool
 is_memory (Assigned ripas address) = is_ram ripas
 is_memory _ = false
 
--- a granule, where it is one of the machine
+-- the granule, or a synchronous external abort if there is none
 abbrev pub found_or_sea : Option ℕ → Result ℕ StepOutcome
 found_or_sea (Some granule) = Ok granule
 found_or_sea None = Err (IsResult Sea)
 
--- the granule of a protected address, or the outcome of an access there, by an exception class
+-- the granule of a protected IPA, or the outcome of a failed access, given the exception class
 abbrev pub protected_access : Machine → ℕ → RmmRttEntry → ℕ → ℕ → Result ℕ StepOutcome
 protected_access m class entry level ipa =
     if is_memory entry then found_or_sea (granule_named m (descriptor_of entry + ipa % entry_size level)) else
@@ -71,18 +71,18 @@ wnr writes = if writes then 0x40 else 0
 abbrev pub of_access : Bool → AccessSize → ℕ → ℕ
 of_access writes size level = syndrome size + (wnr writes + level)
 
--- the granule of the host at a physical address
+-- the granule at a physical address, or an abort if it is not the host's
 abbrev pub host_access : Machine → ℕ → ℕ → Result ℕ StepOutcome
 host_access m address ipa = if is_host_page m address then Ok (number_of m address) else Err (IsExit (abort 0x90000028 ipa) UnprotectedAbort)
 
--- the granule of an unprotected address, or the outcome of an access there
+-- the granule of an unprotected IPA, or the outcome of a failed access
 abbrev pub unprotected_access : Machine → RmmRttEntry → ℕ → ℕ → Bool → AccessSize → ℕ → Result ℕ StepOutcome
 unprotected_access m entry level ipa writes size value =
     if not (is_assigned_ns entry) then Err (IsExit (emulatable (0x91000004 + of_access writes size level) ipa value) EmulatableAbort) else
     (if may_access (descriptor_of entry) writes then host_access m (descriptor_of entry / 4096 * 4096 + ipa % entry_size level) ipa else
     Err (IsExit (emulatable (0x9100000C + of_access writes size level) ipa value) EmulatableAbort))
 
--- The granule that an address of a guest is in, or the outcome of an access there.
+-- The granule that a guest accesses at an IPA, or the outcome of a failed access.
 unfoldable pub access : Machine → RmmRealm → ℕ → Bool → AccessSize → ℕ → Result ℕ StepOutcome
 access m realm ipa writes size value =
     let found = walk m realm ipa 3 in
@@ -90,13 +90,13 @@ access m realm ipa writes size value =
     (if is_protected realm ipa then protected_access m 0x90000000 (entry_at m found ipa) found.level ipa else
     unprotected_access m (entry_at m found ipa) found.level ipa writes size value)
 
--- the granule that a guest fetches an instruction from, or the outcome
+-- the granule that a guest fetches an instruction from, or the outcome of a failed fetch
 unfoldable pub fetched : Machine → RmmRealm → ℕ → Result ℕ StepOutcome
 fetched m realm ipa =
     let found = walk m realm ipa 3 in
     if is_protected realm ipa then protected_access m 0x80000000 (entry_at m found ipa) found.level ipa else Err (IsResult Sea)
 
--- the outcome of a step that only tries an access
+-- the outcome of an access that reads no value
 abbrev pub tried : Result ℕ StepOutcome → StepOutcome
 tried (Ok granule) = IsResult Done
 tried (Err outcome) = outcome
@@ -113,7 +113,7 @@ after_write m ipa size value (Err outcome) = m
 
 -- ---- calls
 
--- RSI_HOST_CALL
+-- the exit by RSI_HOST_CALL, with its immediate value and general-purpose registers 0 to 2
 abbrev pub host_call : ℕ → ℕ → ℕ → ℕ → StepOutcome
 host_call imm gpr0 gpr1 gpr2 = IsExit (record (only_reason HostExit) { gpr0 = gpr0; gpr1 = gpr1; gpr2 = gpr2; imm = imm % 2 ^ 16 }) LastHostCall
 
@@ -128,7 +128,7 @@ ripas_of code = if code == 1 then Ram else Empty
 abbrev pub ripas_exit : ℕ → ℕ → ℕ → StepOutcome
 ripas_exit base top ripas = IsExit (record (only_reason RipasExit) { ripas_base = base; ripas_top = top; ripas = ripas }) LastRipasChange
 
--- the second and third operand that a PSCI exit shows, by a setting
+-- the second or third operand in a PSCI exit; 0 if the settings hide it
 abbrev pub shown : RmmSettings → ℕ → ℕ
 shown s operand = if s.shows_target_alone then 0 else operand
 
@@ -144,14 +144,14 @@ psci_gives value = IsResult (Psci value)
 abbrev pub was_given : RmmRealm → ℕ → Bool
 was_given realm mpidr = is_mpidr mpidr && nat_lt (rec_number mpidr) realm.next_rec
 
--- PSCI_CPU_ON
+-- the outcome of PSCI_CPU_ON: an error if the RMM finds one, otherwise a PSCI exit
 abbrev pub cpu_on : RmmSettings → RmmRealm → Attributes → ℕ → ℕ → ℕ → StepOutcome
 cpu_on s realm rec target entry_point context =
     if not (is_protected realm entry_point) then psci_gives (2 ^ 64 - 9) else
     (if not (was_given realm target) then psci_gives (2 ^ 64 - 2) else
     (if target == rec.mpidr then psci_gives (2 ^ 64 - 4) else psci_exit s 0xC4000003 target entry_point context))
 
--- PSCI_AFFINITY_INFO
+-- the outcome of PSCI_AFFINITY_INFO: a result if the RMM can decide it, otherwise a PSCI exit
 abbrev pub affinity_info : RmmSettings → RmmRealm → Attributes → ℕ → ℕ → StepOutcome
 affinity_info s realm rec target level =
     if not (level == 0 && was_given realm target) then psci_gives (2 ^ 64 - 2) else

@@ -10,11 +10,11 @@ use Rattle.rmm_model.specs.Level.{entry_size, entry_index, start_table_index}
 use Rattle.rmm_model.specs.Machine.{Machine, page_in, is_inside, number_of, with_word}
 use Rattle.rmm_model.specs.Table.{entry_in_page, first_live_from}
 
--- the entry of a table that covers an address
+-- the entry that covers an IPA, in the table that a walk found
 unfoldable pub entry_at : Machine → RttWalk → ℕ → RmmRttEntry
 entry_at m found ipa = entry_in_page (page_in m found.table) (entry_index found.level ipa)
 
--- the machine with another entry there
+-- the machine after the entry that covers an IPA is replaced
 abbrev pub with_entry : Machine → RttWalk → ℕ → RmmRttEntry → Machine
 with_entry m found ipa entry = with_word m found.table (entry_index found.level ipa) (entry_word entry)
 
@@ -34,7 +34,8 @@ memory_below m _ = None
 
 -- ---- walks
 
--- The walk goes on by at most that many levels, and ends at the first entry that leads to no table of the machine.
+-- The end of a walk that goes on by at most the given number of levels. It ends at the first entry that leads to no
+-- table of the machine.
 unfoldable pub walk_from : Machine → ℕ → ℕ → RttWalk → RttWalk
 walk_from m ipa zero found = found
 walk_from m ipa (suc levels) found =
@@ -44,20 +45,20 @@ walk_from m ipa (suc levels) found =
 unfoldable pub start_of : RmmRealm → ℕ → RttWalk
 start_of realm ipa = record { table = realm.first_table + start_table_index realm.start_level ipa; level = realm.start_level }
 
--- The end of the walk of an address towards a level.
+-- The table and the level at which an IPA's walk towards a given level ends.
 unfoldable pub walk : Machine → RmmRealm → ℕ → ℕ → RttWalk
 walk m realm ipa level = walk_from m ipa (level - realm.start_level) (start_of realm ipa)
 
 -- ---- tops
 
--- the address that a first live entry begins at; for the address's own entry, the address as it was given, or aligned
--- down
+-- the address of live entry `live`, given an IPA in entry `i`. If the two are the same, it is the IPA itself, aligned
+-- down if `aligns`.
 unfoldable pub top_at : Bool → ℕ → ℕ → ℕ → ℕ → ℕ
 top_at aligns level ipa i live =
     if live == i then cond aligns (ipa / entry_size level * entry_size level) ipa else (ipa / entry_size level + (live - i)) * entry_size level
 
--- The next live entry's address from an address on, in the table at which its walk ends; the end of the table if none
--- is live.
+-- The address of the first live entry from an IPA on, in the table that a walk found. It is the end of the table if
+-- none is live. If the IPA's own entry is live, it is the IPA, aligned down if the settings say so.
 unfoldable pub top : Machine → RttWalk → ℕ → ℕ
 top m found ipa =
     let i = entry_index found.level ipa in

@@ -5,7 +5,7 @@ ghost use Rattle.rmm_model.specs.Check as checks;
 use crate::Condition;
 use rmi_abi::{SmcResult, Word};
 
-/// The failure condition and the answer of a refused command.
+/// The failure condition for which the RMM refuses a command, and the RMM's answer.
 #[derive(Clone, Copy, Drop)]
 pub struct FailedCondition {
     pub condition: Condition,
@@ -13,7 +13,7 @@ pub struct FailedCondition {
 }
 
 impl FailedCondition {
-    /// Returns the answer of the refused command. The answer is copied field by field. So a caller keeps it in
+    /// Returns the RMM's answer to the refused command. The answer is copied field by field. So a caller keeps it in
     /// registers, while a copy of the whole goes through memory.
     pub fn into_answer(self) -> SmcResult
         ensures { result ≡ self.answer }

@@ -21,7 +21,7 @@ impl ChildWords {
     ghost use Rattle.rmm_model.specs.Children.{child_word};
     ghost use Rattle.rmm_model.specs.Entry as entries;
 
-    /// Creates the words of an entry's children. The children are in a table at the given level.
+    /// Creates the words that encode the children of a table entry. The children are in a table at the given level.
     pub fn new(parent: RmmRttEntry, level: u8) -> ChildWords
         requires { entries.descriptor_of parent < 2 ^ 48 }
         ensures { (k : ℕ) → child_word result k ≡ entries.entry_word (entries.child_entry parent level k) }

@@ -185,7 +185,7 @@ impl RmmRttEntry {
         }
     }
 
-    /// Whether a command that changes the `changeable` entries changes this entry's RIPAS.
+    /// Whether the entry is among the `changeable` ones, whose RIPAS a command changes.
     pub fn can_change(self, changeable: Changeable) -> bool
         ensures { result ≡ entries.can_change changeable self }
     {

@@ -17,7 +17,7 @@ pub enum RmmGranuleState {
     Rtt,
 }
 
-/// The attributes of a granule, apart from its page. They are its state, and the RD of the realm that owns it.
+/// The attributes of a granule: its state, and the RD of the realm that owns it. The granule's page is not among them.
 #[derive(Clone, Copy)]
 pub struct RmmGranule {
     pub state: RmmGranuleState,

@@ -30,8 +30,8 @@ pub fn entry_size(level: u8) -> u64
     1 << entry_shift(level)
 }
 
-/// Returns the number of the level's entry that covers an address. All entries of the level are numbered, and the entry
-/// of address 0 has number 0.
+/// Returns the number of the entry that covers an address, counted across all the level's tables. The entry of address
+/// 0 has number 0.
 pub fn entry_number(level: u8, address: u64) -> u64
     ensures { result ≡ address / levels.entry_size level }
 {

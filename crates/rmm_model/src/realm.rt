@@ -32,7 +32,7 @@ pub struct RmmRealm {
     pub rec_count: u16,
 }
 
-/// The end of a walk of translation tables: a table and its level. RMM 1.0, RttWalkResult.
+/// The result of a translation table walk: the last table and its level. RMM 1.0, RttWalkResult.
 #[derive(Clone, Copy)]
 pub struct RttWalk {
     pub table: Gran,

@@ -6,7 +6,7 @@ use crate::{AccessSize, LastExit};
 use page_arena::word_in;
 use rmi_abi::RecExit;
 
-/// A step of a guest. Examples are an access, an RSI or PSCI call, and a wait. This RMM's own: a guest is simulated.
+/// A step of a simulated guest, such as a memory access, RSI call or wait. This RMM's own: a guest is simulated.
 #[derive(Clone, Copy)]
 pub enum GuestStep {
     Write {
@@ -165,7 +165,7 @@ impl StepWords {
 }
 
 impl StepResult {
-    /// Returns the number of the step result's kind.
+    /// Returns the number that encodes the kind of the step result.
     pub fn code(&self) -> u64
         ensures { result ≡ guests.result_code self.now }
     {

@@ -59,8 +59,8 @@ pub fn has_live(page: &[u8]) -> bool
     false
 }
 
-/// Finds the first entry of a table whose RIPAS a command does not change. The search begins at `from`. Returns the
-/// index of the entry, or `end` if there is none before `end`.
+/// Finds the first table entry whose RIPAS a command does not change. The search begins at `from`. Returns the index of
+/// the entry, or `end` if there is none before `end`.
 pub fn first_fixed(page: &[u8], changeable: Changeable, from: u16, end: u16) -> u16
     requires page { length page.now ≡ 4096 }
     requires from { from ≤ end }

@@ -12,7 +12,7 @@ abbrev pub number_or_zero : Option Atom → ℕ
 number_or_zero None = 0
 number_or_zero (Some a) = unwrap_or (atom_number a) 0
 
--- each round of a repeat adds the step
+-- the number of a word in a round of a repeat: each round adds the word's step
 abbrev pub number_at : TraceWord → ℕ → ℕ
 number_at w round = (number_or_zero (Some w.value) + number_or_zero w.step * round % 2 ^ 64) % 2 ^ 64
 
@@ -26,12 +26,12 @@ abbrev pub is_name : ℕ → Atom → Bool
 is_name name (Name place) = place == name
 is_name name _ = false
 
--- the words after the first that is a name
+-- the words after the first occurrence of this name
 abbrev pub after_name : ℕ → List TraceWord → List TraceWord
 after_name name [] = []
 after_name name (w ∷ ws) = if is_name name w.value then ws else after_name name ws
 
--- so many operands, from a place on
+-- `count` operands from index `place` on, in a round of a repeat
 abbrev pub operands : ℕ → ℕ → List TraceWord → ℕ → List ℕ
 operands zero place ws round = []
 operands (suc count) place ws round = operand_at ws place round ∷ operands count (place + 1) ws round

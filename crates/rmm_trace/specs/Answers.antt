@@ -8,7 +8,7 @@ use Rattle.rmm_trace.specs.declared.word.TraceWord.{TraceWord}
 abbrev pub plain : Atom → TraceWord
 plain a = record { value = a; mask = None; step = None; is_listed = false }
 
--- X0 has a status in bits 7:0, and an index in bits 15:8. RMM 1.0, RmiCommandReturnCode
+-- bits 7:0 of X0 are no RMI status, or a bit above the index in bits 15:8 is set. RMM 1.0, RmiCommandReturnCode
 abbrev pub has_no_status : ℕ → Bool
 has_no_status x0 = nat_le 0x10000 x0 || nat_lt 4 (x0 % 256)
 
@@ -30,7 +30,7 @@ output_atom name value =
     else (if name == RIPAS_OUTPUT && nat_lt value 3 then Name (EMPTY + value)
     else (if name == EXIT && nat_lt value 7 then Name (SYNC + value) else Hexadecimal value)))
 
--- the words before a part: a comma comes after the last
+-- the words with a comma after the last, as they come before a further part
 abbrev pub with_comma : List TraceWord → List TraceWord
 with_comma [] = []
 with_comma (w ∷ []) = record w { is_listed = true } ∷ []

@@ -21,12 +21,12 @@ command_rows =
     (codes "rmi_data_create", 0xC4000153, 5) ∷ (codes "rmi_data_create_unknown", 0xC4000154, 3) ∷ (codes "rmi_data_destroy", 0xC4000155, 2) ∷
     (codes "rmi_psci_complete", 0xC4000164, 3) ∷ []
 
--- a group of so many operands, which begins a line and ends it
+-- the group has exactly `count` operands, and a question may end with it
 unfoldable pub has_operands : ℕ → Option Group → Bool
 has_operands count (Some group) = (group.least == count) && (group.most == count) && group.is_last
 has_operands count None = false
 
--- from a place on, each command has its row in the tables
+-- the rows are those of the commands in the tables, from index `place` up to the last command
 unfoldable pub are_commands : ℕ → List (List ℕ × ℕ × ℕ) → Bool
 are_commands place [] = place == 23
 are_commands place (row ∷ rows) =

@@ -8,7 +8,7 @@ use Rattle.rmm_trace.specs.declared.word.TraceWord.{TraceWord}
 
 -- ---- values
 
--- one of so many places from a first one on
+-- the place is one of `count` places from `first` on
 abbrev pub is_name_among : ℕ → ℕ → ℕ → Bool
 is_name_among first count place = nat_le first place && nat_lt (place - first) count
 
@@ -44,7 +44,7 @@ abbrev pub is_dash : Atom → Bool
 is_dash (Name place) = place == DASH
 is_dash _ = false
 
--- `-` is each value
+-- the written value is `-`, or is the same as ours under its mask
 abbrev pub is_same_value : TraceWord → TraceWord → Bool
 is_same_value written ours = is_dash written.value || is_same_atom (mask_of written.mask) written.value ours.value
 
@@ -66,7 +66,7 @@ abbrev pub rest_of : List TraceWord → List TraceWord
 rest_of [] = []
 rest_of (w ∷ ws) = ws
 
--- after the last value there are zeros
+-- the values are the same one by one, with zeros added to the shorter list
 abbrev pub are_values : List TraceWord → List TraceWord → Bool
 are_values [] [] = true
 are_values [] (y ∷ ys) = is_same_value zero_word y && are_values [] ys
@@ -90,7 +90,7 @@ abbrev pub parts : List TraceWord → List (List TraceWord)
 parts [] = []
 parts (w ∷ ws) = if ends_part w ws then (w ∷ []) ∷ parts ws else onto_first w (parts ws)
 
--- a status with its index, and gprs go on with zeros
+-- the name is an RMI status or `gprs`, whose missing values are zeros
 abbrev pub missing_values_are_zeros : Atom → Bool
 missing_values_are_zeros (Name place) = place == GPRS || is_name_among RMI_SUCCESS 5 place
 missing_values_are_zeros _ = false
@@ -135,7 +135,7 @@ abbrev pub is_unsure_check : List (ℕ × ℕ) → ℕ → Option ℕ → Bool
 is_unsure_check pairs command None = false
 is_unsure_check pairs command (Some check) = list_any (is_pair command check) pairs
 
--- the name of the answer's check is unsure
+-- the first check of the answer is listed in `pairs` for this command
 abbrev pub is_unsure : List (ℕ × ℕ) → ℕ → List TraceWord → Bool
 is_unsure pairs command words = is_unsure_check pairs command (check_in words)
 
@@ -152,7 +152,7 @@ command_in (w ∷ []) = place_of w.value
 command_in (w ∷ times ∷ []) = place_of w.value
 command_in (w ∷ times ∷ call ∷ ws) = if place_of w.value == REPEAT then place_of call.value else place_of w.value
 
--- calls and fills are compared by their parts, and all others word by word
+-- commands, interrupts and fills are compared by their parts, and all others word by word
 abbrev pub is_same_by : ℕ → Bool → List TraceWord → List TraceWord → Bool
 is_same_by kind are_checks_compared written ours =
     if nat_lt kind PLATFORM || kind == INTERRUPT || kind == FILL then are_parts are_checks_compared written ours

@@ -19,11 +19,11 @@ is_platform_right ws =
     let end = base + 4096 * operand_at ws 1 0 in
     nat_le end (2 ^ 48) && is_secure_right (after_name SECURE ws) base end
 
--- the number above the values of so many bytes
+-- the exclusive bound on values of `width` bytes, taken as 1 unless it is 2, 4 or 8
 abbrev pub limit_of : ℕ → ℕ
 limit_of width = if width == 2 then 2 ^ 16 else (if width == 4 then 2 ^ 32 else (if width == 8 then 2 ^ 64 else 2 ^ 8))
 
--- a guest accesses one byte, where it names no width
+-- the IPA is aligned to the width, and the value fits in it; width 0 is one byte
 abbrev pub is_access : ℕ → ℕ → ℕ → Bool
 is_access ipa width value = (ipa % max width 1 == 0) && nat_lt value (limit_of width)
 
@@ -44,7 +44,7 @@ abbrev pub is_guest_right : List TraceWord → Bool
 is_guest_right [] = true
 is_guest_right (rec ∷ step) = is_step_right step
 
--- a byte in each of the rounds
+-- the word's number is at most 255 in each of the rounds
 abbrev pub are_bytes : ℕ → TraceWord → Bool
 are_bytes zero w = true
 are_bytes (suc rounds) w = nat_le (number_at w rounds) 255 && are_bytes rounds w
@@ -68,7 +68,7 @@ is_consistent_by (Name place) ws =
     else (if place == REPEAT then is_repeat_right ws else true))
 is_consistent_by _ ws = false
 
--- the machine of a platform, the access of a guest, and the rounds of a fill
+-- the question's numbers fit each other: those of a platform, of a guest's access, or of repeated fills
 abbrev pub is_consistent : List TraceWord → Bool
 is_consistent [] = false
 is_consistent (w ∷ ws) = is_consistent_by w.value ws

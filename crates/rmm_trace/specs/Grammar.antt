@@ -21,7 +21,7 @@ is_of_kind kind (Hexadecimal n) = is_number_of kind n
 abbrev pub kind_at : Group → ℕ → ValueKind
 kind_at group count = if count == 0 then group.first else (if count == 1 then group.second else (if count == 2 then group.third else group.others))
 
--- the first group of a name in a context
+-- the group has this name, and may come in this context; `row_of` is the first such group
 abbrev pub is_row : ℕ → ℕ → Group → Bool
 is_row context name group = group.name == name && not (bit_and group.contexts context == 0)
 
@@ -29,12 +29,12 @@ abbrev pub row_of : ℕ → ℕ → List Group → Option Group
 row_of context name [] = None
 row_of context name (group ∷ groups) = if is_row context name group then Some group else row_of context name groups
 
--- the place that was gone on to, if one could
+-- the new place, if the move to it succeeded
 abbrev pub if_place : Bool → Place → Option Place
 if_place true it = Some it
 if_place false it = None
 
--- the place at the begin of a group, if no group came that it excludes
+-- the place at the start of a group, unless a group that it excludes has come before
 abbrev pub enter : Place → Group → Option Place
 enter it group =
     if not (bit_and it.seen group.excludes == 0) then None

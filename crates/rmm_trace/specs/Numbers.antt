@@ -7,13 +7,13 @@ digit_of b =
     if nat_le 48 b && nat_le b 57 then b - 48
     else (if nat_le 97 b && nat_le b 102 then b - 97 + 10 else 16)
 
--- the number that the digits write when they follow those of `n`
+-- the number whose digits are those of `n` and then these, if it fits in 64 bits
 abbrev pub value_after : ℕ → ℕ → List ℕ → Option ℕ
 value_after base n [] = Some n
 value_after base n (b ∷ bs) =
     if nat_lt (digit_of b) base && nat_lt (n * base + digit_of b) (2 ^ 64) then value_after base (n * base + digit_of b) bs else None
 
--- there is a digit, and a zero only alone begins them
+-- there is at least one digit, and no leading zero but in the number 0 itself
 abbrev pub is_plain : List ℕ → Bool
 is_plain [] = false
 is_plain (b ∷ []) = true

@@ -12,7 +12,7 @@ abbrev pub sentence_text : List TraceWord → List ℕ
 sentence_text [] = []
 sentence_text (w ∷ ws) = word_text w ++ spaced ws
 
--- the words that texts are, of which there are at most so many
+-- the words that the texts spell, if each spells one and there are at most `most`
 abbrev pub words_in : ℕ → List (List ℕ) → Option (List TraceWord)
 words_in most [] = Some []
 words_in zero (text ∷ texts) = None

@@ -1,4 +1,4 @@
-//! Reads the registers of calls and other values from the questions of a trace.
+//! Reads the registers of calls, and other values, from the lines of a trace.
 ghost use Rattle.std.specs.Prelude.{◌≡◌};
 ghost use Rattle.rmm_trace.specs.Access.{number_or_zero, number_at, operand_at, after_name, call_registers};
 
@@ -54,8 +54,8 @@ pub(crate) fn number_at(word: TraceWord, round: u64) -> u64
     number_or_zero(Some(word.value)).wrapping_add(number_or_zero(word.step).wrapping_mul(round))
 }
 
-/// Returns the value of an operand in a round of a `repeat`. The operand is the word at the index `place`. The value is
-/// 0 if there is no such word.
+/// Returns an operand's value in one round of a `repeat` line, or in any other line at round 0. The operand is the word
+/// at the index `place`. The value is 0 if there is no such word, or if the word is a name without a number.
 pub fn operand(words: &[TraceWord], place: usize, round: u64) -> u64
     ensures { result ≡ operand_at words.now place round }
 {

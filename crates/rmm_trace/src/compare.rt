@@ -413,7 +413,7 @@ fn is_same_with(
     is_same_by(command, !has_unsure, written, ours)
 }
 
-/// Returns whether a trace's answer to a question agrees with the model's answer. A raw call is no question here.
+/// Returns whether an answer in a trace agrees with the model's answer. A raw call is no question here.
 ///
 /// Calls, interrupts and fills are compared by their parts, and others word by word. A name of a check that is unsure
 /// is not compared.

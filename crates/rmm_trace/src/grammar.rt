@@ -1,5 +1,5 @@
-//! The grammar of the questions in a trace. This file has the types for the table of word groups, and the check that
-//! words form a question.
+//! The grammar of a trace line's question, which is its part before ` = `. This file has the types for the table of
+//! word groups, and the check that words form a question.
 ghost use Rattle.std.specs.Prelude.{◌≡◌, Some};
 ghost use Rattle.std.specs.Option.{option_copied};
 ghost use Rattle.rmm_trace.specs.Grammar.{is_number_of, is_of_kind, kind_at, row_of};
@@ -7,7 +7,7 @@ ghost use Rattle.rmm_trace.specs.Grammar.{if_place, enter, opened, next, is_comp
 
 use crate::word::{Atom, TraceWord};
 
-/// The values allowed at one position in a group of words.
+/// A kind of value in a trace line: the numbers and the names that it allows.
 ///
 /// A number is in the range, a multiple of the unit, and a divisor of the multiple if that is not 0. A name is one of
 /// so many, from the first on.
@@ -21,8 +21,8 @@ pub struct ValueKind {
     pub name_count: usize,
 }
 
-/// A group of words in the grammar of a trace's questions. It has a name, the number and the kinds of its values, and
-/// the groups that may follow.
+/// A grammar rule for one name and its values in a trace line. It has a name, the number and the kinds of its values,
+/// and the groups that may follow.
 #[derive(Clone, Copy)]
 pub struct Group {
     /// The contexts of the grammar in which the group may occur. Each context has one bit.
@@ -36,26 +36,27 @@ pub struct Group {
     pub others: ValueKind,
     /// The context of the group that follows, or 0 if none may follow.
     pub opens: u64,
-    /// Whether a question of a trace may end with the group.
+    /// Whether a trace line's question, its part before ` = `, may end with this group.
     pub is_last: bool,
-    /// The bit of this group in `excludes` and in `Place::seen`.
+    /// The bit of this group in `excludes` and in `Place::seen`, or 0 if the group has none.
     pub bit: u64,
     /// The bits of the groups that may not precede this group.
     pub excludes: u64,
 }
 
-/// The state of the grammar check after some words of a trace's question. It has the group that is being read, and the
+/// The current position in the grammar while a trace line is checked. It has the group that is being read, and the
 /// number of the group's values so far.
 #[derive(Clone, Copy)]
 pub struct Place {
     pub group: Group,
     pub context: u64,
     pub count: usize,
-    /// The bits of all groups in the question so far.
+    /// The bits of all groups of words found so far in the line.
     pub seen: u64,
 }
 
-/// The grammar context of the groups inside a `repeat` of a trace. Operands may have a step there.
+/// The grammar context of the call or the `fill` that a `repeat` line of a trace repeats. Operands may have a step
+/// there.
 pub const REPEATED: u64 = 2;
 
 fn is_number_of(kind: &ValueKind, number: u64) -> bool
@@ -163,7 +164,7 @@ impl Place {
     }
 }
 
-/// Returns whether words complete a question, starting from a place in the grammar. One place is kept, and changed by
+/// Returns whether the grammar accepts a list of words, from a given position on. One place is kept, and changed by
 /// each word.
 pub fn accepts(groups: &[Group], start: Place, words: &[TraceWord]) -> bool
     ensures { result ≡ accepts groups.now (Some start) words.now }

@@ -10,18 +10,18 @@ ghost use Rattle.rmm_trace.specs.Lines.{bare_text, answer_in, is_question, quest
 ghost use Rattle.rmm_trace.specs.Places.{are_places_named};
 ghost use Rattle.rmm_trace.specs.Sentences.{sentence_text, words_in, IsSentence};
 
-/// Proves that the printed text of a sentence is read back as its words.
+/// Proves that a valid list of trace words, printed as text, is read back unchanged.
 pub fn printed_words_are_read_back()
     ensures { (ws : List TraceWord) → IsSentence ws
         → words_in 64 (slice_split (λ b. b == 32) (sentence_text ws)) ≡ Some ws }
 {}
 
-/// Proves that different sentences have different texts.
+/// Proves that different valid lists of trace words have different texts.
 pub fn sentences_are_injective()
     ensures { (vs ws : List TraceWord) → IsSentence vs → IsSentence ws → sentence_text vs ≡ sentence_text ws → vs ≡ ws }
 {}
 
-/// Proves that the printed text of a trace's question is read as that question.
+/// Proves that a valid trace line without an answer, once printed, is read back unchanged.
 pub fn printed_questions_are_read_back()
     ensures { (groups : List Group) (start : Place) (ws : List TraceWord)
         → IsSentence ws → is_question groups start ws ≡ true
@@ -29,8 +29,8 @@ pub fn printed_questions_are_read_back()
         → line_in groups start (sentence_text ws) ≡ question_of (record { items = ws }) }
 {}
 
-/// Proves that a line with a question and an answer is read as that question. The line consists of the question's text,
-/// ` = ` and the answer's text.
+/// Proves that the part of a printed trace line before ` = ` is read back unchanged. The line consists of the
+/// question's text, ` = ` and the answer's text.
 pub fn answered_questions_are_read_back()
     ensures { (groups : List Group) (start : Place) (ws vs : List TraceWord)
         → IsSentence ws → IsSentence vs → is_question groups start ws ≡ true

@@ -13,20 +13,20 @@ use crate::sentence::{Sentence, read_into};
 use crate::table::{GROUPS, START};
 use crate::word::TraceWord;
 
-/// The maximum length of a trace line with a question, in bytes.
+/// The maximum length, in bytes, of a trace line that has a question.
 pub const MOST_LINE: usize = 65_536;
 
-/// The kind of a trace line: remark, question or neither.
+/// The kind of a trace line: without content, with valid content, or invalid.
 #[derive(Clone, Copy)]
 pub enum LineKind {
-    /// A line that is empty or a comment.
+    /// A line that is blank or a comment, or has only ` = ` and an answer.
     Remark,
     Question,
-    /// A line that is neither a remark nor a question.
+    /// An invalid line: one that is malformed or too long.
     Neither,
 }
 
-/// A line of a trace: its kind, and the words of its question.
+/// A parsed line of a trace: its kind, and the words of its question. A line that is no question has no words here.
 ///
 /// It is kept from line to line, and filled where it stays.
 #[derive(Drop)]
@@ -88,7 +88,8 @@ fn cut_sign(text: &[u8]) -> (&[u8], Option<&[u8]>)
     (text, None)
 }
 
-/// Splits a line of a trace into its question and its answer. The answer is the text after ` = `, if the line has one.
+/// Splits a line of a trace at ` = ` into its question and its answer. The answer is the text after ` = `, if the line
+/// has one.
 pub fn cut_line(line: &[u8]) -> (&[u8], Option<&[u8]>)
     ensures question { result.0.now ≡ before_answer (bare_text line.now) }
     ensures answer { option_copied result.1 ≡ answer_in (bare_text line.now) }

@@ -8,14 +8,14 @@ use crate::word::{TraceWord, read_word};
 use arrayvec::ArrayVec;
 use std::fmt;
 
-/// The largest number of words in a sentence.
+/// The maximum number of words in the question or the answer of a trace line.
 pub const MOST_WORDS: usize = 64;
 
 /// A sentence of a trace: a list of at most `MOST_WORDS` words.
 pub type Sentence = ArrayVec<TraceWord, MOST_WORDS>;
 
-/// Reads the words of a text into an empty sentence. Returns whether the text is a sentence. The function takes no
-/// memory.
+/// Parses the words of a text into an empty list of trace words. Returns whether the text is a sentence. The function
+/// takes no memory.
 ///
 /// A sentence has 64 places. It is filled where it stays, since a move costs more than the reading.
 pub fn read_into(text: &[u8], words: &mut Sentence) -> bool
@@ -37,7 +37,8 @@ pub fn read_into(text: &[u8], words: &mut Sentence) -> bool
     true
 }
 
-/// Returns the words of a text, if the text is a sentence. The function takes no memory.
+/// Returns the trace words of a text, or `None` if the text is malformed or has more than `MOST_WORDS` words. The
+/// function takes no memory.
 pub fn read_words(text: &[u8]) -> Option<Sentence>
     ensures { option_map (λ v. v.items) result ≡ words_in 64 (slice_split (λ b. b == 32) text.now) }
 {

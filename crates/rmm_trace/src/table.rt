@@ -1,4 +1,4 @@
-//! The table of word groups for the questions of a trace. The table has a row for each group.
+//! The grammar of the questions in trace lines, as a table of word groups. The table has a row for each group.
 use crate::grammar::{Group, Place, REPEATED, ValueKind};
 use crate::place::*;
 
@@ -191,7 +191,7 @@ macro_rules! field {
     };
 }
 
-/// The state of the grammar check before the first word of a question. A question may not end there.
+/// The position in the grammar before the first word of a trace line. A question may not end there.
 pub const START: Place = Place {
     group: group!(0, 0, 0, 0, [ANY, ANY, ANY, ANY], LINE, false),
     context: 0,
@@ -199,7 +199,7 @@ pub const START: Place = Place {
     seen: 0,
 };
 
-/// All groups of words that a trace's question can have.
+/// The grammar rules for all groups of words that the question of a trace line can have.
 pub const GROUPS: [Group; 95] = [
     // calls, which can be repeated
     plain!(CALLS, RMI_VERSION, 1, 1),

@@ -5,8 +5,8 @@ use Rattle.realm_model.specs.Update.{Outcome}
 use Rattle.realm_model.specs.Command.Check.{error_rtt}
 use Rattle.rtt.specs.declared.refusal.Rtt.{Rtt}
 
--- A call answers by the row that a command requires in the tables. If the call is not refused, the command goes on with
--- such a row. If the call is refused, the command is refused with the same level.
+-- A call's result agrees with a command's requirement of a row in the tables. If the call is not refused, the
+-- command goes on with such a row. If the call is refused, the command is refused with the same level.
 abbrev pub Answers : {A : Type 0} → Result A Rtt → ((Row → Outcome) → Outcome) → Type 0
 Answers (Ok value) found = (row : Row) × ((f : Row → Outcome) → found f ≡ f row)
 Answers (Err refusal) found = (f : Row → Outcome) → found f ≡ Err (error_rtt refusal.level)

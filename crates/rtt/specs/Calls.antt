@@ -9,22 +9,22 @@ use Rattle.realm_model.specs.Rows.{Row, Rows, row_at, unassigned, assigned, unma
 use Rattle.realm_model.specs.StepLaw.{set_each}
 use Rattle.rtt.specs.Realm.{IsBacked, HasTables, IsTableOf, LeavesOthers}
 
--- the granules with one in another state, and of that realm or of none
+-- the granules with one set to the given state, and to the given realm or to none
 abbrev pub with_state : List Granule → ℕ → GranuleState → Option ℕ → List Granule
 with_state granules granule state realm = slice_set granules granule (record { state = state; realm = realm })
 
--- the granules with each of some in another state, and of that realm or of none
+-- the granules with several set to the given state, and to the given realm or to none
 abbrev pub with_states : List Granule → List ℕ → GranuleState → Option ℕ → List Granule
 with_states granules these state realm = set_each (record { state = state; realm = realm }) these granules
 
--- the row of a level that covers an IPA granule leads to a granule
+-- at this level, the row that covers the IPA granule leads to this granule
 abbrev pub LeadsTo : Rows → ℕ → ℕ → ℕ → Type 0
 LeadsTo rows level ipa granule = (row : Row) × (row_at rows level ipa ≡ Some row) × (row.granule ≡ Some granule)
 
 -- ---- the invariants of a call
 
--- The invariants of each call outside the tables of its realm. There is a granule for each page, and those that are not
--- UNDELEGATED have taken pages. The same pages are free, and all other realms are left alone.
+-- The invariants that each call keeps outside its realm's tables. There is a granule for each page, and those that
+-- are not UNDELEGATED have taken pages. The same pages are free, and all other realms are left alone.
 pub record KeepsRest (rd : ℕ) (pages : List (List ℕ)) (free : List Bool) (granules : List Granule)
     (new_pages : List (List ℕ)) (new_free : List Bool) (new_granules : List Granule) : Type 0 where
   pub backed : IsBacked new_pages new_free new_granules
@@ -41,14 +41,14 @@ pub record Keeps (rd : ℕ) (root : Root) (pages : List (List ℕ)) (free : List
 abbrev pub ChangesTablesOnly : Root → List (List ℕ) → List (List ℕ) → Type 0
 ChangesTablesOnly root pages new_pages = (granule : ℕ) → ¬ (IsTableOf pages root granule) → page_at new_pages granule ≡ page_at pages granule
 
--- A page that is not one of the realm's tables is as it was, but for one more page.
+-- Each page is unchanged, except the realm's tables and those of which `IsOneMore` holds.
 abbrev pub ChangesTablesAnd : (ℕ → Type 0) → Root → List (List ℕ) → List (List ℕ) → Type 0
 ChangesTablesAnd IsOneMore root pages new_pages =
     (granule : ℕ) → ¬ (IsOneMore granule) → ¬ (IsTableOf pages root granule) → page_at new_pages granule ≡ page_at pages granule
 
 -- ---- rows after a call that was not refused
 
--- The rows have a table of a level: its rows have the RIPAS of the row above. RMM 1.0, RMI_RTT_CREATE.
+-- The rows gain a table at a level, with rows that have the RIPAS of the row above. RMM 1.0, RMI_RTT_CREATE.
 abbrev pub GainsTable : Rows → ℕ → ℕ → ℕ → Rows → Type 0
 GainsTable old level ipa granule new =
     (above : Row) → row_at old (level - 1) ipa ≡ Some above → new ≡ with_table old level ipa granule above.ripas
@@ -58,6 +58,7 @@ GainsTable old level ipa granule new =
 abbrev pub GainsPage : Rows → ℕ → ℕ → Option Ripas → Rows → Type 0
 GainsPage old ipa page ripas new = (row : Row) → row_at old 3 ipa ≡ Some row → new ≡ put_row old 3 ipa (assigned (unwrap_or ripas row.ripas) page)
 
--- The row at an IPA granule is UNASSIGNED, and RAM has become DESTROYED. RMM 1.0, RMI_DATA_DESTROY.
+-- The row at an IPA granule becomes UNASSIGNED, and its RIPAS, if RAM, becomes DESTROYED. RMM 1.0,
+-- RMI_DATA_DESTROY.
 abbrev pub LosesPage : Rows → ℕ → Rows → Type 0
 LosesPage old ipa new = (row : Row) → row_at old 3 ipa ≡ Some row → new ≡ put_row old 3 ipa (unassigned (unmapped_ripas row.ripas))

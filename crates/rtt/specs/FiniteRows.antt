@@ -1,4 +1,4 @@
--- The rows of a function of levels and of IPA granules, as a finite map.
+-- A finite map of the rows that a function gives, by level and IPA granule.
 use Rattle.std.specs.Prelude.{ℕ, zero, suc, List, [], ◌∷◌, ◌++◌, Option, Some, None}
 use Rattle.std.specs.FinMap.{from_entries}
 use Rattle.realm_model.specs.Rows.{Row, Rows}

@@ -17,13 +17,13 @@ pub record IsBacked (pages : List (List ℕ)) (flags : List Bool) (granules : Li
   pub as_many : length granules ≡ length pages
   pub taken : (granule : ℕ) → granule < length granules → (granule_at granules granule).state ≢ Undelegated → is_free flags granule ≡ false
 
--- the level of a table, and an IPA granule of an address space of that width
+-- the level is 1 to 3, and the IPA granule is within an address space of this width
 pub record IsInside (width level ipa : ℕ) : Type 0 where
   pub least : 1 ≤ level
   pub most : level ≤ 3
   pub below : ipa < served_space width
 
--- Tables are granules in RTT of the realm, pages of data are in DATA of the realm, and no granule is there twice.
+-- Each table is an RTT granule of the realm, each data page a DATA granule, and none occurs twice.
 pub record HasGranules (entries : Entries) (granules : List Granule) (rd : ℕ) (root : Root) : Type 0 where
   pub tables : (level ipa table : ℕ) → IsInside root.width level ipa → table_at entries root level ipa ≡ Some table → IsIn granules table Rtt (Some rd)
   pub tables_once : (level ipa other_level other table : ℕ) → IsInside root.width level ipa → IsInside root.width other_level other
@@ -39,8 +39,8 @@ abbrev pub AreWords : List (List ℕ) → Root → Type 0
 AreWords pages root = (level ipa table index : ℕ) → IsInside root.width level ipa → table_at (entries_of pages) root level ipa ≡ Some table → index < 512
     → word_at pages table index ≡ entry_word (entries_of pages table index)
 
--- A realm's tables, in the pages of granules of its own. Rows have their shape and a TABLE row above
--- them; each word is that of its entry.
+-- A realm's tables are in granules of its own. Rows have their shape and a TABLE row above them; each word is that
+-- of its entry.
 pub record HasTables (pages : List (List ℕ)) (granules : List Granule) (rd : ℕ) (root : Root) : Type 0 where
   pub own : HasGranules (entries_of pages) granules rd root
   pub words : AreWords pages root
@@ -53,7 +53,7 @@ pub record IsTableOf (pages : List (List ℕ)) (root : Root) (granule : ℕ) : T
   pub inside : IsInside root.width level ipa
   pub at : table_at (entries_of pages) root level ipa ≡ Some granule
 
--- A realm's granules in RTT are left alone, pages and all, and those in DATA stay so.
+-- A realm's RTT granules keep their state and their pages, and its DATA granules keep their state.
 pub record LeavesAlone (rd : ℕ) (pages : List (List ℕ)) (granules : List Granule) (new_pages : List (List ℕ)) (new_granules : List Granule) : Type 0 where
   pub page : (granule : ℕ) → IsIn granules granule Rtt (Some rd) → page_at new_pages granule ≡ page_at pages granule
   pub table : (granule : ℕ) → IsIn granules granule Rtt (Some rd) → IsIn new_granules granule Rtt (Some rd)

@@ -12,7 +12,7 @@ use Rattle.rtt.specs.FiniteRows.{rows_by}
 abbrev pub Entries : Type 0
 Entries = ℕ → ℕ → Row
 
--- the entries that the words of pages are
+-- the entries decoded from the words of pages
 unfoldable pub entries_of : List (List ℕ) → Entries
 entries_of pages granule index = entry_of (word_at pages granule index)
 
@@ -24,11 +24,11 @@ table_at entries root (suc zero) ipa = Some (start_table root ipa)
 table_at entries root (suc (suc level)) ipa =
     option_and_then (λ table. table_of (entries table (entry_index (suc level) ipa))) (table_at entries root (suc level) ipa)
 
--- the entry of that table for the IPA granule
+-- the entry for an IPA granule in the table of a level that serves it
 abbrev pub entry_at : Entries → Root → ℕ → ℕ → Option Row
 entry_at entries root level ipa = option_and_then (λ table. Some (entries table (entry_index level ipa))) (table_at entries root level ipa)
 
--- the page of data that this entry leads to
+-- the data page to which the entry of a level for an IPA granule leads, if any
 abbrev pub data_at : Entries → Root → ℕ → ℕ → Option ℕ
 data_at entries root level ipa = option_and_then (λ table. data_of (entries table (entry_index level ipa))) (table_at entries root level ipa)
 

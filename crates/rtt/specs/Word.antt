@@ -26,7 +26,8 @@ address_bits (Some granule) = granule * 4096
 abbrev pub entry_word : Row → ℕ
 entry_word row = kind_bits row.state + ripas_bits row.ripas * 4 + address_bits row.granule
 
--- The values of an entry: one that is not UNASSIGNED leads to a granule of the machine, and a TABLE entry has no RIPAS.
+-- The values can be encoded: there is a granule, below 4,096, exactly if the entry is not UNASSIGNED. A TABLE entry
+-- has no RIPAS.
 abbrev pub IsEncodable : EntryState → Ripas → Option ℕ → Type 0
 IsEncodable Unassigned ripas granule = granule ≡ None
 IsEncodable Assigned ripas None = ⊥
@@ -51,6 +52,6 @@ decoded Unassigned ripas granule = unassigned ripas
 decoded Assigned ripas granule = assigned ripas granule
 decoded Table ripas granule = table granule
 
--- The entry that a word is read as, whatever the word.
+-- The entry decoded from a word; each word decodes to one.
 abbrev pub entry_of : ℕ → Row
 entry_of word = decoded (kind_of (word % 4)) (ripas_of (word / 4 % 4)) (word / 4096 % 4096)

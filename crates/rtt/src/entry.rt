@@ -34,7 +34,7 @@ impl Model for Entry {
 }
 
 impl Entry {
-    /// Creates an UNASSIGNED entry, which leads to nothing, with the given RIPAS.
+    /// Creates an UNASSIGNED entry with the given RIPAS. The entry leads to nothing.
     pub fn unassigned(ripas: Ripas) -> Entry
         ensures { result ≡ rows.unassigned ripas }
     {
@@ -127,7 +127,7 @@ impl Entry {
         kind + ripas * 4 + address
     }
 
-    /// Decodes a translation table entry from a 64-bit word. Each word encodes an entry.
+    /// Decodes a translation table entry from a 64-bit word. Each word is decoded to an entry.
     pub fn from_word(word: u64) -> Entry
         ensures { result ≡ entry_of word }
     {

@@ -13,8 +13,8 @@ pub fn tables_are_words()
     ensures { (pages : List (List ℕ)) (granules : List Granule) (rd : ℕ) (root : Root) → HasTables pages granules rd root → AreRowWords pages root }
 {}
 
-/// Each row of a realm's translation tables is a valid combination of state, RIPAS and granule. An UNASSIGNED row leads
-/// to nothing, any other row leads to a granule, and a TABLE row has no RIPAS.
+/// Proves that each translation table entry (row) is a valid combination of state, RIPAS and granule. An UNASSIGNED row
+/// leads to nothing, any other row leads to a granule, and a TABLE row has no RIPAS.
 pub fn rows_are_entries()
     ensures { (pages : List (List ℕ)) (root : Root) (level ipa : ℕ) (row : Row) → row_at (rows pages root) level ipa ≡ Some row → IsEntry row }
 {}

@@ -1,4 +1,4 @@
-//! The mapping and unmapping of data pages in a realm, and the setting of RIPAS.
+//! Functions that map and unmap a realm's data pages, and set RIPAS values.
 ghost use Rattle.std.specs.Prelude.{◌≡◌, ℕ, ◌<◌, true, Some, None, OnOk, OnErr};
 ghost use Rattle.rtt.specs.Granules.{IsIn};
 ghost use Rattle.granule_addr.specs.Page.{zero_page};

@@ -1,4 +1,4 @@
-//! The creation and clearing of a realm's starting tables.
+//! Functions that create and clear the starting tables of a realm.
 ghost use Rattle.std.specs.Prelude.{◌≡◌, ◌≢◌, ◌↔◌, ℕ, ◌+◌, ◌<◌, ◌≤◌, not, false, length, IsTrue, Some, None};
 ghost use Rattle.std.specs.Bool.{OnTrue, OnFalse};
 ghost use Rattle.std.specs.List.{All};
@@ -18,7 +18,7 @@ use page_arena::PageStore;
 use realm_model::GranuleState;
 
 impl Tables {
-    /// Creates the starting tables of a new realm in DELEGATED granules. All entries are UNASSIGNED and EMPTY.
+    /// Turns DELEGATED granules into the starting tables of a new realm. All entries are UNASSIGNED and EMPTY.
     ///
     /// RMM 1.0, RMI_REALM_CREATE.
     pub fn open_root<S: PageStore>(&self, store: &mut S, granules: &mut GranuleTable)
@@ -40,7 +40,7 @@ impl Tables {
         self.clear_starting_tables(store, granules, GranuleState::Delegated, &table);
     }
 
-    /// Clears the starting tables of a realm that is destroyed. Makes them DELEGATED, and returns `true`. Returns
+    /// Clears the starting tables of a realm that is being destroyed. Makes them DELEGATED, and returns `true`. Returns
     /// `false`, and changes nothing, if and only if an entry of a starting table is TABLE.
     ///
     /// RMM 1.0, RMI_REALM_DESTROY, which answers RMI_ERROR_REALM where this returns `false`.

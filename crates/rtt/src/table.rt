@@ -1,4 +1,4 @@
-//! The creation and destruction of a realm's tables below the starting tables.
+//! Functions that create and destroy a realm's translation tables below the starting tables.
 ghost use Rattle.std.specs.Prelude.{◌≡◌, ℕ, ◌-◌, ◌<◌, true, Some, None, OnOk, OnErr};
 ghost use Rattle.rtt.specs.Granules.{IsIn};
 ghost use Rattle.granule_addr.specs.Page.{zero_page};

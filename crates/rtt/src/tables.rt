@@ -34,8 +34,8 @@ pub struct EntryAddress {
 }
 
 impl Tables {
-    /// Walks a realm's translation tables for an IPA granule, down to a level at most. Returns the first entry on the
-    /// way that is not TABLE, or the one at that level.
+    /// Performs an RTT walk for an IPA granule, at most down to level `to`. Returns the first entry on the way that is
+    /// not TABLE, or the one at that level.
     pub fn walk<S: PageStore>(
         &self,
         store: &S,

@@ -34,7 +34,7 @@ AreTurnItems plan [] from to [] = to ≡ from
 AreTurnItems plan (build ∷ order) from to (item ∷ items) = (between : Position) × IsTurnItem plan from build between item × AreTurnItems plan order between to items
 AreTurnItems plan _ from to _ = ⊥
 
--- the turns of the plan lead here
+-- the items are those of the plan's turns, which lead from the first host to the second
 pub record HasTurnItems (plan : Plan) (from to : HostView) (items : List TurnItem) : Type 0 where
   pub end : Position
   pub host : end.host ≡ to

@@ -47,7 +47,7 @@ abbrev pub page_item : HostView → ℕ → ℕ → Option PageItem
 page_item host build page =
     page_with (granule_of_page host build page) (option_map (λ g. sum (cell_at (world_of host).machine g).bytes) (granule_of_page host build page))
 
--- a realm with that RD, if there are both. RMM 1.0, Realm attributes
+-- a realm's item, made of its RD and attributes, if both are given. RMM 1.0, Realm attributes
 abbrev pub realm_with : Option ℕ → Option RealmAttributes → Option RealmItem
 realm_with (Some rd) (Some realm) =
     Some (record { rd = rd; state = realm.state; vmid = realm.vmid; root = realm.root; next_rec = realm.next; measurement = realm.measurement })

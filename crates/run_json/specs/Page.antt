@@ -3,7 +3,7 @@ use Rattle.std.specs.Prelude.{ℕ, List, [], ◌∷◌, ◌++◌, codes, ◌==�
 use Rattle.std.specs.List.{flat_map}
 use Rattle.run_json.specs.declared.template.TheConstants.{HEAD, TAIL}
 
--- a byte of JSON: `<`, which can be in a string alone, as its escape
+-- a byte of JSON as the page has it: `<`, which occurs only in strings, is escaped
 abbrev pub escaped_byte : ℕ → List ℕ
 escaped_byte byte = if byte == 60 then codes "\\u003c" else byte ∷ []
 

@@ -11,17 +11,16 @@ use Rattle.run_json.specs.declared.items.RowItem.{RowItem}
 
 -- ---- runs: rows of one table that say the same, one after another
 
--- the first IPA granule after so many rows, from this one on
+-- the first IPA granule after `count` rows, the first of which is this one
 abbrev pub first_after : RowView → ℕ → ℕ
 first_after row count = row.first + count * covered_count row.level
 
--- The run of a row goes on at an IPA granule: a row of its level begins there and says what it says, and no table
--- begins there. The starting tables count as one.
+-- The run goes on at an IPA granule: an equal row begins there, and no table does. The starting tables count as one.
 pub record RunGoesOn (world : World) (build : ℕ) (row : RowView) (ipa : ℕ) : Type 0 where
   pub same : row_at world build ipa 3 ≡ Some (record row { first = ipa })
   pub inside : is_table_place ipa row.level ≡ false
 
--- so many rows, from this one on: no fewer, and no more
+-- the run that begins with this row has exactly `count` rows
 pub record IsRowRun (world : World) (build : ℕ) (row : RowView) (count : ℕ) : Type 0 where
   pub some : 0 < count
   pub same : (k : ℕ) → 0 < k → k < count → RunGoesOn world build row (first_after row k)
@@ -35,7 +34,7 @@ AreRowRuns world build ipa (run ∷ runs) =
 
 -- ---- items
 
--- a row alone, where it begins at that IPA granule
+-- the item of this row alone, if the row begins at that IPA granule
 abbrev pub beginning_at : ℕ → Option RowView → List RowItem
 beginning_at ipa None = []
 beginning_at ipa (Some row) = if row.first == ipa then record { row = row; count = 1 } ∷ [] else []

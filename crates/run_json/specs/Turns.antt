@@ -31,7 +31,7 @@ placed place told = (place, spelling told.0, told.1)
 
 -- ---- granules
 
--- the granule of that number, where there can be such a granule
+-- the item of the granule with that number, if the number is below 4096
 abbrev pub numbered_granule : HostView → ℕ → List (Option GranuleItem)
 numbered_granule host number = if nat_lt number 4096 then granule_item host number ∷ [] else []
 
@@ -71,7 +71,7 @@ rows_after host build _ = []
 
 -- ---- RECs and realms
 
--- the REC of that number, if there is a number
+-- the item is of the REC with that number, or None if no number is given
 abbrev pub IsRecNamed : HostView → ℕ → Option ℕ → Option RecItem → Type 0
 IsRecNamed host build None item = item ≡ None
 IsRecNamed host build (Some number) (Some item) = IsRecItem host build number item
@@ -93,7 +93,7 @@ pub record IsEventItem (host : HostView) (build : ℕ) (event : Event) (item : E
   pub rec_is : IsRecAfter host build event.act item.rec
   pub realm_is : item.realm ≡ realm_after host build event.act
 
--- the event, if there is one
+-- the item is of the event, or None if there is no event
 abbrev pub IsEventAt : HostView → ℕ → Option Event → Option EventItem → Type 0
 IsEventAt host build None item = item ≡ None
 IsEventAt host build (Some event) (Some item) = IsEventItem host build event item

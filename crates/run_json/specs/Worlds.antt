@@ -28,7 +28,7 @@ page_items host build count = flat_map (λ page. page_item host build page ∷ [
 abbrev pub open_lines : ℕ → List Act → List EventLine
 open_lines build acts = flat_map (λ act. record { 0 = record { build = build; act = act } } ∷ []) acts
 
--- the RECs whose numbers are below that of the next
+-- the items of the RECs with numbers below `next`, in rising number
 abbrev pub AreRecItems : HostView → ℕ → ℕ → List RecItem → Type 0
 AreRecItems host build next items = AllZip (IsRecItem host build) (range_with_len 0 next) items
 
@@ -54,7 +54,7 @@ pub record IsBuildItem (host : HostView) (build : ℕ) (item : BuildItem) : Type
 abbrev pub AreBuildItems : HostView → ℕ → List BuildItem → Type 0
 AreBuildItems host count items = AllZip (IsBuildItem host) (range_with_len 0 count) items
 
--- a world
+-- the item of a world: the number of free granules, all granules, and all builds
 pub record IsWorldItem (host : HostView) (item : WorldItem) : Type 0 where
   pub free_is : item.free ≡ length (free_set (world_of host))
   pub granules_are : item.granules.items ≡ all_granules host

@@ -1,4 +1,4 @@
-//! The conversion of numbers to build IDs.
+//! Converts numbers to build IDs.
 ghost use Rattle.std.specs.Prelude.{◌≡◌, ◌<◌};
 
 use granule_addr::BuildId;

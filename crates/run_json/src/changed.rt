@@ -5,8 +5,8 @@ ghost use Rattle.run_json.specs.Changes.{one_granule, granules_of, changes_realm
 use granule_addr::{Gran, Level, RecNo};
 use realm_model::Act;
 
-/// The granules that an operation changes, as one granule, a range, and a list. They are `granule`, the `count`
-/// granules from number `from` on, and those in `also`.
+/// The granules that an operation changes. They are `granule`, the `count` granules from number `from` on, and those in
+/// `also`.
 #[derive(Drop)]
 pub struct Changed<'a> {
     pub granule: Gran,
@@ -100,7 +100,7 @@ pub fn changes_realm(act: &Act) -> bool
     )
 }
 
-/// Returns the level above a table's level. It is 1 for a table of level 1.
+/// Returns the level of the parent table of a table at `level`. It is 1 for a table of level 1.
 pub fn level_above(level: Level) -> Level
     ensures { result ≡ level_above level }
 {

@@ -81,7 +81,7 @@ pub fn row_item<S: PageStore>(
     Some(RowItem { row, count })
 }
 
-/// The granule, state and auxiliary granules of a REC.
+/// The data of an existing REC in the REC's JSON item. They are its granule, its state and its auxiliary granules.
 #[derive(Drop)]
 pub struct RecView {
     pub granule: Gran,
@@ -89,7 +89,7 @@ pub struct RecView {
     pub auxiliaries: Vec<Gran>,
 }
 
-/// A REC number, with the host's view of the REC if it exists.
+/// The JSON item of a REC. It has the REC's number, and the REC's data if the REC exists.
 #[derive(Drop)]
 pub struct RecItem {
     pub number: RecNo,
@@ -156,7 +156,7 @@ impl Serialize for PageItem {
     }
 }
 
-/// Returns the granule and the byte sum of a build's page. The result is `None` if the build has no such page.
+/// Returns the JSON item of a build's page. The result is `None` if the build has no such page.
 pub fn page_item<S: PageStore>(host: &Host<S>, build: BuildId, page: u16) -> Option<PageItem>
     ensures { result ≡ page_item host.now build page }
 {

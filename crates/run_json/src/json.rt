@@ -1,4 +1,4 @@
-//! The writing of values as JSON text.
+//! Writes values as JSON text.
 use serde::{Described, Serialize, Serializer};
 use std::alloc::{AllocError, Global};
 use std::fmt::Display;

@@ -1,4 +1,4 @@
-//! The HTML page of a run, made from the run's JSON document.
+//! The HTML page of a run, made from data about the run in JSON.
 ghost use Rattle.std.specs.Prelude.{◌≡◌, ◌++◌, OnOk, IfOk};
 ghost use Rattle.run_json.specs.Page.{escaped, page_bytes};
 

@@ -50,8 +50,8 @@ impl Serialize for RealmContents {
     }
 }
 
-/// The JSON item of a build: its marks, open operations, pages and realm. The open operations are events, from the
-/// oldest on.
+/// The JSON item that describes a build's state on the host. It has the mark, the abort flag, the open operations, the
+/// pages and the realm. The open operations are events, from the oldest on.
 #[derive(Drop)]
 pub struct BuildItem {
     pub build: BuildId,

@@ -1,23 +1,23 @@
--- The numbers of paths from each state of each layer, and the first path that shows a label like that, or shows none.
+-- The number of paths from each state of each layer, and the first with or without a label sought.
 use Rattle.std.specs.Prelude.{◌≡◌, ℕ, nat_lt, Bool, true, not, cond, ◌||◌, List, [], map, filter, length, drop, Option, option_map, slice_index_or, Vec, vec_items}
 use Rattle.std.specs.List.{find}
 use Rattle.std.specs.declared.alloc.Global.{Global}
 use Rattle.schedule_graph.specs.Paths.{Layer, Path, paths, shows, count_at}
 use Rattle.schedule_graph.specs.declared.graph.Edge.{Edge}
 
--- the layers of a vector's vectors, and its numbers
+-- the layers, and next the path numbers, that nested vectors hold
 abbrev pub layers_in : {L : Type 0} → List (Vec (Vec (Edge L) Global) Global) → List (Layer L)
 layers_in layers = map (λ layer. map vec_items (vec_items layer)) layers
 
 abbrev pub path_numbers_in : List (Vec ℕ Global) → List (List ℕ)
 path_numbers_in counts = map vec_items counts
 
--- Of each layer, the numbers of the paths like that: one for each of its states. A number that is left out is 0.
+-- For each state of each layer, the number of paths from it that satisfy `like`. A number that is left out is 0.
 abbrev pub ArePathNumbers : {L : Type 0} → (Path L → Bool) → List (Layer L) → List (List ℕ) → Type 0
 ArePathNumbers like layers counts =
     (depth state : ℕ) → count_at (slice_index_or counts depth []) state ≡ length (filter like (paths (drop depth layers) state))
 
--- the labels of the first path like that, if there is one
+-- the labels of the first path that satisfies `like`, if there is one
 abbrev pub first_like : {L : Type 0} → (Path L → Bool) → List (Path L) → Option (List L)
 first_like like ps = option_map (λ path. map (λ edge. edge.label) path) (find like ps)
 
@@ -25,13 +25,13 @@ first_like like ps = option_map (λ path. map (λ edge. edge.label) path) (find 
 abbrev pub any_path : {L : Type 0} → Path L → Bool
 any_path path = true
 
--- no label of the path is like that
+-- no label of the path satisfies `is`
 abbrev pub shows_none : {L : Type 0} → (L → Bool) → Path L → Bool
 shows_none is path = not (shows is path)
 
 -- ---- the next edge of a path
 
--- Paths go on from the edge, by the numbers of the next layer. One list is for paths that have shown a label like that,
--- here or before, and one for the others.
+-- Some path sought continues along the edge, by the path numbers of the next layer. One list is for paths that have
+-- shown a label sought, here or before, and one for the others.
 abbrev pub goes_on : {L : Type 0} → (L → Bool) → Bool → List ℕ → List ℕ → Edge L → Bool
 goes_on is shown with_it without_it edge = nat_lt 0 (count_at (cond (shown || is edge.label) with_it without_it) edge.to)

@@ -15,7 +15,7 @@ pub record IsEdge (plan : Plan) (at : Position) (next : List Position) (edge : E
   pub is_there : slice_get next edge.to ≡ Some state
   pub same : AreOneState to state
 
--- each edge of each state of a layer is such a turn
+-- each edge of each state of a layer is a turn to a state of the next layer
 abbrev pub AreEdges : Plan → List Position → List Position → Layer Turn → Type 0
 AreEdges plan states next layer =
     (number : ℕ) (at : Position) (edges : List (Edge Turn))

@@ -11,7 +11,7 @@ abbrev pub trimmed : List ℕ → List ℕ
 trimmed [] = []
 trimmed (digit ∷ digits) = if number_of (digit ∷ digits) == 0 then [] else digit ∷ trimmed digits
 
--- the digits of a number, the lowest first, at most so many
+-- the digits of a number, the lowest first, at most a given count of them
 abbrev pub digits_of : ℕ → ℕ → List ℕ
 digits_of zero n = []
 digits_of (suc most) n = if n == 0 then [] else n % 10 ∷ digits_of most (n / 10)

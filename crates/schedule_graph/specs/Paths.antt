@@ -11,7 +11,8 @@ Layer L = List (List (Edge L))
 abbrev pub Path : Type 0 → Type 0
 Path L = List (Edge L)
 
--- A path ends at a state that no edge leaves. Else it goes on by one of the edges.
+-- The paths from a state with these edges. A path ends at a state that no edge leaves. Else it goes on by one of
+-- the edges.
 abbrev pub paths_by_edges : {L : Type 0} → (ℕ → List (Path L)) → List (Edge L) → List (Path L)
 paths_by_edges next [] = [] ∷ []
 paths_by_edges next (edge ∷ edges) = flat_map (λ e. map (λ path. e ∷ path) (next e.to)) (edge ∷ edges)
@@ -21,21 +22,21 @@ abbrev pub paths : {L : Type 0} → List (Layer L) → ℕ → List (Path L)
 paths [] state = []
 paths (layer ∷ layers) state = elim (slice_get layer state) [ Some edges ↦ paths_by_edges (paths layers) edges | None ↦ [] ]
 
--- an edge of the path has a label like that
+-- some edge of the path has a label that satisfies `is`
 abbrev pub shows : {L : Type 0} → (L → Bool) → Path L → Bool
 shows is path = list_any (λ edge. is edge.label) path
 
 -- ---- counts, one for each state of a layer
 
--- all paths
+-- for each state, the number of all paths from it
 abbrev pub AreCounts : {L : Type 0} → List (Layer L) → List ℕ → Type 0
 AreCounts layers counts = (state : ℕ) → slice_index_or counts state 0 ≡ length (paths layers state)
 
--- those that show a label like that
+-- for each state, the number of paths from it that show a label satisfying `is`
 abbrev pub AreCountsWith : {L : Type 0} → (L → Bool) → List (Layer L) → List ℕ → Type 0
 AreCountsWith is layers counts = (state : ℕ) → slice_index_or counts state 0 ≡ length (filter (shows is) (paths layers state))
 
--- those that show none
+-- for each state, the number of paths from it that show no label satisfying `is`
 abbrev pub AreCountsWithout : {L : Type 0} → (L → Bool) → List (Layer L) → List ℕ → Type 0
 AreCountsWithout is layers counts =
     (state : ℕ) → slice_index_or counts state 0 ≡ length (filter (λ path. not (shows is path)) (paths layers state))
@@ -49,7 +50,7 @@ abbrev pub path_count : {L : Type 0} → List ℕ → List (Edge L) → ℕ
 path_count next [] = 1
 path_count next (edge ∷ edges) = sum_by (λ e. count_at next e.to) (edge ∷ edges)
 
--- once a path shows the label, it may go on in any way
+-- The number of paths by these edges that show the label. Once a path shows it, it may go on in any way.
 abbrev pub with_count : {L : Type 0} → (L → Bool) → List ℕ → List ℕ → List (Edge L) → ℕ
 with_count is next next_with edges = sum_by (λ e. cond (is e.label) (count_at next e.to) (count_at next_with e.to)) edges
 

@@ -15,7 +15,7 @@ pub record Point : Type 0 where
 abbrev pub mark_point : Mark → Point
 mark_point mark = record { build = mark.build; length = mark.length }
 
--- a cursor whose mark is such a point
+-- a build's cursor in its plan, with its mark as a point
 pub record Progress : Type 0 where
   pub done : ℕ
   pub left : ℕ
@@ -34,14 +34,13 @@ pub record AreOneState (one other : Position) : Type 0 where
   pub progress : map progress_of other.places ≡ map progress_of one.places
   pub ways_back : (build : ℕ) → has_way_back other build ≡ has_way_back one build
 
--- The turn that led from another position to `to` can be taken here too, with the same answer, and leads to the same
--- state.
+-- The turn can also be taken at `other`, with the same answer, and leads to the state of `to`.
 pub record IsAlsoTaken (plan : Plan) (other : Position) (turn : Turn) (to : Position) : Type 0 where
   pub then : Position
   pub is_turn : IsTurn plan other turn then
   pub same : AreOneState to then
 
--- the same of any number of turns
+-- the turns of a schedule can also be taken at `other`, with the same answers, to the state of `to`
 pub record AreAlsoTaken (plan : Plan) (order : List ℕ) (other : Position) (turns : List Turn) (to : Position) : Type 0 where
   pub then : Position
   pub are_turns : AreTurns plan order other turns then

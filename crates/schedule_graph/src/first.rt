@@ -1,4 +1,4 @@
-//! Finds a graph's first path that shows a property, and its first path without it.
+//! Finds the first path with, or without, an edge label that has a property.
 ghost use Rattle.std.specs.Prelude.{◌≡◌, ◌<◌, nat_lt, Bool, true, option_map, slice_index_or, [], IfOk, Some, map, vec_items};
 ghost use Rattle.std.specs.List.{find};
 ghost use Rattle.schedule_graph.specs.First.{layers_in, path_numbers_in, first_like, any_path, shows_none};
@@ -9,7 +9,7 @@ use crate::graph::{Edge, LabelProperty};
 use crate::path_number::PathNumber;
 use std::alloc::{AllocError, Global};
 
-/// Returns the numbers of paths from the states of one layer of a graph. There are none if there is no such layer.
+/// Returns the path counts of the states in one layer of a graph. There are none if there is no such layer.
 pub(crate) fn numbers_at(counts: &[Vec<PathNumber>], depth: usize) -> &[PathNumber]
     ensures { result.now ≡ slice_index_or (path_numbers_in counts.now) depth [] }
 {

@@ -1,4 +1,4 @@
-//! Theorems on the states of plans' runs, and on paths in their graphs.
+//! Theorems on the states that a plan's runs reach, and on paths between them.
 ghost use Rattle.std.specs.Prelude.{◌≡◌, ℕ, List, Some, slice_get};
 ghost use Rattle.std.specs.List.{AllByRecursion};
 ghost use Rattle.realm_plan.specs.Plan.{Plan};
@@ -13,8 +13,8 @@ ghost use Rattle.schedule_graph.specs.Graph.{first_of, IsGraph, IsPathRun};
 ghost use Rattle.schedule_graph.specs.Paths.{Layer, paths};
 ghost use Rattle.schedule_graph.specs.State.{AreOneState, IsAlsoTaken, AreAlsoTaken};
 
-/// Proves that run positions that are one state have the same turns and answers. The next steps are the same too, and
-/// so is the map of the host. A turn, or any number of them, leads from two such positions to one state again.
+/// Proves that run positions in the same state have the same possible turns and answers. The next steps are the same
+/// too, and so is the map of the host. A turn, or any number of them, leads from two such positions to one state again.
 pub fn a_state_decides_its_turns()
     ensures steps { (plan : Plan) (one other : Position) → AreOneState one other → (build : ℕ)
         → step_after plan build (place_of other.places build).done ≡ step_after plan build (place_of one.places build).done }
@@ -25,9 +25,9 @@ pub fn a_state_decides_its_turns()
     ensures map { (one other : Position) → AreOneState one other → map_text other.host ≡ map_text one.host }
 {}
 
-/// Proves that calls needing no block and no VMID are independent of other builds' operations. Take hosts of the same
-/// machine on which the build did the same, and is in abort on both or neither. There a call has the same refusal, and
-/// a command the same operation.
+/// Proves that other builds do not affect calls that need no block and no VMID. Take hosts of the same machine on which
+/// the build did the same, and is in abort on both or neither. There a call has the same refusal, and a command the
+/// same operation.
 pub fn a_build_decides_its_own_calls()
     ensures refusal { (build : ℕ) (host twin : HostView) (call : Call) → DidTheSameAlone build host twin → NeedsNothingShared call
         → refusal_of twin build call ≡ refusal_of host build call }
@@ -35,9 +35,9 @@ pub fn a_build_decides_its_own_calls()
         → act_asked twin build cmd ≡ act_asked host build cmd }
 {}
 
-/// Proves that each path of a graph of states is a run of the plan. The run is in the schedule of the path, with the
-/// answers of the path. It goes from a state of the first layer, and from any position that is the same state. It does
-/// not matter which schedule led to the states that the graph has.
+/// Proves that each path in a plan's state graph is a possible run of the plan. The run is in the schedule of the path,
+/// with the answers of the path. It goes from a state of the first layer, and from any position that is the same state.
+/// It does not matter which schedule led to the states that the graph has.
 pub fn a_path_is_a_run()
     ensures { (plan : Plan) (states : List (List Position)) (layers : List (Layer Turn)) (number : ℕ) (at from : Position)
         → IsGraph plan states layers → slice_get (first_of states) number ≡ Some at → AreOneState at from

@@ -26,8 +26,8 @@ pub fn count_all<L>(
     Ok(counts)
 }
 
-/// For each state of each layer, counts the paths that show the property. `all` has the numbers of all paths. The one
-/// error is that allocation failed.
+/// Counts, for each state of each layer, its paths on which some label has `property`. `all` has the numbers of all
+/// paths. The one error is that allocation failed.
 pub fn count_all_with<L, S: LabelProperty<L>>(
     alloc: Global,
     layers: &[Vec<Vec<Edge<L>>>],
@@ -49,7 +49,7 @@ pub fn count_all_with<L, S: LabelProperty<L>>(
     Ok(counts)
 }
 
-/// For each state of each layer, counts the paths that do not show the property. The one error is that allocation
+/// Counts, for each state of each layer, its paths on which no label has `property`. The one error is that allocation
 /// failed.
 pub fn count_all_without<L, S: LabelProperty<L>>(
     alloc: Global,

@@ -1,4 +1,4 @@
-//! Graphs of the states of a plan's runs, and counts of their paths.
+//! Counts a plan's schedules as paths through a graph of the states of its runs.
 //!
 //! Positions of runs are one state if each build did the same and is as far in its plan. A state decides all further
 //! turns and their answers, whatever the schedule was (`law.rt`). So schedules are paths of a graph of states, which

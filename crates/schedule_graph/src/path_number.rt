@@ -1,12 +1,12 @@
-//! Counts of paths, without an upper bound. Those below 2^128 are added as `u128`.
+//! Natural numbers of any size for counting the paths of a graph. Those below 2^128 are added as `u128`.
 ghost use Rattle.std.specs.Prelude.{◌≡◌, ◌+◌, ◌==◌, OnOk, IfOk};
 
 use crate::number::Count;
 use std::alloc::{AllocError, Global};
 use std::marker::Model;
 
-/// A natural number of any size, by which paths are counted. Stored as its remainder and quotient on division by 2^128.
-/// Seen as the number.
+/// A natural number of any size, used to count the paths of a graph. Stored as its remainder and quotient on division
+/// by 2^128. Seen as the number.
 #[derive(Drop)]
 pub struct PathNumber {
     low: u128,

@@ -43,32 +43,33 @@ pub(crate) enum No {
     NothingToUndo,
 }
 
-/// One of the last two marks that a script has set.
+/// One of the last two marks (rollback points) that a script has set.
 pub(crate) enum Which {
     Newest,
-    /// The mark before the newest one.
+    /// The rollback mark that was set before the newest one.
     Older,
 }
 
 /// A call to a host, with the expected answer. Some calls only read the host's state.
 pub(crate) enum Call {
     Ask(Command, Result<AcceptedAnswer, No>),
-    /// An undo of the build's newest open operation, with the expected answer. The answer is the kind of the undone
-    /// operation, and the number of operations left open.
+    /// Undoes the build's newest operation not undone yet, with the expected answer. The answer is the kind of the
+    /// undone operation, and the number of operations left open.
     Undo(Result<(Kind, u16), No>),
     BeginAbort(Result<u16, No>),
     Abort(Result<u16, No>),
-    /// A call that sets a mark of the build, with the expected answer. The answer is the number of operations open at
-    /// the mark.
+    /// Sets a mark to which the build can be rolled back, with the expected answer. The answer is the number of
+    /// operations open at the mark.
     Mark(Result<u16, No>),
     CheckBack(Which, Result<u16, No>),
-    /// A check of a rollback to a mark, and then the rollback. Both have the same expected answer.
+    /// Checks whether the build can be rolled back to a mark, and rolls it back. Both calls have the same expected
+    /// answer.
     GoBack(Which, Result<u16, No>),
-    /// A reading of the numbers of free pages, all pages, and the build's pages.
+    /// Checks the numbers of free pages, of all pages, and of the build's pages.
     Pages(u16, u16, u16),
-    /// A reading of the state of a page and the sum of its bytes.
+    /// Checks the state of a build's page and the sum of its bytes.
     Page(u16, GranuleState, u32),
-    /// A reading of the state and the VMID of the build's realm.
+    /// Checks the state and the VMID of the build's realm.
     Realm(Option<(RealmState, u8)>),
     Measurement(Option<[u8; 32]>),
 }
@@ -220,7 +221,8 @@ fn run<S: PageStore + Drop>(rt: &impl Abort, name: &str, mut host: Host<S>, scri
     }
 }
 
-/// Runs a script once over each kind of store. Each run has a new host with the given numbers of pages and builds.
+/// Runs a script on two new hosts, over a `PlainStore` and over a `BuddyArena`. Each host has the given numbers of
+/// pages and builds.
 pub(crate) fn over_both(
     rt: &impl Abort,
     alloc: Global,

@@ -54,7 +54,7 @@ pub(crate) struct Sink {
 }
 
 impl Sink {
-    /// Whether the output has taken exactly these bytes.
+    /// Whether exactly these bytes were written to the output.
     pub(crate) fn has(&self, bytes: &[u8]) -> bool {
         self.got.as_slice() == bytes
     }
@@ -182,7 +182,8 @@ pub(crate) struct Outcome<'a> {
 }
 
 impl<'a> Outcome<'a> {
-    /// Returns the outcome of a program that succeeds. The program writes all of `text` in `writes` writes.
+    /// Creates the expected outcome of a program that prints `text` and succeeds. It prints all of `text` in `writes`
+    /// writes.
     pub(crate) fn printed(text: &'a [u8], writes: u64) -> Outcome<'a> {
         Outcome {
             end: Ok(()),
@@ -193,8 +194,8 @@ impl<'a> Outcome<'a> {
         }
     }
 
-    /// Returns the outcome of a program that writes nothing. The program ends with `fault`, and leaves `left` input
-    /// bytes.
+    /// Creates the expected outcome of a program that fails and prints nothing. The program ends with `fault`, and
+    /// leaves `left` input bytes.
     pub(crate) fn nothing(fault: Fault, left: usize) -> Outcome<'a> {
         Outcome {
             end: Err(fault),
@@ -205,7 +206,8 @@ impl<'a> Outcome<'a> {
         }
     }
 
-    /// Returns the outcome of a program that fails at a write. The program has written `text` byte by byte before.
+    /// Creates the expected outcome of a program that fails at a write after `text`. The program has written `text`
+    /// byte by byte before.
     pub(crate) fn cut(text: &'a [u8]) -> Outcome<'a> {
         Outcome {
             end: Err(Fault::Device),

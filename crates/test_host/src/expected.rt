@@ -1,4 +1,4 @@
-//! Comparisons of values with the expected ones.
+//! Functions that compare values with the values that a test expects.
 //!
 //! A test is proved before it runs, and each comparison in its body branches: written out there, a row of them costs
 //! far more than a row of these calls.
@@ -25,7 +25,7 @@ pub(crate) fn holds_at(rt: &impl Abort, what: &str, place: usize, is_so: bool) {
     assert!(rt; is_so, "{what}, row {place}");
 }
 
-/// Returns a page store that was built, or aborts the test at an error.
+/// Returns the page store, or aborts the test if the store could not be built.
 pub(crate) fn built<S>(rt: &impl Abort, store: Result<S, BuildError>) -> S {
     match store {
         Ok(store) => store,

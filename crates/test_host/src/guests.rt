@@ -20,7 +20,7 @@ pub struct Guest<L: Ledgers> {
 }
 
 impl<L: Ledgers> Guest<L> {
-    /// Performs the steps of this guest (a build), and keeps the results.
+    /// Performs the steps of this guest, and keeps the results.
     pub(crate) fn run<R: Wait + Abort, S: PageStore, G: Gate>(
         &mut self,
         rt: &R,
@@ -46,7 +46,7 @@ impl<L: Ledgers> Guest<L> {
     }
 }
 
-/// Creates a guest for each build's session handle (seat). Build 1 is refused the step with the index `refused`.
+/// Creates a test build (guest) for each session handle (seat). Build 1 is refused the step with the index `refused`.
 pub(crate) fn guests_of<L: Ledgers>(
     rt: &impl Abort,
     alloc: Global,

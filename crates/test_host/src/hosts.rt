@@ -28,8 +28,8 @@ fn boot<S: PageStore + Drop>(
     }
 }
 
-/// Boots a host over a plain store. The host has the given numbers of pages, of auxiliary granules per REC, and of
-/// builds.
+/// Boots a host that keeps its pages in a `PlainStore`. The host has the given numbers of pages, of auxiliary granules
+/// per REC, and of builds.
 pub(crate) fn booted(
     rt: &impl Abort,
     alloc: Global,
@@ -45,7 +45,7 @@ pub(crate) fn booted(
     }
 }
 
-/// Boots a host over an arena, with the given numbers of pages and builds.
+/// Boots a host that keeps its pages in a `BuddyArena`. The host has the given numbers of pages and builds.
 pub(crate) fn over_arena(
     rt: &impl Abort,
     alloc: Global,

@@ -1,4 +1,4 @@
-//! Checks of the pages and realms that the runs of three builds leave on a host.
+//! Checks which pages and realms three builds have left on a host after their runs.
 use crate::expected::{holds, same_text};
 use granule_addr::BuildId;
 use page_arena::PageStore;

@@ -1,4 +1,4 @@
-//! Expected lines of workers' reports, written with plain numbers.
+//! Lines that tests expect in workers' reports. They are written with plain numbers.
 use crate::expected::{equal, holds_at};
 use builders::{Answer, Asked, ReportLine};
 use granule_addr::RecNo;
@@ -32,9 +32,9 @@ pub(crate) enum Line {
     StepUndone(usize, Kind, u16),
     /// An accepted undo after a refused step. The number is that of the operations left open.
     Undone(Kind, u16),
-    /// An undo that is refused, after the refusal of a step. The undo is refused because the history is full.
+    /// A refused undo after a refused step. The undo is refused because the history is full.
     UndoRefused,
-    /// The exit of a REC after a refused step. The number is that of the REC.
+    /// An accepted exit of a running REC after a refused step. The number is that of the REC.
     Exited(u16),
 }
 
@@ -66,7 +66,7 @@ impl Line {
         }
     }
 
-    /// Converts the expected line to the answer in a line of a report.
+    /// Returns the answer that the report line must have.
     pub(crate) fn answer(&self) -> Answer {
         match self {
             Line::Done(_) | Line::Exited(_) => Answer::Replied(Reply::Done),
@@ -83,7 +83,7 @@ impl Line {
         }
     }
 
-    /// Converts the expected line to a line of a report.
+    /// Converts this expected line to a `ReportLine`, for comparison with a report.
     pub(crate) fn of_report(&self) -> ReportLine {
         let (asked, answer) = (self.asked(), self.answer());
         ReportLine { asked, answer }

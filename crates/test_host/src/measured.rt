@@ -1,4 +1,4 @@
-//! Tests of the bytes by which data, RIPAS and RECs are measured.
+//! Tests of the bytes that are hashed to measure data, RIPAS and RECs.
 use crate::expected::holds;
 use granule_addr::{IpaGran, RecNo};
 use rmi_monitor::{data_event, rec_event, ripas_event};

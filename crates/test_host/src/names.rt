@@ -1,4 +1,4 @@
-//! Conversions of plain numbers to a block order and to a granule.
+//! Converts a plain number to a block order, or to a granule.
 use granule_addr::{Gran, Order};
 
 /// Returns the block order `number` modulo 10.

@@ -1,4 +1,4 @@
-//! Checks of what a host reports about pages and realms.
+//! Checks what a host reports about its pages and realms.
 use crate::calls::Call;
 use realm_host::{BuildId, Host, PageStore, RealmState};
 

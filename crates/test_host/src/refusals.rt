@@ -1,4 +1,4 @@
-//! Tests of the texts by which refusals are reported.
+//! Tests of the texts that describe refusals.
 use granule_addr::Order;
 use realm_host::Refusal;
 use realm_model::{Rmi, Status};

@@ -1,4 +1,5 @@
-//! Tests of running a plan in threads. The runs are over bytes in memory, over devices that fail, and at gates.
+//! Tests that run the builds of a plan in threads. The runs are over bytes in memory, over devices that fail, and at
+//! gates.
 use crate::devices::{Devices, Outcome};
 use crate::expected::equal;
 use crate::gates::{ForBuild0, MeetingGate};

@@ -1,4 +1,4 @@
-//! Tests of the words in translation tables, over both kinds of store.
+//! Tests of the words in translation tables, with both `PlainStore` and `BuddyArena`.
 //!
 //! The words come and go with a realm's tables and its page.
 ghost use Rattle.std.specs.Prelude.{◌≡◌, true, length, replicate};

@@ -1,4 +1,4 @@
-//! A client of a host for tests, which refuses a chosen question of a worker.
+//! A test client of a host, which itself refuses at most one chosen request of a worker.
 ghost use Rattle.std.specs.Prelude.{◌+◌, ◌*◌};
 
 use builders::{Ledgers, SeatTeller, Teller};
@@ -7,7 +7,7 @@ use realm_host::{Cmd, Mark, Refusal, Reply, Undone};
 use realm_model::Rmi;
 use std::sync::Wait;
 
-/// A client of a host that refuses at most one question of its worker. It does not ask the host that question. It
+/// A host client that refuses at most one of its worker's requests itself. It does not ask the host that question. It
 /// passes all other questions on to a seat. Questions are numbered from 0.
 #[derive(Drop)]
 pub struct Refusing<'a, R: Wait, S: PageStore, L: Ledgers> {

@@ -1,4 +1,4 @@
-//! Tests of a build's worker with a fake host client and a fake scheduler.
+//! Tests of a build's worker with a fake host client and a fake scheduler, without a host.
 ghost use Rattle.std.specs.Prelude.{◌≡◌, ◌+◌, ◌*◌, ◌≤◌, [], length, vec_capacity};
 
 use crate::expected::holds;

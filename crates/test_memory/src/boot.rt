@@ -1,4 +1,4 @@
-//! The boot of a host, with a second try if an allocation fails.
+//! Boots a host, and tries again if an allocation fails.
 ghost use Rattle.std.specs.Prelude.{◌≡◌, [], true, length, replicate, IfOk};
 ghost use Rattle.granule_addr.specs.Page.{zero_page};
 

@@ -99,7 +99,7 @@ fn realm_command(turn: u8, offset: PageOff) -> Cmd {
     }
 }
 
-/// The number of commands that the test performs, one in each turn.
+/// The number of commands in the sequence of `command`.
 pub(crate) const TURNS: u8 = 22;
 
 // Asks for the number of open operations above a mark, and then rolls the build back to the mark.
@@ -141,7 +141,8 @@ fn read_all(host: &Host<BuddyArena>, build: BuildId) -> u32 {
     seen.saturating_add(u32::from(has_realm))
 }
 
-/// Boots a host, and makes the test's calls for its two builds. One of them aborts step by step, the other stays.
+/// Boots a host, and makes the test's calls for its two builds. An abort of one of them begins, and ends after one undo
+/// by a call that undoes the rest; the other stays.
 pub(crate) fn all_calls(rt: &impl Print, alloc: Global) -> Result<Host<BuddyArena>, Fault> {
     let mut host = booted(rt, alloc)?;
     let mut tally = Tally::new();

@@ -88,8 +88,8 @@ fn bytes_in<I: Read>(alloc: Global, input: &mut Told<I>) -> Result<Vec<u8>, Plan
     Ok(read_whole(alloc, input)?)
 }
 
-/// Replays the plan, or performs the script of RMM operations, in the input. If the input is empty, the calls to be
-/// tested are made.
+/// Runs the input, which is a plan or a script of RMM operations. If the input is empty, the calls to be tested are
+/// made.
 fn run<H: Print + Eprint + AllocGlobal + CpuClock + Threads + Wait + Sync, I: Read, O: Write>(
     rt: &H,
     input: &mut Told<I>,

@@ -1,4 +1,4 @@
-//! The application of a host's recorded events to a fresh host.
+//! Applies the recorded events of one host to a fresh host.
 use crate::boot::booted;
 use crate::{Fault, tell};
 use buddy::BuddyArena;
@@ -15,7 +15,7 @@ fn apply_all(host: &mut Host<BuddyArena>, history: &[Event]) -> u32 {
     applied
 }
 
-/// Applies the whole history of a host to a fresh one.
+/// Applies the recorded events of one host to a fresh host.
 pub(crate) fn applies_again(
     rt: &impl Print,
     alloc: Global,

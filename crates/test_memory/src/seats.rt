@@ -1,4 +1,4 @@
-//! The part of the test that makes calls and runs a worker on a shared host. The calls go through the seat of one
+//! Calls to a shared host, and the run of a worker on it, as parts of the test. The calls go through the seat of one
 //! build, and the worker is for the other build.
 ghost use Rattle.std.specs.Prelude.{◌≡◌, ◌≤◌, [], All, IfOk, vec_len};
 ghost use Rattle.build_seats.specs.Names.{AreNamed};
@@ -188,8 +188,8 @@ fn share<R: Print + Threads + Wait + Sync, L: Ledgers + Send + Sync>(
     close(rt, shared, seats)
 }
 
-/// Boots a host, shares it, makes test calls on it, and takes it back. The calls of one build are made, and a worker
-/// runs for the other build.
+/// Tests a shared host with calls for one build and a worker for another. The host is booted and shared first, and
+/// taken back at the end.
 pub(crate) fn work<R: Print + Threads + Wait + Sync>(rt: &R, alloc: Global) -> Result<(), Fault> {
     let host = booted(rt, alloc)?;
     share::<R, Brand>(rt, alloc, Blanks::new(), host)

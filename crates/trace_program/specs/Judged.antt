@@ -43,7 +43,7 @@ is_no_command reply = are_no_command reply.words.items
 
 -- ---- names of lines
 
--- a check of a set
+-- a word is the name of a check in the set
 abbrev pub is_check_in : NameSet → Atom → Bool
 is_check_in set (Name place) = nat_le FIRST_CHECK place && is_name_in set place
 is_check_in set _ = false
@@ -65,11 +65,11 @@ abbrev pub call_place : Option (List TraceWord) → List TraceWord → ℕ
 call_place (Some call) question = name_place call
 call_place None question = name_place (repeated question)
 
--- the name of a question, or of its command if it is a repeated or a raw call
+-- the index of a question's command name; for a repeated call, or a raw call of a command, that of the inner command
 unfoldable pub command_place : List TraceWord → ℕ
 command_place question = call_place (raw_call question) question
 
--- A line has the names of its question and of its command, and those of the checks in its answers.
+-- A set names the question or the command of a line, or a check in one of its answers.
 unfoldable pub is_named : NameSet → List TraceWord → List ℕ → TraceReply → Bool
 is_named set question written reply =
     is_name_in set (name_place question) || is_name_in set (command_place question) || has_check set reply.words.items || has_check_written set (read written)
@@ -100,12 +100,12 @@ abbrev pub answer_verdict : Comparison → Option Machine → List TraceWord →
 answer_verdict asked m question written reply =
     if is_compared asked question written reply then as_line_verdict (judged m question written reply) else NotCompared
 
--- a line that is no command has to say so
+-- the verdict on a line that is no command: the written answer has to be `no command`
 abbrev pub no_command_verdict : Option (List ℕ) → LineVerdict
 no_command_verdict (Some written) = if bytes_eq written (codes "no command") then Same else Wrong
 no_command_verdict None = Wrong
 
--- what is not written is not compared
+-- the verdict on a question with a written answer; any other line is not compared
 abbrev pub question_verdict : Comparison → Option Machine → LineKind → List TraceWord → Option (List ℕ) → TraceReply → LineVerdict
 question_verdict asked m Question q (Some written) reply = answer_verdict asked m q written reply
 question_verdict asked m kind q written reply = NotCompared
@@ -118,6 +118,6 @@ abbrev pub kind_verdict : LineKind → LineVerdict → LineVerdict
 kind_verdict Remark verdict = NotCompared
 kind_verdict _ verdict = verdict
 
--- The verdict on a line with the answer that is written in it, by our answer to it and the machine after it.
+-- The verdict on a line's written answer, given our answer and the machine after the line.
 unfoldable pub line_verdict : Comparison → Option Machine → Option (List ℕ) → RmmTraceLine → TraceReply → LineVerdict
 line_verdict asked m written line reply = kind_verdict line.kind (verdict_by (is_no_command reply) asked m line written reply)

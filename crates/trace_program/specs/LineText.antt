@@ -24,7 +24,7 @@ question_in_line bytes = before_answer (bare_text bytes)
 abbrev pub written_in : List ℕ → Option (List ℕ)
 written_in bytes = answer_in (bare_text bytes)
 
--- the words that a text is
+-- the words of a text, if it can be read as words
 abbrev pub read : List ℕ → Option (List TraceWord)
 read text = words_in 64 (slice_split (λ b. b == 32) text)
 
@@ -52,7 +52,7 @@ abbrev pub name_place : List TraceWord → ℕ
 name_place [] = DASH
 name_place (w ∷ ws) = place_of w.value
 
--- the named call of a raw line
+-- a raw call rewritten with the name of its command; none if the question is no such call
 abbrev pub raw_call : List TraceWord → Option (List TraceWord)
 raw_call question = if name_place question == SMC then named_question question else None
 
@@ -60,7 +60,7 @@ abbrev pub question_named_by : LineKind → List TraceWord → Option (List Trac
 question_named_by Question q = raw_call q
 question_named_by _ q = None
 
--- the question of a raw line by names, if it is one
+-- the question of a raw line, rewritten with the name of its command; none if it has no command, or for any other line
 abbrev pub question_named : RmmTraceLine → Option (List TraceWord)
 question_named line = question_named_by line.kind line.words.items
 
@@ -72,7 +72,7 @@ answer_named_by _ q written = None
 abbrev pub answer_named : RmmTraceLine → List ℕ → Option (List TraceWord)
 answer_named line written = answer_named_by line.kind line.words.items written
 
--- an answer that cannot be named is as it was
+-- the text of the named answer, or the written answer if there is no named one
 abbrev pub named_or_written : Option (List TraceWord) → List ℕ → List ℕ
 named_or_written (Some answer) written = sentence_text answer
 named_or_written None written = written

@@ -21,13 +21,14 @@ taken_lines bytes = map kept_of_line (lines_in bytes)
 
 -- ---- bytes that were read
 
--- the begin of the next line
+-- one part of the input is left, the beginning of the next line, of which `line` is kept
 pub record HasRest (left : List (List ℕ)) (line : List ℕ) : Type 0 where
   pub rest : List ℕ
   pub alone : left ≡ rest ∷ []
   pub is_kept : line ≡ kept_of_line rest
 
--- The lines of the bytes that were read are taken, and their texts are written or are the text.
+-- Lines of the bytes that were read are taken, and their texts are `written` and then `text`. Unless the check is done,
+-- only the beginning of the next line is left.
 pub record IsTraceLineTaken (asked : TraceSubcommand) (read written : List ℕ) (s : Session) (line text : List ℕ) : Type 0 where
   pub lines : List (List ℕ)
   pub left : List (List ℕ)
@@ -40,7 +41,7 @@ pub record IsTraceLineTaken (asked : TraceSubcommand) (read written : List ℕ) 
 abbrev pub AreTraceLinesTaken : TraceSubcommand → (read written : List ℕ) → Session → List ℕ → Type 0
 AreTraceLinesTaken asked read written s text = IsSession asked fresh_session (taken_lines read) (written ++ text) s
 
--- the same as `IsTraceLineTaken`, of the bytes that a reader gave and a writer has
+-- a run is under way: `IsTraceLineTaken` holds for the bytes that the reader gave and the writer got
 pub record IsUnderway (asked : TraceSubcommand) (input left old new : Option (List ℕ)) (s : Session) (line : List ℕ) : Type 0 where
   pub read : List ℕ
   pub consumed : Consumes input left read
@@ -59,7 +60,7 @@ pub record IsOver (asked : TraceSubcommand) (input left old new : Option (List �
   pub session : IsSession asked fresh_session (taken_lines read) text s
   pub written : Appends old new text
 
--- there may be more to read, or not
+-- if true, the run is under way and the check is not done; if false, the run is over
 abbrev pub ReadsOn : Bool → TraceSubcommand → (input left old new : Option (List ℕ)) → Session → List ℕ → Type 0
 ReadsOn true asked input left old new s line = IsUnderway asked input left old new s line × (is_check_done asked s ≡ false)
 ReadsOn false asked input left old new s line = IsOver asked input left old new s
@@ -84,7 +85,8 @@ pub record IsTraceRun (asked : TraceSubcommand) (input left old new : Option (Li
   pub is_verdict : verdict ≡ verdict_asked asked last
   pub written : Appends old new (text ++ last_text asked last)
 
--- A run that stops at an error: a prefix of that was written for the first lines that were read.
+-- A run that stops at an error: a prefix of the text for the first lines was written. For a check, the counts come last
+-- in that text.
 pub record IsCutShort (asked : TraceSubcommand) (input left old new : Option (List ℕ)) : Type 0 where
   pub read : List ℕ
   pub consumed : Consumes input left read

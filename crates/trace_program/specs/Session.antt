@@ -41,7 +41,7 @@ verdict_on asked bytes s = line_verdict asked s.machine (written_in bytes) (trac
 abbrev pub judged : Comparison → List ℕ → Session → Session
 judged asked bytes s = record s { counts = with_line_counted s.counts (verdict_on asked bytes s) }
 
--- The session after a line. Names of calls require no RMM.
+-- The session after a line. The subcommand that names calls leaves it as it was, and requires no RMM.
 unfoldable pub after_line : TraceSubcommand → Session → List ℕ → Session
 after_line asks.Answer s bytes = performed s (trace_line_of bytes)
 after_line (asks.Check asked) s bytes = judged asked bytes (performed s (trace_line_of bytes))
@@ -71,7 +71,7 @@ pub record IsHeaded (number : ℕ) (verdict text : List ℕ) : Type 0 where
   pub rest : List ℕ
   pub whole : text ≡ heading_text source number verdict ++ rest
 
--- A line that is the same has that line alone, and only if each verdict is asked for.
+-- The note on a line with the verdict same. It is the heading alone, or empty unless each verdict is asked for.
 abbrev pub IsSameNote : Bool → ℕ → List ℕ → Type 0
 IsSameNote true number text = (source : List ℕ) × (text ≡ heading_text source number (codes "same"))
 IsSameNote false number text = text ≡ []
@@ -83,7 +83,7 @@ IsNote asked number Same text = IsSameNote asked.is_each number text
 IsNote asked number Allowed text = IsHeaded number (codes "allowed") text
 IsNote asked number Wrong text = IsHeaded number (codes "wrong") text
 
--- The text for a line, by the session after it, and the verdict on it.
+-- The text that a subcommand writes for a line, from the sessions before and after the line.
 abbrev pub IsLineText : TraceSubcommand → List ℕ → Session → Session → List ℕ → Type 0
 IsLineText asks.Answer bytes before after text = text ≡ answered_text bytes (trace_line_of bytes) after.reply
 IsLineText (asks.Check asked) bytes before after text = IsNote asked after.counts.lines (verdict_on asked bytes (performed before (trace_line_of bytes))) text
@@ -104,7 +104,7 @@ abbrev pub is_check_done : TraceSubcommand → Session → Bool
 is_check_done (asks.Check asked) s = asked.stops && nat_lt 0 s.counts.wrong
 is_check_done _ s = false
 
--- The session and the text after lines, one after another, until it is done.
+-- The session and the text after lines are taken one after another, until the check is done.
 abbrev pub IsSession : TraceSubcommand → Session → List (List ℕ) → List ℕ → Session → Type 0
 IsSession asked s [] text new = (text ≡ []) × (new ≡ s)
 IsSession asked s (bytes ∷ more) text new =

@@ -22,6 +22,6 @@ trace_verdict_status Differs = 1
 abbrev pub trace_exit_status : Result (Ended TraceVerdict) (Stop TraceError) → ℕ
 trace_exit_status outcome = status_of_end trace_verdict_status trace_status_of outcome
 
--- the statuses of a program that stops
+-- the exit statuses of a program that stops without a verdict
 abbrev pub IsTraceStatus : ℕ → Type 0
 IsTraceStatus status = (status ≡ 2) ⊎ (status ≡ 3) ⊎ (status ≡ 5)

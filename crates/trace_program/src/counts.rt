@@ -1,4 +1,4 @@
-//! The counts of a trace's lines by verdict, and the verdict on the trace.
+//! The number of trace lines with each verdict, and the verdict on a whole trace.
 ghost use Rattle.std.specs.Prelude.{◌≡◌, ◌+◌, IfErr, IfOk};
 ghost use Rattle.trace_program.specs.declared.fault.TraceError.TheVariants.{TooLong};
 ghost use Rattle.trace_program.specs.Counting.{with_line_counted, trace_verdict};

@@ -1,5 +1,5 @@
-//! The program that answers and checks traces of RMI calls. It has the text for each line of a trace, the check of a
-//! trace, and the outcomes of a run.
+//! The parts of `rmitrace`, the program that answers and checks traces of RMI calls. They are the text for each line of
+//! a trace, the check of a trace, and the outcomes of a run.
 //!
 //! A `Session` takes the lines of a trace one after another. It has no RMM before the first `platform`, and a new one
 //! from each of these on. `run` reads the lines and writes their texts. What a line gets is proved, and so are the

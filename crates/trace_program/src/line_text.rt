@@ -1,4 +1,4 @@
-//! The output text for lines of a trace, with their answers.
+//! The output text for trace lines and their answers.
 ghost use Rattle.std.specs.Prelude.{◌≡◌, ◌++◌, [], ◌∷◌, OnOk};
 ghost use Rattle.trace_program.specs.LineText.{answered_text, sign_and_answer, tail_of};
 ghost use Rattle.rmm_answers.specs.Replies.{reply_text};
@@ -67,7 +67,7 @@ impl LineTexts {
         self.bytes.extend_from_slice(self.words.as_bytes())
     }
 
-    /// Appends the text of the model's answer to a trace line.
+    /// Appends the text of the answer that the model gives to a trace line.
     pub fn push_answer(&mut self, reply: &TraceReply) -> Result<(), AllocError>
         ensures { OnOk result (self.new ≡ self.old ++ reply_text reply.now) }
     {
@@ -115,7 +115,8 @@ impl LineTexts {
     }
 }
 
-/// Returns the comment of a trace line, with the blanks before the comment.
+/// Returns what follows the question and the written answer of a trace line. It is the comment, if the line has one,
+/// and the blanks before the comment or at the end of the line.
 #[tactic(auto, unfolding(crate::specs::LineText::tail_of))]
 pub(crate) fn tail(bytes: &[u8]) -> &[u8]
     ensures { result.now ≡ tail_of bytes.now }

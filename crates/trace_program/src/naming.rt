@@ -1,4 +1,4 @@
-//! The rewriting of a trace's raw calls with the names of commands and outputs.
+//! Rewrites raw SMC calls in a trace with the names of commands and outputs.
 ghost use Rattle.std.specs.Prelude.{◌≡◌, ◌++◌, OnOk, option_map};
 ghost use Rattle.trace_program.specs.LineText.{answer_named, named_text, question_named};
 
@@ -28,8 +28,8 @@ fn answer_of(line: &RmmTraceLine, written: &[u8]) -> Option<Sentence>
     }
 }
 
-/// Appends a raw trace line, rewritten with the names of its command and outputs. A line that is not raw or cannot be
-/// named is appended as it is.
+/// Appends a trace line, and rewrites a raw call in it with names. The names are those of the call's command and
+/// outputs. A line that is not raw or cannot be named is appended as it is.
 #[tactic(auto, unfolding(crate::specs::LineText::named_text))]
 pub(crate) fn push_named(
     text: &mut LineTexts,

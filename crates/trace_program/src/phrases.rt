@@ -1,4 +1,4 @@
-//! The requirement of each RMM check, in a few words from the standard. The words are tested, not proved.
+//! The requirement of each RMM check, in a few words. The words are tested, not proved.
 use rmm_model::Condition;
 use rmm_trace::place::{
     RMI_DATA_DESTROY, RMI_GRANULE_UNDELEGATE, RMI_PSCI_COMPLETE, RMI_REALM_CREATE, RMI_REC_CREATE,

@@ -76,8 +76,8 @@ fn push_passed(
     Ok(())
 }
 
-/// Returns the lines to print below a refused call. They are the check that decides, the other checks that failed, and
-/// the checks that passed.
+/// Returns the lines that list the failed and passed checks of a refused call. The check that decides comes first, then
+/// the other checks that failed, and then the checks that passed.
 pub(crate) fn checks_text(
     alloc: Global,
     question: &[TraceWord],
@@ -114,8 +114,8 @@ pub(crate) fn heading(
     Ok(text)
 }
 
-/// Returns the note on a line whose written answer differs from the model's. The note has the line, the model's answer,
-/// and a suggestion if the line is not a command. Its heading is not included.
+/// Returns the note on a line with the verdict `Allowed` or `Wrong`. The note has the line, the model's answer, and a
+/// suggestion if the line is not a command. Its heading is not included.
 pub(crate) fn note_on_difference(
     alloc: Global,
     bytes: &[u8],

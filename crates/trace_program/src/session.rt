@@ -26,7 +26,7 @@ pub struct LineWords {
 }
 
 impl LineWords {
-    /// Creates a value without words, for a session's first line.
+    /// Creates an empty `LineWords`, into which the lines of a session are read.
     pub fn new() -> LineWords
         ensures line { result.line ≡ without_words Remark }
         ensures written { result.written.items ≡ [] }
@@ -43,7 +43,7 @@ impl LineWords {
 pub struct Session {
     /// The RMM that the last `platform` line started, if there was one.
     pub machine: TraceMachine,
-    /// The counts of the trace lines so far, by verdict.
+    /// The counts of the trace lines that were checked so far, by verdict.
     pub counts: Counts,
     /// The answer to the last trace line that is not a comment or empty.
     pub reply: TraceReply,
@@ -242,7 +242,7 @@ impl Session {
         Ok(())
     }
 
-    /// Performs the subcommand `asked` on one line, and appends the output. The line is read into `words`.
+    /// Performs the requested subcommand on one trace line, and appends its output. The line is read into `words`.
     ///
     /// Errors: `Memory`, if allocation failed; `TooLong`, after 2^64 - 1 lines.
     pub fn take_line(

@@ -1,4 +1,4 @@
--- The map of a history that is applied, line by line, to the machine that it opens.
+-- Histories that are applied, line by line, to the machine that their first line describes, and their maps.
 use Rattle.std.specs.Prelude.{◌≡◌, ◌+◌, ◌<◌, ◌≤◌, ℕ, List, [], ◌∷◌, ◌++◌, length, Option, Some, None, IfSome}
 use Rattle.realm_model.specs.declared.act.Event.{Event}
 use Rattle.realm_model.specs.History.{IsLegal}
@@ -14,20 +14,20 @@ use Rattle.plan_replay.specs.Run.{map_text}
 use Rattle.view_program.specs.declared.fault.ViewError.{ViewError}
 use Rattle.view_program.specs.declared.fault.ViewError.TheVariants.{NoOpening, NoEvent, Refused, EraseNamesNoBuild, Memory, Device}
 
--- a host of that size, before any event
+-- the host of the size that an opening gives, before any event
 abbrev pub host_of_opening : Opening → HostView
 host_of_opening o = booted o.pages o.vmids o.aux o.builds o.history
 
 -- ---- lines that are taken
 
--- the line is an event that can be applied, and it is the last of the history then
+-- the line is an event that `old` can apply, and applying it leads to `new`
 pub record IsLineTaken (old : HostView) (line : List ℕ) (new : HostView) : Type 0 where
   pub event : Event
   pub is_text : IsEventText line event
   pub can : CanApply old event
   pub grows : new ≡ with_event old event.build event.act
 
--- lines one after another
+-- the lines are applied one after another, and lead from `old` to `new`
 abbrev pub AreTaken : HostView → List (List ℕ) → HostView → Type 0
 AreTaken old [] new = new ≡ old
 AreTaken old (line ∷ lines) new = (mid : HostView) × IsLineTaken old line mid × AreTaken mid lines new
@@ -47,7 +47,7 @@ AreTexts [] [] = Unit {0}
 AreTexts (line ∷ lines) (event ∷ events) = IsEventText line event × AreTexts lines events
 AreTexts _ _ = ⊥
 
--- After the first line come the texts of the host's events, which are a legal history.
+-- The lines after the first are the texts of the host's events, and these events are a legal history.
 pub record IsLegalText (lines : List (List ℕ)) (host : HostView) : Type 0 where
   pub first : List ℕ
   pub events : List (List ℕ)
@@ -55,7 +55,7 @@ pub record IsLegalText (lines : List (List ℕ)) (host : HostView) : Type 0 wher
   pub texts : AreTexts events host.history
   pub legal : IsLegal host.limits host.history
 
--- the input is such lines, if it is known
+-- some lines are a history that leads to the host, and they are those of the input if it is known
 pub record IsHistoryIn (input : Option (List ℕ)) (o : Opening) (host : HostView) : Type 0 where
   pub lines : List (List ℕ)
   pub of_input : IfSome input (λ bytes. lines_in bytes ≡ lines)
@@ -79,7 +79,7 @@ pub record IsEventRefused (why : WhyNot) (host : HostView) (line : List ℕ) : T
   pub cannot : CanApply host event → ⊥
   pub because : IsWhyNot host event why
 
--- Lines are taken up to the line of this number, which is not. The opening is line 1.
+-- The lines before line `number` are a history, and `IsReason` holds of its host and that line. The opening is line 1.
 pub record StopsAt (IsReason : HostView → List ℕ → Type 0) (lines : List (List ℕ)) (number : ℕ) : Type 0 where
   pub o : Opening
   pub host : HostView
@@ -91,8 +91,8 @@ pub record StopsAt (IsReason : HostView → List ℕ → Type 0) (lines : List (
   pub number_is : number ≡ length before + 1
   pub reason : IsReason host line
 
--- The reason why the input is no history, if it is known. A failure of allocation or of a device is no matter of its
--- lines.
+-- The error is a reason why the input, if it is known, is no history. A failure of allocation or of a device is no
+-- matter of its lines.
 abbrev pub IsNoHistoryIn : Option (List ℕ) → ViewError → Type 0
 IsNoHistoryIn input NoOpening = IfSome input (λ bytes. OpensNone (lines_in bytes))
 IsNoHistoryIn input (NoEvent number) = IfSome input (λ bytes. StopsAt (λ host line. IsNoEvent line) (lines_in bytes) number)
@@ -103,7 +103,8 @@ IsNoHistoryIn input fault = ⊥
 
 -- ---- the map
 
--- The map of the host, or of a host that has its history without a build's events.
+-- The text is the map of the host's history without the events of a build of the machine. In `IsMap`, if no build is to
+-- be left out, it is the host's map.
 pub record IsMapOfHistoryWithout (o : Opening) (host : HostView) (build : ℕ) (text : List ℕ) : Type 0 where
   pub of_machine : build < o.builds
   pub fresh : HostView

@@ -2,7 +2,7 @@
 use Rattle.std.specs.Prelude.{ℕ, List}
 use Rattle.realm_plan.specs.Plan.{Plan}
 
--- The operations for an event are those of `actions_of`. That a text is what they are written as is tested, and in no
--- clause.
+-- Every text satisfies this. The operations for an event are those of `actions_of`. That a text is what they are
+-- written as is tested, and in no clause.
 abbrev pub IsCallsText : Plan → List ℕ → Type 0
 IsCallsText plan text = Unit {0}

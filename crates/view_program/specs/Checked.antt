@@ -1,4 +1,4 @@
--- The report on bytes as a plan, the end of its writing, and the end of a request on bytes that are no plan.
+-- The report on bytes as a plan, the outcome of writing it, and the errors of bytes that are no plan.
 use Rattle.std.specs.Prelude.{◌≡◌, Bool, true, false, List, ℕ, Option, IfSome, Result, Ok, Err, is_ok, string_bytes}
 use Rattle.std.specs.Io.KnownBytes.{Appends, Keeps}
 use Rattle.realm_plan.specs.Plan.{plan_of}
@@ -15,15 +15,15 @@ abbrev pub verdict_of : Bool → ViewOutcome
 verdict_of true = Done
 verdict_of false = HasErrors
 
--- the report on the input; at most one byte more of it is kept than a plan can have
+-- the report on a known input, of which at most one byte more is kept than a plan can have
 abbrev pub IsReportOn : List ℕ → Option (List ℕ) → LintReport → Type 0
 IsReportOn source input report = IfSome input (λ bytes. IsReport source (kept_of bytes) report)
 
--- the errors are written exactly when the input is no plan
+-- for a known input the verdict is `Done` if it is a plan, and `HasErrors` if not
 abbrev pub IsVerdictOn : Option (List ℕ) → ViewOutcome → Type 0
 IsVerdictOn input verdict = IfSome input (λ bytes. verdict ≡ verdict_of (is_ok (plan_of bytes)))
 
--- the whole text was written
+-- the whole report on the input was written, and the verdict is the one on the input
 pub record IsReported (source : List ℕ) (input old new : Option (List ℕ)) (verdict : ViewOutcome) : Type 0 where
   pub report : LintReport
   pub of_input : IsReportOn source input report
@@ -36,7 +36,7 @@ pub record IsReportCut (source : List ℕ) (input old new : Option (List ℕ)) :
   pub of_input : IsReportOn source input report
   pub written : AppendsFront old new (string_bytes report.text)
 
--- a device failed: nothing was written if it was a read, and a prefix of the text if it was a write
+-- after a failed read nothing was written, and after a failed write a prefix of the report
 abbrev pub IsReportEndOfDevice : List ℕ → Bool → Option (List ℕ) → Option (List ℕ) → Option (List ℕ) → Type 0
 IsReportEndOfDevice source true input old new = Keeps old new
 IsReportEndOfDevice source false input old new = IsReportCut source input old new
@@ -64,7 +64,7 @@ pub record AreErrorsOfBytes (source bytes errors : List ℕ) : Type 0 where
   pub text : errors ≡ string_bytes report.text
   pub no_plan : is_ok (plan_of bytes) ≡ false
 
--- the reason why bytes are no plan: their errors, or allocation failed
+-- the reason why no plan is read from bytes: their errors, or a failed allocation
 abbrev pub GivesNoPlan : List ℕ → List ℕ → ViewError → Type 0
 GivesNoPlan source bytes (NoPlan errors) = AreErrorsOfBytes source bytes (string_bytes errors)
 GivesNoPlan source bytes Memory = Unit {0}

@@ -14,7 +14,7 @@ use Rattle.plan_states.specs.declared.step_end.EndOfStep.{EndOfStep}
 
 -- ---- the possible choices
 
--- the build could have the turn
+-- whether the build could have the turn, by flags of the builds with a step left
 abbrev pub could : List Bool → ℕ → Bool
 could left build = slice_index_or left build false
 
@@ -29,14 +29,14 @@ builds_left plan places = map (has_left plan places) (range_with_len 0 8)
 unfoldable pub lowest_of : List Bool → Option ℕ
 lowest_of left = find (could left) (range_with_len 0 8)
 
--- The choice has the builds with a step left here, and is one of them.
+-- The choice lists the builds that have a step left at these places, and one of them is chosen.
 pub record IsOpen (plan : Plan) (places : List PlanCursor) (choice : Choice) : Type 0 where
   pub left : choice.left ≡ builds_left plan places
   pub could : could choice.left choice.build ≡ true
 
 -- ---- steps
 
--- The state of a run, and the ends of the steps that are used up.
+-- The position of a run, and the outcomes of the steps that are finished.
 pub record Stage : Type 0 where
   pub at : Position
   pub ends : List EndOfStep
@@ -52,7 +52,7 @@ abbrev pub refusal_of_turn : Option (PlanStep × TurnAnswer) → Option Refusal
 refusal_of_turn None = None
 refusal_of_turn (Some told) = refusal_in told.1
 
--- the end of a turn's step, if the turn uses it up
+-- the outcome of a turn's step if the turn finishes the step, and else none
 abbrev pub ended : Turn → ℕ → ℕ → List EndOfStep
 ended turn before after =
     if before == after then [] else record { build = turn.build; step = before; refusal = refusal_of_turn turn.told } ∷ []
@@ -66,13 +66,13 @@ pub record IsStageTurn (plan : Plan) (from : Stage) (build : ℕ) (to : Stage) :
 
 -- ---- runs
 
--- The turns that are chosen, one after the other.
+-- The turns of these choices, one after the other, lead from one stage to the other.
 abbrev pub AreChosen : Plan → Stage → List Choice → Stage → Type 0
 AreChosen plan from [] to = to ≡ from
 AreChosen plan from (choice ∷ choices) to =
     IsOpen plan from.at.places choice × (between : Stage) × IsStageTurn plan from choice.build between × AreChosen plan between choices to
 
--- no turn is done
+-- the stage before the first turn
 abbrev pub first_stage : HostView → Stage
 first_stage host = record { at = start host; ends = [] }
 
@@ -85,7 +85,8 @@ pub record IsChosenRun (plan : Plan) (from : HostView) (choices : List Choice) (
   pub host : last.at.host ≡ to
   pub ends : last.ends ≡ noted
 
--- From this stage on the lowest build with a step left goes on, until none has: `choices` then has all choices.
+-- From this stage the lowest build with a step left takes each turn, until no build has one. `choices` is `front`, and
+-- then the choices of these turns.
 pub record GoesOnTo (plan : Plan) (from : Stage) (front choices : List Choice) (to : Stage) : Type 0 where
   pub more : List Choice
   pub appended : choices ≡ front ++ more

@@ -1,5 +1,4 @@
--- Schedules that are drawn: at each turn, a stream of random numbers says which of the builds that have a step left has
--- it.
+-- Schedules drawn at random: at each turn, a number of a stream says which of the builds with a step left has it.
 use Rattle.std.specs.Prelude.{◌≡◌, ℕ, ◌%◌, Bool, List, [], ◌∷◌, length, filter, Option, Some, None, slice_get, string_bytes}
 use Rattle.std.specs.List.{range_with_len}
 use Rattle.rand_core.specs.Stream.{Stream, next_u32}
@@ -24,26 +23,27 @@ abbrev pub AreDrawn : Stream → List Choice → Stream → Type 0
 AreDrawn stream [] after = after ≡ stream
 AreDrawn stream (choice ∷ choices) after = (drawn stream choice.left ≡ Some choice.build) × AreDrawn (next_u32 stream).1 choices after
 
--- From this stage on builds are drawn, until none has a step left: these are `choices`, and the run leads to `to`.
+-- From this stage the build of each turn is drawn, until no build has a step left. The choices lead to `to`, and
+-- `after` is the rest of the stream.
 pub record IsDrawnTo (plan : Plan) (stream : Stream) (from : Stage) (choices : List Choice) (to : Stage) (after : Stream) : Type 0 where
   pub are_drawn : AreDrawn stream choices after
   pub chosen : AreChosen plan from choices to
   pub whole : lowest_of (builds_left plan to.at.places) ≡ None
 
--- The run of a schedule that is drawn, and its map.
+-- The visit is a run of the plan in a drawn schedule, with its final map. `after` is the rest of the stream.
 pub record IsDrawn (plan : Plan) (host : HostView) (stream : Stream) (visit : Visit) (after : Stream) : Type 0 where
   pub are_drawn : AreDrawn stream visit.choices after
   pub to : HostView
   pub is_run : IsChosenRun plan host visit.choices to visit.ends
   pub map : string_bytes visit.map ≡ map_text to
 
--- The runs of schedules that are drawn one after the other.
+-- The visits are runs in schedules that are drawn one after the other from the stream.
 abbrev pub AreSamples : Plan → HostView → Stream → List Visit → Stream → Type 0
 AreSamples plan host stream [] after = after ≡ stream
 AreSamples plan host stream (visit ∷ visits) after =
     (between : Stream) × IsDrawn plan host stream visit between × AreSamples plan host between visits after
 
--- The totals of the runs of `count` schedules that the stream draws.
+-- The totals count the runs in `count` schedules drawn from the stream.
 pub record IsSampled (plan : Plan) (host : HostView) (stream : Stream) (count : ℕ) (totals : Totals) : Type 0 where
   pub visits : List Visit
   pub after : Stream

@@ -13,7 +13,7 @@ use Rattle.view_program.specs.declared.schedules.choice.Choice.{Choice}
 use Rattle.plan_states.specs.declared.step_end.EndOfStep.{EndOfStep}
 use Rattle.view_program.specs.declared.schedules.totals.Totals.{Totals}
 
--- A run with these turns and ends led to this host, and is counted with its map.
+-- `new` is `old` with one more run counted: its choices, the outcomes of its steps, and the host's map.
 pub record IsAdded (plan : Plan) (host : HostView) (choices : List Choice) (ends : List EndOfStep) (old new : Totals) : Type 0 where
   pub map : String Global
   pub is_map : string_bytes map ≡ map_text host

@@ -7,7 +7,7 @@ use Rattle.realm_plan.specs.Plan.{Plan}
 use Rattle.plan_replay.specs.Run.{IsReportedRun}
 use Rattle.realm_program.specs.Replay.{opening_host}
 
--- the machine of a plan
+-- the size of a plan's machine, as the first line of a history states it
 abbrev pub opening_of : Plan → Opening
 opening_of plan = record { pages = plan.pages; vmids = plan.vmids; aux = plan.aux; history = plan.history; builds = length plan.builds }
 

@@ -9,11 +9,11 @@ use Rattle.plan_states.specs.Lines.{map_shown, step_outcomes_text}
 use Rattle.plan_states.specs.declared.tally.PathTally.{PathTally}
 use Rattle.view_program.specs.declared.schedules.totals.Totals.{Totals}
 
--- the number of schedules that were drawn
+-- the line that states the number of drawn schedules
 abbrev pub drawn_line : ℕ → List ℕ
 drawn_line schedule_count = codes "orders drawn " ++ (numeral schedule_count ++ 10 ∷ [])
 
--- a map in the end
+-- the lines for a final map: the share of schedules that end in it, and the map
 abbrev pub map_lines : ℕ → PathTally (String Global) → List ℕ
 map_lines schedule_count tally = map_shown schedule_count (string_bytes tally.outcome) tally.first.items tally.count
 

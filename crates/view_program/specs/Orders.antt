@@ -34,7 +34,7 @@ IsSchedulesText (All most) plan text = IsStatesText most plan text
 IsSchedulesText (Drawn count seed) plan text = IsDrawnText count seed plan text
 IsSchedulesText (Shortest most question) plan text = IsAnswerText most question plan text
 
--- the reason why there is no such text: allocation failed, or a run does not go on as another one said
+-- the reason why there is no text: allocation failed, or, unless schedules are drawn, there is a mismatch between runs
 abbrev pub IsWithoutSchedules : Schedules → Plan → Fault → Type 0
 IsWithoutSchedules (All most) plan fault = HasNoGraph fault
 IsWithoutSchedules (Shortest most question) plan fault = HasNoGraph fault
@@ -43,13 +43,13 @@ IsWithoutSchedules (Drawn count seed) plan fault = ⊥
 
 -- ---- after a refusal
 
--- the plan, whose builds do this after a refusal
+-- the plan as it is, or with builds that give up after a refusal
 abbrev pub plan_after : AfterRefusal → Plan → Plan
 plan_after GoOn plan = plan
 plan_after GiveUp plan = record plan { gives_up = true }
 
 abbrev pub IsExploredText : Schedules → AfterRefusal → Plan → List ℕ → Type 0
-IsExploredText schedule_count after plan text = IsSchedulesText schedule_count (plan_after after plan) text
+IsExploredText schedules after plan text = IsSchedulesText schedules (plan_after after plan) text
 
 abbrev pub IsWithoutExplored : Schedules → AfterRefusal → Plan → Fault → Type 0
-IsWithoutExplored schedule_count after plan fault = IsWithoutSchedules schedule_count (plan_after after plan) fault
+IsWithoutExplored schedules after plan fault = IsWithoutSchedules schedules (plan_after after plan) fault

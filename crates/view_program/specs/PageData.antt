@@ -11,23 +11,24 @@ use Rattle.run_json.specs.Page.{page_bytes}
 use Rattle.run_json.specs.declared.world.WorldItem.{WorldItem}
 use Rattle.view_program.specs.declared.plan_page.PageData.{PageData}
 
--- the world of a host that has the history of another without a build's events
+-- the world is that of the host's history without the build's events
 pub record IsWithoutWorld (host : HostView) (build : ℕ) (world : WorldItem) : Type 0 where
   pub fresh : HostView
   pub without : IsWithout host build fresh
   pub is_world : IsWorldItem fresh world
 
--- such worlds, one for each of the first builds
+-- the worlds of the host's history without each of the first `count` builds, in sequence
 abbrev pub AreWorldsWithout : HostView → ℕ → List WorldItem → Type 0
 AreWorldsWithout host count worlds = AllZip (IsWithoutWorld host) (range_with_len 0 count) worlds
 
--- the document of some run of the plan, and the worlds of its history without each build
+-- the document of some run of the plan, and for each build the world of its history without the build's events
 pub record IsPageData (plan : Plan) (shown : PageData) : Type 0 where
   pub last : HostView
   pub is_document : IsDocument plan (opening_host plan) last shown.run
   pub are_worlds : AreWorldsWithout last (length plan.builds) shown.without.items
 
--- The page around some bytes, and such data. That the bytes are what JSON writes for it is tested, and in no clause.
+-- The text is the page around some bytes, and some run of the plan has page data. That the bytes are what JSON writes
+-- for these data is tested, and in no clause.
 pub record IsPageText (plan : Plan) (text : List ℕ) : Type 0 where
   pub shown : PageData
   pub is_data : IsPageData plan shown

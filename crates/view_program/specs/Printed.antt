@@ -1,4 +1,4 @@
--- The printing of the map of a history, and its end.
+-- The printing of the map of a history, and the outcome of each subcommand.
 use Rattle.std.specs.Prelude.{ℕ, Bool, true, false, List, Option, None, Result, Ok, Err, string_bytes}
 use Rattle.std.specs.Io.KnownBytes.{Appends, Keeps}
 use Rattle.host_ledger.specs.View.{HostView}
@@ -50,7 +50,7 @@ pub record NamesNoBuild (erase : Option ℕ) (input : Option (List ℕ)) : Type 
   pub history : IsHistoryIn input o host
   pub none : HasNoMap erase o EraseNamesNoBuild
 
--- a device failed: nothing was written if it was a read, and a prefix of the map if it was a write
+-- after a failed read nothing was written, and after a failed write a prefix of the map
 abbrev pub IsApplyEndOfDevice : Option ℕ → Bool → Option (List ℕ) → Option (List ℕ) → Option (List ℕ) → Type 0
 IsApplyEndOfDevice erase true input old new = Keeps old new
 IsApplyEndOfDevice erase false input old new = IsMapCut erase input old new
@@ -68,8 +68,8 @@ IsApplyEnd erase unread input old new (Err fault) = ⊥
 
 -- ---- the request
 
--- The end of a text that a plan has: it is printed whole or not at all, unless a write fails on the way. For an input
--- that is no plan the fault has the errors.
+-- The end of a request for a plan's text: it is printed whole or not at all, unless a write fails on the way. For an
+-- input that is no plan the fault has the errors.
 abbrev pub IsPlanEnd : (plan.Plan → List ℕ → Type 0) → (plan.Plan → plan_fault.Fault → Type 0) → List ℕ → Bool → Option (List ℕ) → Option (List ℕ) → Option (List ℕ) → Result (Unit {0}) ViewError → Type 0
 IsPlanEnd texts without source unread input old new (Ok done) = IsPrinted texts input old new
 IsPlanEnd texts without source unread input old new (Err (NoPlan errors)) = AreErrorsOf source input (string_bytes errors) × Keeps old new
@@ -78,7 +78,7 @@ IsPlanEnd texts without source unread input old new (Err Memory) = Keeps old new
 IsPlanEnd texts without source unread input old new (Err Device) = IsEndOfDevice texts unread input old new
 IsPlanEnd texts without source unread input old new (Err fault) = ⊥
 
--- the end of a request for which no plan is checked
+-- the end of a request other than a check: it never ends with the verdict `HasErrors`
 abbrev pub EndsAs : (Result (Unit {0}) ViewError → Type 0) → Result ViewOutcome ViewError → Type 0
 EndsAs IsEndOf (Ok Done) = IsEndOf (Ok tt)
 EndsAs IsEndOf (Ok HasErrors) = ⊥
@@ -91,6 +91,6 @@ IsRunEnd Json source unread input old new result = EndsAs (IsPlanEnd IsJsonText 
 IsRunEnd Page source unread input old new result = EndsAs (IsPlanEnd IsPageText (IsWithoutText None) source unread input old new) result
 IsRunEnd (Why all) source unread input old new result = EndsAs (IsPlanEnd IsWhyText (IsWithoutText None) source unread input old new) result
 IsRunEnd (Calls base form) source unread input old new result = EndsAs (IsPlanEnd IsCallsText (IsWithoutText None) source unread input old new) result
-IsRunEnd (Explore schedule_count after) source unread input old new result = EndsAs (IsPlanEnd (IsExploredText schedule_count after) (IsWithoutExplored schedule_count after) source unread input old new) result
+IsRunEnd (Explore schedules after) source unread input old new result = EndsAs (IsPlanEnd (IsExploredText schedules after) (IsWithoutExplored schedules after) source unread input old new) result
 IsRunEnd (Order turns) source unread input old new result = EndsAs (IsReorderEnd turns source unread input old new) result
 IsRunEnd Check source unread input old new result = IsCheckEnd source unread input old new result

@@ -21,14 +21,14 @@ abbrev pub rule_of : SchedulingPolicy → List Choice → Type 0
 rule_of InRotation = AreInRotation 0
 rule_of OneByOne = AreOneByOne
 
--- The builds of the turns of a run of the plan, by the rule. Each turn is of a build that has a step left, and in the
+-- The schedule of a complete run of the plan under the policy. Each turn is of a build that has a step left, and in the
 -- end no build has one.
 abbrev pub IsOrderOf : SchedulingPolicy → plan.Plan → List ℕ → Type 0
 IsOrderOf turns it order = IsWholeSchedule (rule_of turns) it (opening_host it) order
 
 -- ---- the text
 
--- the text is a plan, whose own schedule is such a one
+-- the text is a plan, and its schedule is that of a complete run under the policy
 pub record IsWholeText (turns : SchedulingPolicy) (text : List ℕ) : Type 0 where
   pub it : plan.Plan
   pub is_plan : plan.plan_of text ≡ Ok it
@@ -36,14 +36,16 @@ pub record IsWholeText (turns : SchedulingPolicy) (text : List ℕ) : Type 0 whe
 
 -- ---- the reasons why there is none
 
--- the reason why a text is not taken as a plan with such a schedule
+-- the reason why a reordered text is not accepted: it exceeds a plan's limits, there is a mismatch, or allocation
+-- failed
 abbrev pub IsNotWhole : List ℕ → ViewError → Type 0
 IsNotWhole text OrderOutsideLimits = plan.plan_of text ≡ Err plan_fault.Limit
 IsNotWhole text (Plan run_fault.Mismatch) = Unit {0}
 IsNotWhole text Memory = Unit {0}
 IsNotWhole text fault = ⊥
 
--- the reason why a plan is not written with such a schedule
+-- the reason why a plan is not reordered: with its new schedule it exceeds a plan's limits, there is a mismatch, or
+-- allocation failed
 abbrev pub IsNotReordered : ViewError → Type 0
 IsNotReordered OrderOutsideLimits = Unit {0}
 IsNotReordered (Plan run_fault.Mismatch) = Unit {0}
@@ -52,7 +54,7 @@ IsNotReordered fault = ⊥
 
 -- ---- the end
 
--- the input is a plan, and so is the text, with such a schedule
+-- the input is a plan, and the text is a plan with a complete schedule under the policy
 pub record IsReorderedIn (turns : SchedulingPolicy) (input : Option (List ℕ)) (text : List ℕ) : Type 0 where
   pub read : plan.Plan
   pub of_input : IsPlanOf input read
@@ -70,7 +72,7 @@ pub record IsReorderCut (turns : SchedulingPolicy) (input old new : Option (List
   pub is_text : IsReorderedIn turns input text
   pub written : AppendsFront old new text
 
--- a device failed: nothing was written if it was a read, and a prefix of the text if it was a write
+-- after a failed read nothing was written, and after a failed write a prefix of the text
 abbrev pub IsReorderEndOfDevice : SchedulingPolicy → Bool → Option (List ℕ) → Option (List ℕ) → Option (List ℕ) → Type 0
 IsReorderEndOfDevice turns true input old new = Keeps old new
 IsReorderEndOfDevice turns false input old new = IsReorderCut turns input old new

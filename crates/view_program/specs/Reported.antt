@@ -12,12 +12,12 @@ pub record Line : Type 0 where
   pub turn : Turn
   pub noted : List EndOfStep
 
--- Either no end is noted of the turn, which is not refused; or one of its build is, with the refusal in its answer.
+-- Either the turn is not refused and no step outcome is noted, or one is, of its build and with its refusal, if any.
 abbrev pub IsEndOfTurn : Line → Type 0
 IsEndOfTurn line = ((line.noted ≡ []) × (refusal_of_turn line.turn.told ≡ None))
     ⊎ ((step : ℕ) × (line.noted ≡ record { build = line.turn.build; step = step; refusal = refusal_of_turn line.turn.told } ∷ []))
 
--- A run of the plan leads here, and these are the ends of its turns' steps.
+-- A run of the plan leads from `host` to `to`, and the step outcomes noted at its turns are `ends`.
 pub record AreTold (plan : Plan) (host to : HostView) (ends : List EndOfStep) : Type 0 where
   pub lines : List Line
   pub last : Position

@@ -28,8 +28,8 @@ AreInRotation from (choice ∷ choices) =
 abbrev pub AreOneByOne : List Choice → Type 0
 AreOneByOne choices = All (λ choice. lowest_of choice.left ≡ Some choice.build) choices
 
--- The builds of the turns of a run. Each turn is of a build that has a step left, which is chosen by the rule, and in
--- the end no build has one.
+-- The schedule of a complete run, with choices by the rule. Each turn is of a build that has a step left, and in the
+-- end no build has one.
 pub record IsWholeSchedule (rule : List Choice → Type 0) (plan : Plan) (host : HostView) (order : List ℕ) : Type 0 where
   pub choices : List Choice
   pub to : HostView
@@ -38,8 +38,7 @@ pub record IsWholeSchedule (rule : List Choice → Type 0) (plan : Plan) (host :
   pub by_rule : rule choices
   pub order_is : order ≡ chosen_schedule choices
 
--- From this stage on builds take turns in rotation, until none has a step left: these are `choices`, and the run
--- leads to `to`.
+-- From this stage builds take turns in rotation, from build 0 on, until none has a step left. The choices lead to `to`.
 pub record IsRotatedTo (plan : Plan) (from : Stage) (choices : List Choice) (to : Stage) : Type 0 where
   pub are_in_rotation : AreInRotation 0 choices
   pub chosen : AreChosen plan from choices to

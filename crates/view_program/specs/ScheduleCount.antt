@@ -2,7 +2,7 @@
 use Rattle.std.specs.Prelude.{◌≡◌, ℕ, true, List, All, AllPairs, Contains, length}
 use Rattle.plan_states.specs.Tallies.{is_before}
 
--- So many schedules are like that: they are listed in lexicographic order, and none is missing.
+-- Exactly `count` schedules satisfy `like`: they are listed in lexicographic order, and none is missing.
 pub record IsNumberOf (like : List ℕ → Type 0) (count : ℕ) : Type 0 where
   pub schedules : List (List ℕ)
   pub each : All like schedules

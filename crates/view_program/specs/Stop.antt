@@ -26,7 +26,7 @@ abbrev pub view_fault_of_read : ReadError → ViewError
 view_fault_of_read read_error.Memory = Memory
 view_fault_of_read read_error.Device = Device
 
--- a verdict ends the program with 0, unless a plan has errors
+-- the exit status of a verdict: 1 if a plan has errors, and else 0
 abbrev pub view_verdict_status : ViewOutcome → ℕ
 view_verdict_status Done = 0
 view_verdict_status HasErrors = 1

@@ -12,7 +12,8 @@ pub record AreLinesTaken (input : Option (List ℕ)) (old new : HostView) : Type
   pub of_input : IfSome input (λ bytes. lines_in bytes ≡ lines)
   pub taken : AreTaken old lines new
 
--- a host does not apply this line, whose number follows from the number of its events
+-- The host does not apply this line, for the reason in the error. The line's number is that of the host's events plus
+-- 2.
 abbrev pub IsUntaken : HostView → List ℕ → ViewError → Type 0
 IsUntaken host line (NoEvent number) = (number ≡ length host.history + 2) × IsNoEvent line
 IsUntaken host line (Refused number why words) = (number ≡ length host.history + 2) × IsEventRefused why host line

@@ -12,7 +12,7 @@ pub record Sighting (K : Type 0) : Type 0 where
 abbrev pub is_shown : {K : Type 0} → (K → K → Bool) → List (Sighting K) → K → Bool
 is_shown same seen outcome = list_any (λ s. same s.outcome outcome) seen
 
--- The outcomes that are new, if `earlier` are known.
+-- The first sighting of each outcome that is not in `earlier`.
 abbrev pub firsts : {K : Type 0} → (K → K → Bool) → List (Sighting K) → List (Sighting K) → List (Sighting K)
 firsts same earlier [] = []
 firsts same earlier (s ∷ seen) =
@@ -22,11 +22,11 @@ firsts same earlier (s ∷ seen) =
 abbrev pub times : {K : Type 0} → (K → K → Bool) → List (Sighting K) → K → ℕ
 times same seen outcome = count_by (λ s. same outcome s.outcome) seen
 
--- Each outcome, in the order of their first times.
+-- Each outcome once, with its count and its first schedule, in the order of first sightings.
 unfoldable pub counted : {K : Type 0} → (K → K → Bool) → List (Sighting K) → List (PathCount K)
 counted same seen = map (λ s. record { outcome = s.outcome; count = times same seen s.outcome; first = s.order }) (firsts same [] seen)
 
--- an outcome with its count, once `outcome` is counted once more
+-- an outcome's count, raised by one if the outcome is the same as `outcome`
 abbrev pub bump : {K : Type 0} → (K → K → Bool) → K → PathCount K → PathCount K
 bump same outcome c = record c { count = if same c.outcome outcome then c.count + 1 else c.count }
 

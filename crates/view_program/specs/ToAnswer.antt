@@ -9,7 +9,7 @@ use Rattle.plan_states.specs.declared.question.TurnQuestion.TheVariants as searc
 use Rattle.command_line.specs.declared.realmview.ScheduleQuestion.{ScheduleQuestion}
 use Rattle.command_line.specs.declared.realmview.ScheduleQuestion.TheVariants.{Refused, Waiting, Leased}
 
--- the question of the search
+-- the question that the search gets for a question on the command line
 abbrev pub question_of_options : ScheduleQuestion → TurnQuestion
 question_of_options (Refused place) = search.Refused place.build place.step
 question_of_options (Waiting build) = search.Waiting build
@@ -40,13 +40,14 @@ pub record IsPlanTo (question : TurnQuestion) (order text : List ℕ) : Type 0 w
   pub has_order : read.order ≡ order
   pub answers : EndsWithAnswer read question order
 
--- such a plan with the shortest schedule of the given one
+-- the text is a plan with the first of the shortest schedules that answer the question
 pub record IsShortestPlan (most : ℕ) (question : TurnQuestion) (plan : Plan) (text : List ℕ) : Type 0 where
   pub order : List ℕ
   pub shortest : IsShortest plan most question order
   pub is_plan : IsPlanTo question order text
 
--- such a plan, or the line that there is none, or that there are more states
+-- The text is a plan with the first of the shortest schedules that answer the question. Or it is a line: no schedule
+-- does, or there are more than `most` states.
 abbrev pub IsAnswerText : ℕ → ScheduleQuestion → Plan → List ℕ → Type 0
 IsAnswerText most asked plan text =
     IsShortestPlan most (question_of_options asked) plan text

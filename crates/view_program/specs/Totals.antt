@@ -30,7 +30,7 @@ ends_seen visit = map (sighting_in visit.choices) visit.ends
 abbrev pub map_seen : Visit → Sighting (String Global)
 map_seen visit = sighting_in visit.choices visit.map
 
--- a step of the build that was refused
+-- whether this is the outcome of a refused step of the build
 abbrev pub refuses : ℕ → EndOfStep → Bool
 refuses build end = end.build == build && is_some end.refusal
 

@@ -11,7 +11,7 @@ abbrev pub is_of_many : Option PlanStep → Bool
 is_of_many None = false
 is_of_many (Some step) = undoes_many step
 
--- Undos are left only of a step that undoes any number of operations.
+-- There are eight places, and a build has undos left only in a step that undoes any number of operations.
 pub record AreSteady (plan : Plan) (places : List PlanCursor) : Type 0 where
   pub all : length places ≡ 8
   pub steady : (build : ℕ) → is_of_many (step_after plan build (place_of places build).done) ≡ false → (place_of places build).left ≡ 0

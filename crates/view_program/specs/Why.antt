@@ -10,7 +10,7 @@ use Rattle.explain.specs.declared.explained.ExplainedTurn.{ExplainedTurn}
 use Rattle.explain.specs.declared.explained.Explanation.{Explanation}
 use Rattle.realm_program.specs.Replay.{opening_host}
 
--- Below the line of a turn that is refused there are words, and below any other nothing.
+-- There is nothing below the line of a turn without an explanation; below one that has it there can be anything.
 abbrev pub IsBelow : Option Explanation → List ℕ → Type 0
 IsBelow None below = below ≡ []
 IsBelow (Some reason) below = Unit {0}

@@ -1,4 +1,4 @@
-//! The application of a history's lines to a host.
+//! Functions that read the lines of a history and apply them to a host.
 ghost use Rattle.std.specs.Prelude.{◌≡◌, ◌↔◌, ◌+◌, true, false, length, Err, IfOk, IfErr, OnOk};
 ghost use Rattle.std.specs.Io.KnownBytes.{prepend_known};
 ghost use Rattle.checked_io.specs.Lines.{IsLine};

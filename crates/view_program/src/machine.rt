@@ -1,4 +1,4 @@
-//! The booting of a host for the machine of a history.
+//! Boots a host for the machine that a history describes.
 ghost use Rattle.std.specs.Prelude.{◌≡◌, IfOk};
 ghost use Rattle.history_text.specs.Histories.{IsSize};
 ghost use Rattle.view_program.specs.Applied.{host_of_opening};

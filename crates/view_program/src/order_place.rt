@@ -11,8 +11,8 @@ use toml_parser::{Key, ParseError, dotted_key, quoted, starts_string, unquoted};
 pub struct OrderPlace {
     pub from: usize,
     pub to: usize,
-    /// Whether a plan's text has a key `order`, whose value is this part. If not, a line with the key can be put at the
-    /// place of this part.
+    /// Whether this part is the value of the key `order` in a plan's text. If not, a line with the key can be put at
+    /// the place of this part.
     pub is_value: bool,
 }
 
@@ -21,7 +21,7 @@ pub struct OrderPlace {
 enum KeyReadError {
     /// A failed allocation.
     Memory,
-    /// A syntax error in a key or value of a plan's text.
+    /// An item other than the expected one.
     Unread,
 }
 

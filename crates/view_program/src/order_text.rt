@@ -2,10 +2,11 @@
 use std::alloc::{AllocError, Global};
 use std::fmt;
 
-/// The maximum number of turns in a schedule's text of a single line. Such a line has up to 100 columns.
+/// The maximum number of turns in a schedule whose text is a single line. Such a line has up to 100 columns.
 const MOST_ON_ONE: usize = 30;
 
-/// The maximum number of turns on each line of a longer schedule's text. Such a line has up to 100 columns too.
+/// The maximum number of turns per line if a schedule's text takes several lines. Such a line has up to 100 columns
+/// too.
 const TURNS_A_LINE: usize = 32;
 
 /// The builds of a schedule's turns, displayed as numbers with commas between them.

@@ -6,8 +6,8 @@ use realm_program::boot;
 use serde::Serialize;
 use std::alloc::{AllocError, Global};
 
-/// A turn whose step is refused, with the failed check and a step that helps. Turns are counted from 0 as in the
-/// document of the run, and the helping step is empty if there is none.
+/// A refused turn, with its failed check and a step proposed as help. Turns are counted from 0 as in the document of
+/// the run, and the proposed step is empty if there is none.
 #[derive(Drop, Serialize)]
 pub(crate) struct RefusedTurn {
     turn: usize,

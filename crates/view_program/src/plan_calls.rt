@@ -37,7 +37,8 @@ fn is_beside_ram(host: &Host<BuddyArena>, event: &Event) -> bool {
     }
 }
 
-/// The text of the RMM calls in a plan's run so far. `runs` has the pages for the exits from running RECs.
+/// A text under construction that lists the RMM calls of a plan's run. `runs` has the pages for the exits from running
+/// RECs.
 #[derive(Drop)]
 struct CallsText {
     text: String,

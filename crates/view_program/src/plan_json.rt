@@ -1,4 +1,4 @@
-//! The JSON documents of plans' runs.
+//! The JSON document that describes the run of a plan.
 ghost use Rattle.std.specs.Prelude.{None, IfOk};
 ghost use Rattle.realm_plan.specs.PlanView.{plan_view};
 ghost use Rattle.realm_program.specs.Replay.{IsWithoutText, opening_host};
@@ -22,7 +22,7 @@ pub(crate) fn run_of(alloc: Global, plan: &Plan) -> Result<(Document, HostLedger
     Ok((document, host.into_ledger()))
 }
 
-/// The JSON documents of plans' runs. A plan has none only if allocation failed.
+/// The JSON document that describes the run of a plan. A plan has none only if allocation failed.
 #[derive(Drop)]
 pub struct Documents;
 

@@ -65,8 +65,8 @@ fn with_part(
     Ok(text)
 }
 
-/// Returns a plan's text with the schedule `order`. `order` takes the place of the plan's own schedule. The one error
-/// is that allocation failed.
+/// Returns a plan's text with `order` as its schedule. The plan's own schedule is left out. The one error is that
+/// allocation failed.
 pub(crate) fn with_order(
     alloc: Global,
     bytes: &[u8],

@@ -1,4 +1,4 @@
-//! The texts of plans' runs, with the reasons for refusals.
+//! The text of a plan's run, with the reason for each refusal.
 ghost use Rattle.std.specs.Prelude.{◌≡◌, None, OnOk, IfOk, string_bytes};
 ghost use Rattle.realm_plan.specs.PlanView.{plan_view};
 ghost use Rattle.realm_program.specs.Replay.{IsWithoutText};
@@ -72,9 +72,9 @@ fn why_text(alloc: Global, plan: &Plan, all: bool) -> Result<String, AllocError>
     Ok(text)
 }
 
-/// The texts of plans' runs, with the reasons for refusals. They have the line of each turn, with the check that fails
-/// below it if it is refused. Then they have the final map, and what each unfinished abort lacks. A plan has none only
-/// if allocation failed.
+/// The text of a plan's run, with the reason for each refusal. It has the line of each turn, with the check that fails
+/// below it if it is refused. Then it has the final map, and what each unfinished abort lacks. A plan has none only if
+/// allocation failed.
 #[derive(Drop)]
 pub struct Reasons {
     /// Whether the checks that passed before the failed check are listed too.

@@ -1,4 +1,4 @@
-//! The text of the outcomes of a plan's possible schedules.
+//! The text that the subcommand `explore` prints about a plan's possible schedules.
 ghost use Rattle.std.specs.Prelude.{◌≡◌, IfOk, IfErr, string_bytes};
 ghost use Rattle.realm_plan.specs.PlanView.{plan_view};
 ghost use Rattle.view_program.specs.Lines.{drawn_text};
@@ -44,13 +44,13 @@ fn orders_text_of<P: Progress>(
     alloc: Global,
     plan: &Plan,
     source: &[u8],
-    schedule_count: Schedules,
+    schedules: Schedules,
     progress: &P,
 ) -> Result<Vec<u8>, Fault>
-    ensures ok { IfOk result (λ text. IsSchedulesText schedule_count (plan_view plan.now) text.items) }
-    ensures err { IfErr result (IsWithoutSchedules schedule_count (plan_view plan.now)) }
+    ensures ok { IfOk result (λ text. IsSchedulesText schedules (plan_view plan.now) text.items) }
+    ensures err { IfErr result (IsWithoutSchedules schedules (plan_view plan.now)) }
 {
-    match schedule_count {
+    match schedules {
         Schedules::All(most) => Ok(states_text(alloc, plan, most as usize)?.into_bytes()),
         Schedules::Drawn(count, seed) => {
             Ok(run_drawn_of(alloc, plan, count, seed, progress)?.into_bytes())
@@ -69,15 +69,17 @@ fn plan_after(after: AfterRefusal, plan: Plan) -> Plan
     }
 }
 
-/// A text that counts the outcomes of a plan's possible schedules. The plan's own schedule has no effect on the
-/// outcomes. It has the number of schedules, and counts of the steps' outcomes, of builds without a refusal, and of
-/// final maps. Each outcome has the first schedule that shows it.
+/// A text that counts the outcomes of a plan's schedules: of all of them, or of those drawn at random. The plan's own
+/// schedule has no effect on the outcomes. The text has the number of schedules, and counts of the steps' outcomes, of
+/// builds without a refusal, and of final maps. Each outcome that some but not all schedules have comes with the first
+/// schedule that shows it. If a shortest schedule is asked for, the text is the plan with that schedule. If there is no
+/// such schedule, or if there are too many states, the text is a line that says so.
 ///
 /// A plan has no such text if a run does not go on as another one said (Mismatch), or if allocation failed.
 #[derive(Drop)]
 pub struct Exploring<'a, P> {
     /// The schedules to explore: all of them, randomly drawn ones, or a shortest one.
-    pub schedule_count: Schedules,
+    pub schedules: Schedules,
     /// Whether the builds go on or give up after a refusal.
     pub after: AfterRefusal,
     /// The receiver of progress reports. Each schedule that is drawn and run is reported to it.
@@ -85,12 +87,12 @@ pub struct Exploring<'a, P> {
 }
 
 impl<P: Progress> ViewText for Exploring<'_, P> {
-    ghost is_text = { λ asked. IsExploredText asked.schedule_count asked.after };
+    ghost is_text = { λ asked. IsExploredText asked.schedules asked.after };
 
-    ghost is_without = { λ asked. IsWithoutExplored asked.schedule_count asked.after };
+    ghost is_without = { λ asked. IsWithoutExplored asked.schedules asked.after };
 
     fn text_of(&self, alloc: Global, plan: Plan, source: &[u8]) -> Result<Vec<u8>, Fault> {
         let plan = plan_after(self.after, plan);
-        orders_text_of(alloc, &plan, source, self.schedule_count, self.progress)
+        orders_text_of(alloc, &plan, source, self.schedules, self.progress)
     }
 }

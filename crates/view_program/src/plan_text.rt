@@ -15,8 +15,8 @@ pub trait ViewText {
 
     ghost is_without: { Self → PlanModel → FaultModel → Type 0 };
 
-    /// Makes the text of this kind from a plan, complete in memory. The error is the reason why there is no text.
-    /// `source` has the bytes of the plan's input, with its comments.
+    /// Returns the complete text of this kind for a plan. The error is the reason why there is no text. `source` has
+    /// the bytes of the plan's input, with its comments.
     fn text_of(&self, alloc: Global, plan: Plan, source: &[u8]) -> Result<Vec<u8>, Fault>
         ensures ok { IfOk result (λ text. is_text self.now (plan_view plan) text.items) }
         ensures err { IfErr result (λ fault. is_without self.now (plan_view plan) fault) }

@@ -1,4 +1,4 @@
-//! The reading of plans, and the printing of their texts.
+//! Functions that parse a plan, and print a text made from it.
 ghost use Rattle.std.specs.Prelude.{◌≡◌, ◌↔◌, ◌⊎◌, false, true, Err, IfOk, IfErr};
 ghost use Rattle.realm_plan.specs.Plan.{plan_of};
 ghost use Rattle.realm_plan.specs.PlanView.{plan_view};

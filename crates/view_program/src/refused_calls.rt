@@ -1,4 +1,4 @@
-//! The RMI calls for a host's commands that the RMM refuses.
+//! The operations, such as RMI calls, for a command that the RMM refuses.
 //!
 //! This project's RMM refuses some commands that RMM 1.0 accepts, or refuses with another word.
 use buddy::BuddyArena;
@@ -39,8 +39,8 @@ fn is_of_the_standard(host: &Host<BuddyArena>, build: BuildId, cmd: &Cmd, rmi: R
     }
 }
 
-/// Returns the RMM 1.0 operations for a host's command that was just refused. `None` if RMM 1.0 has no such call or may
-/// answer otherwise. The page for exits is one that no REC uses before all others are in use.
+/// Returns the operations, such as RMI calls, for a command that the RMM has just refused. `None` if RMM 1.0 has no
+/// such call or may answer otherwise. The page for exits is one that no REC uses before all others are in use.
 pub(crate) fn refused_calls(
     frame: Frame,
     host: &Host<BuddyArena>,

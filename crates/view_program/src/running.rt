@@ -1,4 +1,4 @@
-//! The dispatch of the subcommands of `realmview`.
+//! The function that performs the requested subcommand of `realmview`.
 ghost use Rattle.std.specs.Prelude.{◌≡◌, ◌↔◌, ◌⊎◌, false, true, Err};
 ghost use Rattle.view_program.specs.Printed.{IsRunEnd};
 ghost use Rattle.view_program.specs.declared.fault.ViewError.TheVariants.{Device};
@@ -40,9 +40,9 @@ pub fn run<R: Read, W: Write, P: Progress>(
         ViewSubcommand::Json => print(&Documents, alloc, source, input, output)?,
         ViewSubcommand::Page => print(&Pages, alloc, source, input, output)?,
         ViewSubcommand::Check => return check(alloc, source, input, output),
-        ViewSubcommand::Explore(schedule_count, after) => {
+        ViewSubcommand::Explore(schedules, after) => {
             let exploring = Exploring {
-                schedule_count,
+                schedules,
                 after,
                 progress,
             };

@@ -22,7 +22,7 @@ use Rattle.rmm_model.specs.Command.Operand.{host_checks, delegated_checks, rd_ch
 
 -- ---- checks
 
--- the flags have bit 0 alone, if the settings say that they are checked
+-- no bit above bit 0 of the flags is set, unless the settings ignore these bits
 abbrev pub are_flags_valid : RmmSettings → ℕ → Bool
 are_flags_valid s flags = s.ignores_data_flags || nat_le flags 1
 
@@ -36,7 +36,7 @@ source_checks m page source flags =
 abbrev pub is_ripas_right : RmmSettings → RmmRttEntry → Bool
 is_ripas_right s entry = not s.data_needs_ram || is_ram (ripas_in entry)
 
--- a walk that reaches an UNASSIGNED entry of level 3
+-- checks that a walk reached an UNASSIGNED entry of level 3, with an allowed RIPAS
 abbrev pub vacancy_checks : RmmSettings → Walked → RmmRttEntry → List Check
 vacancy_checks s found entry =
     entry_checks (RealmState ∷ []) found 3 (is_unassigned entry) error_rtt

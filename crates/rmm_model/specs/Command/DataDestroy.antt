@@ -11,7 +11,7 @@ use Rattle.rmm_model.specs.Machine.{Machine, with_blank}
 use Rattle.rmm_model.specs.Walk.{entry_at, with_entry, memory_below, walk, top}
 use Rattle.rmm_model.specs.Command.Operand.{rd_checks, realm_at, page_checks, entry_checks}
 
--- the RIPAS after memory of a RIPAS is destroyed
+-- the RIPAS that a destroyed page leaves: EMPTY remains, and any other becomes DESTROYED
 abbrev pub left_ripas : RmmRipas → RmmRipas
 left_ripas Empty = Empty
 left_ripas _ = Destroyed

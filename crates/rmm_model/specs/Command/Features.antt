@@ -4,7 +4,7 @@ use Rattle.rmi_abi.specs.Features.{feature_register}
 use Rattle.rmm_model.specs.Check.{Command, success}
 use Rattle.rmm_model.specs.Machine.{Machine}
 
--- A feature register. RMM 1.0, RMI_FEATURES.
+-- The value of a feature register is returned. RMM 1.0, RMI_FEATURES.
 unfoldable pub features : ℕ → Machine → Command
 features index m = record {
   checks = [];

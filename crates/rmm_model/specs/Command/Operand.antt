@@ -40,7 +40,7 @@ host_checks align bound pas m address =
 abbrev pub rd_checks : Machine → ℕ → List Check
 rd_checks m rd = address_checks RdAlign RdBound m rd ++ check RdState (RdBound ∷ []) (is_none (realm_of (state_at m rd))) error_input ∷ []
 
--- the realm of the RD at an address
+-- the realm whose RD is at an address; `no_realm` if no RD is
 abbrev pub realm_at : Machine → ℕ → RmmRealm
 realm_at m rd = unwrap_or (realm_of (state_at m rd)) no_realm
 
@@ -67,7 +67,8 @@ is_level least level = nat_le least level && nat_le level 3
 abbrev pub is_multiple : ℕ → ℕ → Bool
 is_multiple ipa size = ipa % size == 0
 
--- a level that is at least that one, and an address of the realm at which an entry of the level that many above begins
+-- checks of a level and an IPA. The level is between `least` and 3. The IPA is in the realm's address space, and
+-- aligned to an entry of level `level - above`.
 abbrev pub ipa_checks : RmmRealm → ℕ → ℕ → ℕ → ℕ → List Check
 ipa_checks realm least level above ipa =
     check LevelBound (RdState ∷ []) (not (is_level least level)) error_input
@@ -80,8 +81,7 @@ page_checks realm ipa =
     check IpaAlign [] (not (is_multiple ipa 4096)) error_input
     ∷ check IpaBound (RdState ∷ []) (not (is_protected realm ipa)) error_input ∷ []
 
--- a level at which there are pages or blocks, and an address of the realm's unprotected half at which an entry of the
--- level begins
+-- checks that a level allows pages or blocks, and that an IPA is unprotected and aligned to it
 abbrev pub unprotected_checks : RmmSettings → RmmRealm → ℕ → ℕ → List Check
 unprotected_checks s realm level ipa =
     check LevelBound (RdState ∷ []) (not (nat_le s.block_level level && is_level realm.start_level level)) error_input
@@ -90,7 +90,8 @@ unprotected_checks s realm level ipa =
 
 -- ---- walks
 
--- a walk reaches a level, to an entry that is as required; if it does not, the answer has the level at which it ended
+-- checks that a walk reached a level, and that the entry is as required. A failure is answered with the level at which
+-- the walk ended.
 abbrev pub entry_checks : List Condition → Walked → ℕ → Bool → (ℕ → SmcResult) → List Check
 entry_checks more found level is answer =
     check RttWalk (RdState ∷ IpaAlign ∷ IpaBound ∷ more) (not (found.level == level)) (answer found.level)

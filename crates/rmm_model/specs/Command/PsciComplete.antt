@@ -22,7 +22,7 @@ psci_denied = 2 ^ 64 - 3
 abbrev pub psci_already_on : ℕ
 psci_already_on = 2 ^ 64 - 4
 
--- the state of a processor that AFFINITY_INFO gives
+-- the result of AFFINITY_INFO for a processor that is off
 abbrev pub psci_off : ℕ
 psci_off = 1
 
@@ -45,22 +45,22 @@ abbrev pub can_be_denied : PsciRequest → Bool
 can_be_denied (CpuOn target entry_point context) = true
 can_be_denied _ = false
 
--- the host may give that status
+-- the host may answer a request with the status: SUCCESS, or DENIED if it can be denied
 abbrev pub is_status : PsciRequest → ℕ → Bool
 is_status request status = status == psci_success || (status == psci_denied && can_be_denied request)
 
--- the result of a request, whose target is on or not
+-- the PSCI result of a request, given whether its target is on and the host's status
 abbrev pub psci_result : PsciRequest → Bool → ℕ → ℕ
 psci_result (CpuOn target entry_point context) on status = if on then psci_already_on else status
 psci_result _ on status = if on then psci_success else psci_off
 
--- two granules are of one realm
+-- two granules have the same owner, or neither has one
 abbrev pub is_same_owner : Option ℕ → Option ℕ → Bool
 is_same_owner (Some a) (Some b) = a == b
 is_same_owner None None = true
 is_same_owner _ _ = false
 
--- two RECs of one realm, of which the second is the target of the first's request, and a status that fits it
+-- checks that a REC's pending request names the target REC, of its realm, and that the status is allowed
 unfoldable pub request_checks : Machine → ℕ → RmmRec → ℕ → RmmRec → ℕ → List Check
 request_checks m calling caller target named status =
     check Pending (CallingState ∷ []) (not (is_pending caller.psci)) error_input
@@ -70,22 +70,22 @@ request_checks m calling caller target named status =
 
 -- ---- the effect
 
--- the machine with other attributes of a REC
+-- the machine after the attributes of a REC are replaced
 abbrev pub with_rec : Machine → ℕ → RmmRec → Machine
 with_rec m granule rec = with_granule m granule (record (granule_at m granule) { state = IsRec rec })
 
--- the REC begins at an entry point, with a context in its first general-purpose register
+-- the machine in which a REC has an entry point as its pc, and a context in X0
 abbrev pub with_start : Machine → ℕ → ℕ → ℕ → Machine
 with_start m granule entry_point context = with_word (with_word m granule 31 entry_point) granule 0 context
 
--- the machine in which a CPU_ON that succeeds has begun its target
+-- the machine after a CPU_ON, if it succeeds, makes its target runnable at the entry point
 abbrev pub with_target : Machine → ℕ → RmmRec → PsciRequest → Bool → Machine
 with_target m granule rec (CpuOn target entry_point context) true =
     with_start (with_rec m granule (record rec { is_runnable = true })) granule entry_point context
 with_target m granule rec request begins = m
 
--- The PSCI request of a REC is complete, and its guest gets the result. A CPU_ON that succeeds begins the target.
--- RMM 1.0, RMI_PSCI_COMPLETE.
+-- The host completes the PSCI request of a REC, with a result for the guest. A CPU_ON that succeeds makes its target
+-- runnable. RMM 1.0, RMI_PSCI_COMPLETE.
 unfoldable pub psci_complete : ℕ → ℕ → ℕ → Machine → Command
 psci_complete calling target status m =
     let caller = rec_at m calling in

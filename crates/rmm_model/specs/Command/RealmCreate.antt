@@ -29,12 +29,12 @@ use Rattle.rmm_model.specs.Command.Operand.{host_checks, delegated_checks}
 unfoldable pub params_at : Machine → ℕ → RealmParams
 params_at m params = realm_params_in (page_in m (number_of m params))
 
--- breakpoints, watchpoints and vectors are at most those of feature register 0
+-- breakpoints and watchpoints are at most those of feature register 0, and sve_vl is 0
 abbrev pub fits_features : RmmSettings → RealmParams → Bool
 fits_features s p = nat_le p.num_bps s.bps && nat_le p.num_wps s.wps && p.sve_vl == 0
 
--- No flag is set, and the width is one that the RMM supports. So are the fields, if the settings say that they are
--- checked.
+-- The flags are 0, and the RMM supports the IPA width. If the settings check parameters, the breakpoints, the
+-- watchpoints and sve_vl fit feature register 0 too.
 abbrev pub is_supported : RmmSettings → RealmParams → Bool
 is_supported s p = p.flags == 0 && nat_le 32 p.s2sz && nat_le p.s2sz s.s2sz && (not s.checks_params || fits_features s p)
 
@@ -42,7 +42,7 @@ is_supported s p = p.flags == 0 && nat_le 32 p.s2sz && nat_le p.s2sz s.s2sz && (
 abbrev pub is_start_table : RealmParams → ℕ → Bool
 is_start_table p rd = nat_le p.rtt_base rd && nat_lt (rd - p.rtt_base) (p.rtt_num_start * 4096) && (rd - p.rtt_base) % 4096 == 0
 
--- parameters of a realm that there can be, whose RD is none of its starting tables
+-- checks that realm parameters are valid and supported, and that the RD is no starting table
 unfoldable pub params_checks : RmmSettings → RealmParams → ℕ → List Check
 params_checks s p rd =
     check ParamsValid (ParamsPas ∷ []) (not (nat_le p.hash_algo 1)) error_input
@@ -53,12 +53,12 @@ params_checks s p rd =
 
 -- ---- starting tables
 
--- that many granules from one on are all DELEGATED
+-- each of a number of adjacent granules, from the first on, is DELEGATED
 unfoldable pub are_delegated : Machine → ℕ → ℕ → Bool
 are_delegated m first zero = true
 are_delegated m first (suc count) = is_delegated (granule_at m first).state && are_delegated m (first + 1) count
 
--- that many granules from an address on are granules of the machine
+-- a number of adjacent granules, from an address on, are all in the machine
 abbrev pub is_range_inside : Machine → ℕ → ℕ → Bool
 is_range_inside m base count = is_inside m base && nat_le (number_of m base + count) (granule_count m)
 
@@ -104,7 +104,7 @@ start_entry realm n = if is_protected realm (n * entry_size realm.start_level) t
 unfoldable pub start_page : RmmRealm → ℕ → List ℕ
 start_page realm k = with_words 512 (λ i. entry_word (start_entry realm (k * 512 + i))) zero_page
 
--- the machine with the first starting tables of a realm
+-- the machine after the first k starting tables of a realm are initialized
 unfoldable pub with_tables : Machine → ℕ → RmmRealm → ℕ → Machine
 with_tables m rd realm zero = m
 with_tables m rd realm (suc k) =

@@ -8,7 +8,7 @@ use Rattle.rmm_model.specs.Machine.{Machine, number_of, page_in, with_blank, wit
 use Rattle.rmm_model.specs.Table.{has_live}
 use Rattle.rmm_model.specs.Command.Operand.{rd_checks, realm_at}
 
--- one of that many tables, from one on, has a live entry
+-- at least one of a number of adjacent tables, from the first on, has a live entry
 unfoldable pub has_live_table : Machine → ℕ → ℕ → Bool
 has_live_table m first zero = false
 has_live_table m first (suc count) = has_live (page_in m first) || has_live_table m (first + 1) count
@@ -17,7 +17,7 @@ has_live_table m first (suc count) = has_live (page_in m first) || has_live_tabl
 unfoldable pub is_realm_live : Machine → RmmRealm → Bool
 is_realm_live m realm = nat_lt 0 realm.rec_count || has_live_table m realm.first_table realm.table_count
 
--- the machine without the first starting tables of a realm, which are DELEGATED and zero
+-- the machine after the first k starting tables of a realm become DELEGATED and are wiped
 unfoldable pub without_tables : Machine → RmmRealm → ℕ → Machine
 without_tables m realm zero = m
 without_tables m realm (suc k) = with_blank (without_tables m realm k) (realm.first_table + k) Delegated

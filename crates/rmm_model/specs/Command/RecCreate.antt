@@ -20,12 +20,12 @@ use Rattle.rmm_model.specs.Command.Operand.{host_checks, delegated_checks, rd_ch
 
 -- ---- auxiliary granules
 
--- that many numbers from one on pass a test
+-- each of a number of consecutive numbers, from `i` on, passes a test
 unfoldable pub all_from : (ℕ → Bool) → ℕ → ℕ → Bool
 all_from test i zero = true
 all_from test i (suc count) = test i && all_from test (i + 1) count
 
--- each of the first auxiliary granules that parameters name passes a test
+-- each of the first `count` auxiliary granule addresses in REC parameters passes a test
 abbrev pub all_aux : (ℕ → Bool) → List ℕ → ℕ → Bool
 all_aux test page count = all_from (λ k. test (aux_in page k)) 0 count
 
@@ -37,7 +37,7 @@ is_apart rec page k = not (aux_in page k == rec) && all_aux (λ address. not (ad
 abbrev pub can_be_aux : Machine → ℕ → Bool
 can_be_aux m address = is_inside m address && is_delegated (state_at m address)
 
--- as many auxiliary granules as a REC has, all of them DELEGATED, and no two of them and the REC one
+-- checks that auxiliary granules have the required number, are DELEGATED, and differ from each other and the REC
 unfoldable pub aux_checks : Machine → List ℕ → ℕ → List Check
 aux_checks m page rec =
     check NumAux (ParamsPas ∷ []) (not (num_aux_in page == m.settings.aux)) error_input
@@ -48,7 +48,7 @@ aux_checks m page rec =
 
 -- ---- the new REC
 
--- the MPIDR of the next REC of a NEW realm that can have one more
+-- checks that a NEW realm can have one more REC, and that the MPIDR is valid and that of the next REC
 unfoldable pub number_checks : RmmSettings → List ℕ → RmmRealm → List Check
 number_checks s page realm =
     check ParamsValid (ParamsPas ∷ []) (not (is_mpidr (mpidr_in page))) error_input
@@ -56,8 +56,8 @@ number_checks s page realm =
     ∷ check RealmState (RdState ∷ []) (not (is_new realm.state)) error_realm
     ∷ check NumRecs (RdState ∷ []) (not (nat_lt realm.rec_count (2 ^ s.max_recs_order))) error_realm ∷ []
 
--- word k of the page of a new REC: general-purpose registers 0 to 7 and the pc are those of its parameters, the others
--- 0
+-- word k of the page of a new REC. General-purpose registers 0 to 7, the pc and the addresses of the auxiliary granules
+-- are those of its parameters, and all else is 0.
 abbrev pub rec_word : List ℕ → ℕ → ℕ
 rec_word page k =
     if nat_lt k 8 then gpr_in page k else
@@ -68,12 +68,12 @@ rec_word page k =
 unfoldable pub rec_page : List ℕ → List ℕ
 rec_page page = with_words 48 (rec_word page) zero_page
 
--- the machine with a new REC of an RD
+-- the machine after a granule becomes a new REC whose owner is the given RD
 abbrev pub with_created_rec : Machine → ℕ → ℕ → List ℕ → Machine
 with_created_rec m rd rec page =
     with_page (with_granule m rec (of_realm rd (IsRec (new_rec (is_runnable_in page) (mpidr_in page))))) rec (rec_page page)
 
--- a realm that was given one REC more, and measured it
+-- the realm after a REC is added and, if required, measured
 abbrev pub with_one_more : RmmSettings → RmmRealm → List ℕ → RmmRealm
 with_one_more s realm page = record realm { rim = rim_with_rec s realm page; next_rec = realm.next_rec + 1; rec_count = realm.rec_count + 1 }
 

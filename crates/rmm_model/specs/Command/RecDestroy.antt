@@ -18,7 +18,7 @@ abbrev pub without_rec_of : Machine → ℕ → Option RmmRealm → Machine
 without_rec_of m rd (Some realm) = with_granule m rd (of_no_realm (Rd (with_one_less realm)))
 without_rec_of m rd None = m
 
--- the machine in which the realm of an RD has one REC less
+-- the machine in which the realm with the given RD, if any, has one REC less
 abbrev pub without_rec : Machine → Option ℕ → Machine
 without_rec m (Some rd) = without_rec_of m rd (realm_of (granule_at m rd).state)
 without_rec m None = m

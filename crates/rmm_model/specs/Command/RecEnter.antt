@@ -67,7 +67,7 @@ abbrev pub with_realm_off : Machine → ℕ → Option RmmRealm → Machine
 with_realm_off m rd (Some realm) = with_granule m rd (of_no_realm (Rd (record realm { state = IsSystemOff })))
 with_realm_off m rd None = m
 
--- the realm of an RD is off
+-- the machine in which the realm with the given RD, if any, is SYSTEM_OFF
 abbrev pub with_system_off : Machine → Option ℕ → Machine
 with_system_off m (Some rd) = with_realm_off m rd (realm_of (granule_at m rd).state)
 with_system_off m None = m
@@ -78,7 +78,8 @@ is_emulatable _ = false
 
 -- ---- registers that are kept in pages
 
--- that many words of a page, from a place on, become those of another page from its first one on
+-- the machine after `count` words are copied from one granule's page to another's. The source begins at word `first`,
+-- the target at word `place`.
 unfoldable pub with_copied : Machine → ℕ → ℕ → ℕ → ℕ → ℕ → Machine
 with_copied m from first to place count =
     with_page m to (with_words_from place count (λ i. word_of_page (page_in m from) (first + (i - place))) (page_in m to))
@@ -87,17 +88,19 @@ with_copied m from first to place count =
 abbrev pub with_gprs : Machine → ℕ → ℕ → Machine
 with_gprs m g page = with_copied m page 64 g 0 31
 
--- a REC has the GIC fields of a run page, if they are checked. RMM 1.0, RmiRecEnter.gicv3_hcr, gicv3_lrs.
+-- the machine after a REC gets the GIC fields of a run page, if the settings check them. RMM 1.0,
+-- RmiRecEnter.gicv3_hcr, gicv3_lrs.
 unfoldable pub with_gic : Machine → ℕ → ℕ → Machine
 with_gic m g page = if m.settings.checks_gic then with_copied m page 96 g 192 17 else m
 
--- a run page has the GIC fields of a REC, if they are checked. RMM 1.0, RmiRecExit.gicv3_hcr, gicv3_lrs.
+-- the machine after a run page gets the GIC fields of a REC, if the settings check them. RMM 1.0,
+-- RmiRecExit.gicv3_hcr, gicv3_lrs.
 unfoldable pub with_exit_gic : Machine → ℕ → ℕ → Machine
 with_exit_gic m g page = if m.settings.checks_gic then with_copied m g 192 page 352 17 else m
 
 -- ---- exits
 
--- the upper half of a page is an exit
+-- the machine after the fields of an exit are written to the upper half of a page
 unfoldable pub with_exit_words : Machine → ℕ → RecExit → Machine
 with_exit_words m page exit = with_page m page (with_words_from 256 256 (exit_word exit) (page_in m page))
 
@@ -156,7 +159,7 @@ after_entry m g address flags =
 
 -- ---- steps
 
--- the outcome of a step
+-- the outcome of a guest's step: a result, an exit, or a guest that spins
 unfoldable pub step_outcome : Machine → RmmRealm → ℕ → ℕ → GuestStep → StepOutcome
 step_outcome m realm g flags (Write ipa value size) = tried (access m realm ipa true size (low_bytes size value))
 step_outcome m realm g flags (Read ipa size) = read_outcome m ipa size (access m realm ipa false size 0)
@@ -167,7 +170,7 @@ abbrev pub with_exit_of : Machine → ℕ → GuestStep → Bool → Machine
 with_exit_of m g step true = with_rec m g (rec_after_exit (rec_in m g) step)
 with_exit_of m g step false = m
 
--- the machine after what a step does
+-- the machine after the effect of a guest's step
 unfoldable pub after_step : Machine → RmmRealm → ℕ → GuestStep → StepOutcome → Machine
 after_step m realm g (Write ipa value size) outcome = after_write m ipa size value (access m realm ipa true size (low_bytes size value))
 after_step m realm g (Read ipa size) outcome = m
@@ -184,13 +187,14 @@ abbrev pub is_done : LastExit → Bool
 is_done SystemRegister = true
 is_done _ = false
 
--- the guest is past a step, but for one that made a SYNC exit, which it tries again
+-- the machine after a guest passes a step and gets its result, if any. A step with a SYNC exit is tried again, unless
+-- it writes a system register.
 abbrev pub with_step_passed : Machine → ℕ → StepOutcome → Machine
 with_step_passed m g (IsResult r) = with_result (past_step m g) g r
 with_step_passed m g (IsExit exit last) = if is_sync exit.reason && not (is_done last) then m else past_step m g
 with_step_passed m g Spins = past_step m g
 
--- an exit as by a timer of the host's, where a guest has no step
+-- the outcome if a guest has no step to perform: an IRQ exit, as by a timer of the host's
 abbrev pub no_step : StepOutcome
 no_step = IsExit (only_reason Irq) Other
 
@@ -203,7 +207,7 @@ after_step_in m (Some realm) g flags =
     with_step_passed (after_step m realm g (first_step m g) (step_outcome m realm g flags (first_step m g))) g (step_outcome m realm g flags (first_step m g))
 after_step_in m None g flags = m
 
--- The outcome of the first step of a guest, and the machine after it.
+-- The outcome of the first step of a guest; an IRQ exit if it has none.
 unfoldable pub first_step_outcome : Machine → ℕ → ℕ → StepOutcome
 first_step_outcome m g flags = if (rec_in m g).step_count == 0 then no_step else step_outcome_in m (owner_realm m g) g flags
 
@@ -215,22 +219,24 @@ continued (IsResult r) m g rest = rest
 continued (IsExit exit last) m g rest = (true, after_exit m g exit last)
 continued Spins m g rest = (false, m)
 
--- The guest performs at most that many steps, up to one that makes an exit or spins. Whether the REC left, and the machine then.
+-- Whether a REC exits, and the machine after its guest performs at most a given number of steps. The first step that
+-- causes an exit or spins is the last. If there is none, an IRQ exit follows.
 unfoldable pub after_steps : Machine → ℕ → ℕ → ℕ → Bool × Machine
 after_steps m g flags zero = (true, after_exit m g (only_reason Irq) Other)
 after_steps m g flags (suc count) = continued (first_step_outcome m g flags) (after_first_step m g flags) g (after_steps (after_first_step m g flags) g flags count)
 
 -- ---- the command
 
--- the host emulates an access, and the last exit was none that can be emulated
+-- the host sets EMUL_MMIO, but the last exit was no emulatable abort
 abbrev pub is_no_mmio : Attributes → ℕ → Bool
 is_no_mmio rec flags = emulates_mmio flags && not (is_emulatable rec.exit)
 
--- gicv3_hcr or a list register has a value that a host may not set, if they are checked
+-- the settings check the GIC fields, and gicv3_hcr or a list register of a run page is invalid
 unfoldable pub is_gic_wrong : RmmSettings → List ℕ → Bool
 is_gic_wrong s page = s.checks_gic && not (is_gicv3_hcr (gicv3_hcr_in page) && all_from (is_gicv3_lr s.lrs page) 0 16)
 
--- a REC of an ACTIVE realm that is READY and runnable, and has nothing pending, with GIC fields that are right
+-- checks that a realm is ACTIVE and its REC is READY, runnable and without a pending PSCI request. EMUL_MMIO and
+-- the GIC fields are checked too.
 unfoldable pub enter_checks : RmmRealmState → Attributes → ℕ → Bool → List Check
 enter_checks state rec flags is_wrong =
     check RealmNew (RecGranState ∷ []) (is_new state) error_realm
@@ -264,8 +270,8 @@ rec_enter rec address m =
 abbrev pub runs_at : Machine → ℕ → Bool
 runs_at m address = is_rec_named m address && is_running (rec_at m address).state
 
--- The run of a REC ends by an interrupt of the host's. RMI_ERROR_INPUT comes if its run page is not the host's any
--- more.
+-- An interrupt for the host makes a RUNNING REC exit. The answer is RMI_ERROR_INPUT if its run page is no longer the
+-- host's.
 unfoldable pub interrupted : Machine → ℕ → Option Word × Machine
 interrupted m address =
     if runs_at m address then

@@ -10,6 +10,6 @@ use Rattle.rmm_model.specs.declared.realm.RmmRealm.{RmmRealm}
 abbrev pub is_rec_measured : RmmSettings → List ℕ → Bool
 is_rec_measured s page = is_runnable_in page || s.measures_all_recs
 
--- the measurement after a REC with the parameters of a page
+-- the RIM of a realm, extended by the REC parameters in a page if the REC is measured
 unfoldable pub rim_with_rec : RmmSettings → RmmRealm → List ℕ → List ℕ
 rim_with_rec s realm page = if is_rec_measured s page then extended realm.hash realm.rim (RecExtension (rec_digest realm.hash page)) else realm.rim

@@ -15,7 +15,7 @@ use Rattle.rmm_model.specs.Command.Operand.{is_multiple}
 
 -- ---- checks
 
--- the range has addresses
+-- checks that a range is not empty
 abbrev pub size_checks : ℕ → ℕ → List Check
 size_checks base top = check Size [] (nat_le top base) error_input ∷ []
 
@@ -28,25 +28,25 @@ progress_checks after m changeable found base top =
 
 -- ---- the change
 
--- the number of entries of a table, from the one of an address on, that are below a top
+-- the number of whole entries from address `base` to `top`, up to the end of one table
 unfoldable pub entries_below : Walked → ℕ → ℕ → ℕ
 entries_below found base top =
     let rest = 512 - entry_index found.level base in
     let whole = (top - base) / entry_size found.level in
     if nat_le whole rest then whole else rest
 
--- the number of these, one after another, that can be changed
+-- the number of these entries before the first that cannot be changed
 unfoldable pub change_count : Machine → Changeable → Walked → ℕ → ℕ → ℕ
 change_count m changeable found base top =
     let first = entry_index found.level base in
     first_fixed changeable (page_in m found.table) (entries_below found base top) first - first
 
--- the machine with another RIPAS in that many entries of a table, from one on
+-- the machine after `count` entries of a table, from entry `first` on, get a new RIPAS
 unfoldable pub with_ripas_from : Machine → ℕ → ℕ → RmmRipas → ℕ → Machine
 with_ripas_from m table first ripas count =
     let page = page_in m table in
     with_page m table (with_words_from first count (λ i. entry_word (entry_with_ripas ripas (entry_in_page page i))) page)
 
--- the machine with another RIPAS in that many entries of a table, from the one of an address on
+-- the machine after `count` entries of a table, from address `base` on, get a new RIPAS
 abbrev pub with_ripas : Machine → Walked → ℕ → RmmRipas → ℕ → Machine
 with_ripas m found base ripas count = with_ripas_from m found.table (entry_index found.level base) ripas count

@@ -11,8 +11,8 @@ use Rattle.rmm_model.specs.Table.{children_page}
 use Rattle.rmm_model.specs.Walk.{entry_at, with_entry, walk}
 use Rattle.rmm_model.specs.Command.Operand.{delegated_checks, rd_checks, realm_at, ipa_checks, entry_checks}
 
--- A DELEGATED granule becomes a table in the place of an entry of the level above, of which its entries are the
--- children. RMM 1.0, RMI_RTT_CREATE.
+-- A DELEGATED granule becomes a table that replaces an entry of the level above. The entries of the table are the
+-- children of that entry. RMM 1.0, RMI_RTT_CREATE.
 unfoldable pub rtt_create : ℕ → ℕ → ℕ → ℕ → Machine → Command
 rtt_create rd rtt ipa level m =
     let realm = realm_at m rd in

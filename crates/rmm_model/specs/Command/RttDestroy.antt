@@ -20,7 +20,7 @@ use Rattle.rmm_model.specs.Command.Operand.{rd_checks, realm_at, ipa_checks, ent
 abbrev pub left_entry : RmmRealm → ℕ → RmmRttEntry
 left_entry realm ipa = if is_protected realm ipa then Unassigned Destroyed else UnassignedNs
 
--- a walk that reaches the level above, to an entry that leads to a table without live entries
+-- checks that a walk reached the parent entry of a table without live entries
 abbrev pub unused_checks : Machine → Walked → RmmRttEntry → ℕ → ℕ → List Check
 unused_checks m found parent ipa level =
     entry_checks [] found (level - 1) (is_some (table_below m parent)) (error_rtt_top (top m found ipa))

@@ -13,28 +13,30 @@ use Rattle.rmm_model.specs.Table.{entry_in_page, has_parts}
 use Rattle.rmm_model.specs.Walk.{entry_at, with_entry, table_below, walk}
 use Rattle.rmm_model.specs.Command.Operand.{rd_checks, realm_at, is_multiple, ipa_checks, entry_checks}
 
--- an entry can be one a level higher: the memory of a mapping is aligned to that level
+-- an entry fits one level above: if it is a mapping, its address is aligned to that level
 abbrev pub is_aligned_above : RmmRttEntry → ℕ → Bool
 is_aligned_above entry level = not (is_mapping entry) || is_multiple (descriptor_of entry / 4096 * 4096) (entry_size (level - 1))
 
--- A table of a level means the same as one entry above it: its first one, which leads to no table.
+-- A table is homogeneous: its entries are the children of its first entry, moved one level up. That entry leads to no
+-- table, and fits the level above.
 unfoldable pub is_homogeneous : List ℕ → ℕ → Bool
 is_homogeneous page level =
     let first = entry_in_page page 0 in
     not (is_table first) && is_aligned_above first level && has_parts page first level 512 0
 
--- a table of a level would become a block of a level at which there is none
+-- the fold of a table would make a block at a level that does not allow blocks
 abbrev pub is_block_too_high : RmmSettings → List ℕ → ℕ → Bool
 is_block_too_high s page level = is_mapping (entry_in_page page 0) && nat_le level s.block_level
 
--- a walk that reaches the level above, to an entry that leads to a table which means the same as one entry
+-- checks that a walk reached the parent entry of a homogeneous table that may be folded
 abbrev pub fold_checks : Machine → Walked → RmmRttEntry → ℕ → List Check
 fold_checks m found parent level =
     entry_checks [] found (level - 1) (is_some (table_below m parent)) error_rtt
     ++ check RttHomo (RtteState ∷ []) (not (is_homogeneous (page_in m (unwrap_or (table_below m parent) 0)) level)) (error_rtt level)
     ∷ check RttBlock (RttHomo ∷ []) (is_block_too_high m.settings (page_in m (unwrap_or (table_below m parent) 0)) level) (error_rtt (level - 1)) ∷ []
 
--- A table that means the same as one entry above it is removed, and that entry takes its place. RMM 1.0, RMI_RTT_FOLD.
+-- A homogeneous table is replaced by one entry of the level above, and its granule becomes DELEGATED. RMM 1.0,
+-- RMI_RTT_FOLD.
 unfoldable pub rtt_fold : ℕ → ℕ → ℕ → Machine → Command
 rtt_fold rd ipa level m =
     let realm = realm_at m rd in

@@ -16,7 +16,7 @@ use Rattle.rmm_model.specs.Walk.{walk}
 use Rattle.rmm_model.specs.Command.Operand.{rd_checks, realm_at, is_multiple, new_checks}
 use Rattle.rmm_model.specs.Command.RipasRange.{size_checks, progress_checks, change_count, with_ripas}
 
--- UNASSIGNED entries become RAM, but for DESTROYED ones if the settings say so
+-- the entries that become RAM: UNASSIGNED ones, except DESTROYED ones if the settings stop there
 abbrev pub init_changeable : RmmSettings → Changeable
 init_changeable s = record { assigned = false; destroyed = not s.stops_at_destroyed }
 
@@ -29,13 +29,13 @@ range_checks realm base top =
     ∷ check TopBound (RdState ∷ Size ∷ []) (not (is_protected realm (top - 4096))) error_input
     ∷ new_checks realm
 
--- the measurement after that many entries of a size, from an address on, became RAM one after another
+-- the RIM, extended once for each of k adjacent entries, from address `base` on, that become RAM
 unfoldable pub rim_with_ripas : HashAlgorithm → List ℕ → ℕ → ℕ → ℕ → List ℕ
 rim_with_ripas hash rim size base zero = rim
 rim_with_ripas hash rim size base (suc k) = extended hash (rim_with_ripas hash rim size base k) (RipasExtension (base + k * size) (base + (k + 1) * size))
 
--- The entries of one table from an address on become RAM, as far as they can be changed and are below a top. Each
--- extends the measurement. RMM 1.0, RMI_RTT_INIT_RIPAS.
+-- The entries of one table from `base` to `top` become RAM, up to the first unchangeable one. Each extends the
+-- measurement. RMM 1.0, RMI_RTT_INIT_RIPAS.
 unfoldable pub rtt_init_ripas : ℕ → ℕ → ℕ → Machine → Command
 rtt_init_ripas rd base top m =
     let realm = realm_at m rd in

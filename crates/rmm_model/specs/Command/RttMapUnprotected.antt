@@ -10,7 +10,7 @@ use Rattle.rmm_model.specs.Machine.{Machine}
 use Rattle.rmm_model.specs.Walk.{entry_at, with_entry, walk}
 use Rattle.rmm_model.specs.Command.Operand.{rd_checks, realm_at, is_multiple, unprotected_checks, entry_checks}
 
--- SH, in bits 9:8, is 0; if the host may choose it, it is not 0b01
+-- SH, in bits 9:8, is 0, or any value but 0b01 if the host may choose it
 abbrev pub is_shareability : RmmSettings → ℕ → Bool
 is_shareability s desc = desc / 2 ^ 8 % 4 == 0 || (s.takes_shareability && not (desc / 2 ^ 8 % 4 == 1))
 
@@ -19,7 +19,8 @@ abbrev pub has_attributes : RmmSettings → ℕ → Bool
 has_attributes s desc =
     nat_lt desc (2 ^ 48) && desc % 4 == 0 && not (desc / 4 % 8 == 4) && desc / 2 ^ 5 % 2 == 0 && is_shareability s desc && desc / 2 ^ 10 % 4 == 0
 
--- A descriptor of a level: its address, in bits 47:12, is one at which a page or block of the level can begin.
+-- A descriptor is valid at a level: its attributes are valid, and its address is aligned to it. The address is in bits
+-- 47:12.
 unfoldable pub is_descriptor : RmmSettings → ℕ → ℕ → Bool
 is_descriptor s level desc = has_attributes s desc && is_multiple (desc / 4096 * 4096) (entry_size level)
 

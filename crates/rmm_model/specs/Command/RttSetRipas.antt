@@ -15,17 +15,17 @@ use Rattle.rmm_model.specs.Command.Operand.{rd_checks, realm_at, rec_checks, rec
 use Rattle.rmm_model.specs.Command.PsciComplete.{is_same_owner, with_rec}
 use Rattle.rmm_model.specs.Command.RipasRange.{size_checks, progress_checks, change_count, with_ripas}
 
--- ASSIGNED entries change too, and DESTROYED ones where the REC said so
+-- the entries that a RIPAS request changes: UNASSIGNED and ASSIGNED ones, with DESTROYED ones if it says so
 abbrev pub set_changeable : RipasRequest → Changeable
 set_changeable request = record { assigned = true; destroyed = request.changes_destroyed }
 
--- A range ends within what a REC asked for. What a guest asks for is protected, so each address of such a range is. The definition
--- holds for every machine: the addresses of a range, if the REC is one of the realm, begin at a protected one.
+-- A range ends at or below the top of a REC's RIPAS request. If the REC is one of the realm, a range that is not empty
+-- begins at a protected address. What a guest asks for is protected, so each address of such a range is.
 abbrev pub is_within : RmmRealm → RmmRec → Bool → ℕ → ℕ → Bool
 is_within realm asking is_owner base top =
     nat_le top asking.ripas.top && (not is_owner || (nat_le top base || is_protected realm base))
 
--- a REC of the realm that does not run, and the range that it asked for from its address on
+-- checks that a REC of the realm is not RUNNING, and that the range continues its RIPAS request
 unfoldable pub ripas_request_checks : RmmRealm → RmmRec → Bool → ℕ → ℕ → List Check
 ripas_request_checks realm asking is_owner base top =
     check TopGranAlign [] (not (is_multiple top 4096)) error_input
@@ -34,16 +34,16 @@ ripas_request_checks realm asking is_owner base top =
     ∷ check BaseBound (RecState ∷ []) (not (base == asking.ripas.base)) error_input
     ∷ check TopBound (RecState ∷ []) (not (is_within realm asking is_owner base top)) error_input ∷ []
 
--- the REC at an address is one of the realm of an RD
+-- the REC at address `rec` is one of the realm whose RD is at address `rd`
 abbrev pub is_rec_of : Machine → ℕ → ℕ → Bool
 is_rec_of m rd rec = is_same_owner (granule_at m (number_of m rec)).owner (Some (number_of m rd))
 
--- a request that the host has come to an address with
+-- the REC after its RIPAS request has advanced to an address
 abbrev pub with_base : RmmRec → ℕ → RmmRec
 with_base rec base = record rec { ripas = record rec.ripas { base = base } }
 
--- The entries of one table get the RIPAS that a REC asked for, from its address on, as far as they can and lie below a top. The REC
--- asks for the rest from then on. RMM 1.0, RMI_RTT_SET_RIPAS.
+-- The entries of one table from `base` to `top` get the RIPAS that a REC asked for. The change stops at the first
+-- unchangeable entry, and the REC asks for the rest from then on. RMM 1.0, RMI_RTT_SET_RIPAS.
 unfoldable pub rtt_set_ripas : ℕ → ℕ → ℕ → ℕ → Machine → Command
 rtt_set_ripas rd rec base top m =
     let asking = rec_at m rec in

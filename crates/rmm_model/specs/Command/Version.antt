@@ -11,7 +11,8 @@ use Rattle.rmm_model.specs.Machine.{Machine}
 abbrev pub versions : Word → SmcResult
 versions word = record { word = word; x1 = 0x10000; x2 = 0x10000; x3 = 0; x4 = 0 }
 
--- The versions, with either word. RMM 1.0, RMI_VERSION.
+-- The supported versions are returned, with RMI_SUCCESS if version 1.0 is requested, otherwise RMI_ERROR_INPUT.
+-- RMM 1.0, RMI_VERSION.
 unfoldable pub version : ℕ → Machine → Command
 version requested m = record {
   checks = check Version [] (not (requested == 0x10000)) (versions ErrorInput) ∷ [];

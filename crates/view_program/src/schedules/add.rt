@@ -1,4 +1,4 @@
-//! The addition of the outcomes of one schedule's run to the totals.
+//! Functions that add the outcomes of a run to the totals of earlier runs.
 ghost use Rattle.std.specs.Prelude.{◌≡◌, ◌++◌, ℕ, nat_eq, [], ◌∷◌, List, map, filter, OnOk};
 ghost use Rattle.std.specs.List.{list_any, range_with_len};
 ghost use Rattle.view_program.specs.Same.{same_end};
@@ -70,7 +70,7 @@ fn count_never_refused(
 }
 
 impl Totals {
-    /// Creates the totals before any schedule is counted.
+    /// Creates totals that count no runs yet.
     pub fn new(alloc: Global) -> Totals
         ensures { (builds : ℕ) → AreTotals builds [] result }
     {
@@ -85,8 +85,8 @@ impl Totals {
         }
     }
 
-    /// Adds the outcomes of one more schedule's run to the totals. The plan has `builds` builds. At an `Err` allocation
-    /// failed, and a part of the run may be counted: the totals are then those of no list of runs.
+    /// Adds the outcomes of one more run to the totals. The plan has `builds` builds. At an `Err` allocation failed,
+    /// and a part of the run may be counted: the totals are then those of no list of runs.
     pub fn add(
         &mut self,
         alloc: Global,

@@ -1,4 +1,4 @@
-//! The counting of schedules' outcomes in tallies.
+//! Functions that count the schedules with each outcome.
 ghost use Rattle.std.specs.Prelude.{◌≡◌, ◌++◌, [], ◌∷◌, List, map, OnOk, IfOk};
 ghost use Rattle.view_program.specs.Tally.{Sighting, counted, bump, is_known};
 ghost use Rattle.plan_states.specs.Tallies.{count_of_tally};
@@ -30,7 +30,7 @@ fn bump<K: Eq>(tallies: &mut [PathTally<K>], outcome: &K) -> Result<bool, AllocE
     Ok(is_known)
 }
 
-/// Counts an outcome of a schedule in the tally of that outcome. At an `Err` allocation failed.
+/// Counts one more schedule with the given outcome. At an `Err` allocation failed.
 pub(crate) fn count<K: Eq + Drop>(
     alloc: Global,
     tallies: &mut Vec<PathTally<K>>,

@@ -1,4 +1,4 @@
-//! The run of a plan in a schedule that is drawn at random.
+//! Runs a plan on a host with a randomly drawn schedule.
 ghost use Rattle.std.specs.Prelude.{◌≡◌, [], OnOk, IfSome, IfNone};
 ghost use Rattle.rand_core.specs.Stream.{next_u32};
 ghost use Rattle.realm_plan.specs.PlanView.{plan_view};

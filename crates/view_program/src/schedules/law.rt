@@ -30,7 +30,7 @@ pub fn all_schedules_are_counted()
         → IsNumberOf (IsSchedule (by_turns plan) []) outcomes.steps.schedule_count }
 {}
 
-/// A run in a chosen schedule is a run of the plan with that schedule. The plan's own schedule is replaced by the
+/// Proves that choosing a build for each turn gives a run of the plan. The plan's own schedule is replaced by the
 /// chosen one.
 pub fn a_run_is_one_of_the_plan()
     ensures { (plan : Plan) (host : HostView) (choices : List Choice) (to : HostView) (ends : List EndOfStep)
@@ -52,8 +52,8 @@ pub fn end_texts_are_injective()
     ensures { (one other : EndOfStep) → (same_end one other ≡ true) ↔ (one ≡ other) }
 {}
 
-/// Leaving out a build without open operations does not change a host's map. If the history is legal, the map is that
-/// of the history without the build.
+/// Proves that a build without operations left to undo does not affect a host's map. If the history is legal, the map
+/// is that of the history without the build.
 pub fn builds_with_nothing_open_are_not_seen()
     ensures { (host : HostView) (build : ℕ) → IsUnseen host build }
 {}

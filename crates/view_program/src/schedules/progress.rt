@@ -1,4 +1,4 @@
-//! The trait by which a sample of schedules reports its progress.
+//! A trait for receiving progress reports while randomly drawn schedules are run.
 
 /// A receiver of progress reports from a sample of schedules. Nothing in the sample depends on what it does.
 pub trait Progress {

@@ -55,9 +55,9 @@ fn go_on_in_rotation<S: PageStore>(
     Ok(())
 }
 
-/// Runs a plan on a host with the builds' turns in rotation. Turns go only to builds that have a step left, and the run
-/// ends when there are none. The choices are then those of the whole schedule, and the outcome of each step is
-/// recorded. At an `Err` allocation failed.
+/// Runs a plan on a host, and lets its builds take turns in rotation. Turns go only to builds that have a step left,
+/// and the run ends when there are none. The choices are then those of the whole schedule, and the outcome of each step
+/// is recorded. At an `Err` allocation failed.
 pub(crate) fn run_in_rotation<S: PageStore>(
     host: &mut Host<S>,
     plan: &Plan,

@@ -1,4 +1,4 @@
-//! The run of a plan, one build after another. Each build has all its turns before the next build has one.
+//! Runs the builds of a plan on a host, one after another. Each build has all its turns before the next build has one.
 ghost use Rattle.std.specs.Prelude.{◌≡◌, ◌^◌, ◌<◌, true, OnOk, vec_len};
 ghost use Rattle.realm_plan.specs.PlanView.{plan_view};
 ghost use Rattle.plan_replay.specs.Run.{place_of};

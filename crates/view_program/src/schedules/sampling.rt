@@ -1,4 +1,4 @@
-//! Runs of a plan in schedules that are drawn at random.
+//! Repeated runs of a plan, each with a randomly drawn schedule.
 ghost use Rattle.std.specs.Prelude.{◌≡◌, OnOk, IfOk};
 ghost use Rattle.realm_plan.specs.PlanView.{plan_view};
 ghost use Rattle.realm_program.specs.Replay.{opening_host};
@@ -54,9 +54,9 @@ fn visit_drawn<R: Rng>(
     Ok(())
 }
 
-/// Runs a plan in `count` schedules that are drawn at random. Each run is on a host of its own. The build of each turn
-/// is drawn from those with a step left, and a schedule may come more than once. The plan's own schedule is not used.
-/// Each run is reported to `progress`. At an `Err` allocation failed.
+/// Runs a plan `count` times, each time with a randomly drawn schedule. Each run is on a host of its own. The build of
+/// each turn is drawn from those with a step left, and a schedule may come more than once. The plan's own schedule is
+/// not used. Each run is reported to `progress`. At an `Err` allocation failed.
 pub fn sample<R: Rng, P: Progress>(
     alloc: Global,
     plan: &Plan,

@@ -1,10 +1,10 @@
-//! The totals of step outcomes and final maps over many runs.
+//! Counts of step outcomes and final maps over many runs of a plan.
 use plan_states::{PathTally, StepOutcomes};
 
-/// The totals of step outcomes and final maps over runs of schedules. Outcomes are in the sequence in which they came.
+/// Counts of each step outcome and each final map in a plan's runs. Outcomes are in the sequence in which they came.
 #[derive(Drop)]
 pub struct Totals {
     pub steps: StepOutcomes,
-    /// The tallies of the hosts' final maps over all runs.
+    /// The number of runs that ended with each map of the host.
     pub maps: Vec<PathTally<String>>,
 }
