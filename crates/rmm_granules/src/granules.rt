@@ -14,8 +14,9 @@ ghost use Rattle.rmm_granules.specs.Inside.{platform_machine};
 ghost use Rattle.rmm_granules.specs.RealmEdits.{with_edited_realm};
 ghost use Rattle.rmm_granules.specs.RecEdits.{edited};
 
-use crate::realm_edit::{RealmEdit, edit_rd};
-use crate::rec_edit::{RecEdit, edit_granule};
+use crate::realm_edit::RealmEdit;
+use crate::rec_edit::RecEdit;
+use crate::record::GranuleRecord;
 use crate::taking::take_all;
 use granule_addr::{Gran, PageOff};
 use page_arena::PageStore;
@@ -32,7 +33,7 @@ const VMIDS: u32 = 0x1_0000;
 #[derive(Drop)]
 pub struct Granules<S: PageStore> {
     platform: Platform,
-    granules: Vec<RmmGranule>,
+    granules: Vec<GranuleRecord>,
     vmids: Vec<bool>,
     store: S,
 }
@@ -52,10 +53,14 @@ impl<S: PageStore> Model for Granules<S> {
 }
 
 // The attributes of `count` UNDELEGATED granules.
-fn undelegated(alloc: Global, count: u16) -> Result<Vec<RmmGranule>, AllocError>
+fn undelegated(alloc: Global, count: u16) -> Result<Vec<GranuleRecord>, AllocError>
     ensures { IfOk result (λ v. v.items ≡ replicate count (of_no_realm Undelegated)) }
 {
-    vec![in alloc; RmmGranule::UNDELEGATED; count as usize]
+    let mut granules = Vec::with_capacity(alloc, count as usize)?;
+    for _i in 0..count {
+        granules.push(GranuleRecord::undelegated())?;
+    }
+    Ok(granules)
 }
 
 // The empty set of VMIDs, as `count` flags.
@@ -66,7 +71,11 @@ fn no_vmids(alloc: Global, count: u32) -> Result<Vec<bool>, AllocError>
 }
 
 // The attributes of `count` UNDELEGATED granules, and the empty set of VMIDs.
-fn rows(alloc: Global, count: u16, vmids: u32) -> Result<(Vec<RmmGranule>, Vec<bool>), AllocError>
+fn rows(
+    alloc: Global,
+    count: u16,
+    vmids: u32,
+) -> Result<(Vec<GranuleRecord>, Vec<bool>), AllocError>
     ensures granules { IfOk result (λ r. r.0.items ≡ replicate count (of_no_realm Undelegated)) }
     ensures set { IfOk result (λ r. r.1.items ≡ replicate vmids false) }
 {
@@ -160,18 +169,14 @@ impl<S: PageStore> Granules<S> {
         requires { granule < granule_count self.now }
         ensures { result ≡ is_undelegated (granule_at self.now granule).state }
     {
-        self.granules[granule.number() as usize]
-            .state
-            .is_undelegated()
+        self.granules[granule.number() as usize].is_undelegated()
     }
 
     pub fn is_delegated(&self, granule: Gran) -> bool
         requires { granule < granule_count self.now }
         ensures { result ≡ is_delegated (granule_at self.now granule).state }
     {
-        self.granules[granule.number() as usize]
-            .state
-            .is_delegated()
+        self.granules[granule.number() as usize].is_delegated()
     }
 
     /// The state of a granule.
@@ -179,8 +184,7 @@ impl<S: PageStore> Granules<S> {
         requires { granule < granule_count self.now }
         ensures { result ≡ (granule_at self.now granule).state }
     {
-        let kept = &self.granules[granule.number() as usize];
-        kept.state
+        self.granules[granule.number() as usize].state()
     }
 
     /// Returns the realm of an RD granule, or `None` for a granule in another state. The realm's starting tables lie in
@@ -190,7 +194,7 @@ impl<S: PageStore> Granules<S> {
         ensures value { result ≡ realm_of (granule_at self.now granule).state }
         ensures served { IfSome result (IsServed (granule_count self.now)) }
     {
-        self.granules[granule.number() as usize].state.realm()
+        self.granules[granule.number() as usize].realm()
     }
 
     /// Returns the attributes of a REC granule, or `None` for a granule in another state.
@@ -198,7 +202,7 @@ impl<S: PageStore> Granules<S> {
         requires { granule < granule_count self.now }
         ensures { result ≡ rec_of (granule_at self.now granule).state }
     {
-        self.granules[granule.number() as usize].state.rec()
+        self.granules[granule.number() as usize].rec()
     }
 
     /// Returns the RD of the realm that owns a granule, if any.
@@ -206,7 +210,7 @@ impl<S: PageStore> Granules<S> {
         requires { granule < granule_count self.now }
         ensures { result ≡ (granule_at self.now granule).owner }
     {
-        self.granules[granule.number() as usize].owner
+        self.granules[granule.number() as usize].owner()
     }
 
     /// Sets the attributes of a granule.
@@ -215,7 +219,7 @@ impl<S: PageStore> Granules<S> {
         requires served { IfSome (realm_of kept.state) (IsServed (granule_count self.old)) }
         ensures { self.new ≡ machine.with_granule self.old granule kept }
     {
-        self.granules[granule.number() as usize] = kept;
+        self.granules[granule.number() as usize].set(kept);
     }
 
     /// Changes the attributes of an RD's realm in place. A granule that is no RD stays as it is.
@@ -227,8 +231,7 @@ impl<S: PageStore> Granules<S> {
     {
         let place = rd.number() as usize;
         if place < self.granules.len() {
-            let kept = &mut self.granules[place];
-            edit_rd(kept, edit);
+            self.granules[place].edit_realm(edit);
         }
     }
 
@@ -239,8 +242,7 @@ impl<S: PageStore> Granules<S> {
         ensures machine { self.new ≡ with_rec self.old granule (edited edit (rec_in self.old granule)) }
         ensures count { granule_count self.new ≡ granule_count self.old }
     {
-        let kept = &mut self.granules[granule.number() as usize];
-        edit_granule(kept, edit);
+        self.granules[granule.number() as usize].edit_rec(edit);
     }
 
     // ---- pages

@@ -19,6 +19,7 @@ mod realm_edit;
 mod realm_params;
 mod rec_edit;
 mod rec_params;
+mod record;
 mod ripas;
 mod run_page;
 mod table;

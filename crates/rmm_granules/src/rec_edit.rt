@@ -1,13 +1,8 @@
 //! Edits of REC attributes, made in place. Commands and guests' steps make them.
-ghost use Rattle.std.specs.Prelude.{◌≡◌, unwrap_or};
-ghost use Rattle.rmm_model.specs.declared.granule.RmmGranuleState.TheVariants.{Rec as IsRec};
-ghost use Rattle.rmm_model.specs.Granule.{rec_of};
-ghost use Rattle.rmm_model.specs.Rec.{no_rec};
+ghost use Rattle.std.specs.Prelude.{◌≡◌};
 ghost use Rattle.rmm_granules.specs.RecEdits.{edited};
 
-use rmm_model::{
-    LastExit, PsciRequest, RipasRequest, RmmGranule, RmmGranuleState, RmmRec, RmmRecState,
-};
+use rmm_model::{LastExit, PsciRequest, RipasRequest, RmmRec, RmmRecState};
 
 /// An edit of the attributes of a REC.
 #[derive(Clone, Copy)]
@@ -31,7 +26,7 @@ pub enum RecEdit {
 impl RecEdit {
     // Applies the edit to a REC.
     #[inline(always)]
-    fn make(self, rec: &mut RmmRec)
+    pub(crate) fn make(self, rec: &mut RmmRec)
         ensures { rec.new ≡ edited self rec.old }
     {
         match self {
@@ -55,22 +50,6 @@ impl RecEdit {
             RecEdit::Psci(request) => rec.psci = request,
             RecEdit::Runnable(is_runnable) => rec.is_runnable = is_runnable,
             RecEdit::Nothing => {}
-        }
-    }
-}
-
-// Edits the attributes of a REC. A granule that is none becomes one, with the attributes of a new REC.
-#[inline(always)]
-pub(crate) fn edit_granule(kept: &mut RmmGranule, edit: RecEdit)
-    ensures { kept.new
-        ≡ record kept.old { state = IsRec (edited edit (unwrap_or (rec_of kept.old.state) no_rec)) } }
-{
-    match &mut kept.state {
-        RmmGranuleState::Rec(rec) => edit.make(rec),
-        _ => {
-            let mut rec = RmmRec::new(false, 0);
-            edit.make(&mut rec);
-            kept.state = RmmGranuleState::Rec(rec);
         }
     }
 }

@@ -24,14 +24,6 @@ pub struct RmmGranule {
     pub owner: Option<Gran>,
 }
 
-impl RmmGranule {
-    /// The attributes of an UNDELEGATED granule. Each granule has them at the start.
-    pub const UNDELEGATED: RmmGranule = RmmGranule {
-        state: RmmGranuleState::Undelegated,
-        owner: None,
-    };
-}
-
 impl RmmGranuleState {
     ghost use Rattle.rmm_model.specs.Granule.{is_undelegated, is_delegated, realm_of, rec_of};
 

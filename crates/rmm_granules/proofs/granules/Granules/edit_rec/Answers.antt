@@ -10,7 +10,7 @@ use Rattle.rmm_granules.proofs.granules.Granules.edit_rec.Goals as goal
 pub invariant_of-self : goal.invariant_of-self
 invariant_of-self g c =
     let items : List RmmGranule = c.self.inside.granules.items in
-    let now : RmmGranule = c.edit_granule.new.kept in
+    let now : RmmGranule = c.edit_rec.new.self in
     let len = length-set items c.number.result now in
     let count : length c.args.self.now.granules ≡ length items = sym (ap (λ (m : Machine). length m.granules) c.self.view_is) in
     let inside : c.number.result < length items = omega (arith, count, c.requires, c.number.ensures.value) in
@@ -19,6 +19,6 @@ invariant_of-self g c =
       few = let few = c.self.invariant.few in omega arith;
       taken = c.self.invariant.taken;
       tables = HasTables-set items c.number.result now inside c.self.invariant.tables
-          (subst (λ (kept : RmmGranule). IfSome (realm_of kept.state) (IsServed (length items))) (sym c.edit_granule.ensures) tt);
+          (subst (λ (kept : RmmGranule). IfSome (realm_of kept.state) (IsServed (length items))) (sym c.edit_rec.ensures) tt);
       each_vmid = c.self.invariant.each_vmid;
     }

@@ -1,5 +1,6 @@
 use Rattle.std.proofs.Common.{◌≡◌, ◌<◌, ℕ, length, ap, subst, sym, ◌∙◌, IfSome, arith}
 use Rattle.std.proofs.lemmas.List.{length-set}
+use Rattle.rmm_model.specs.declared.granule.RmmGranule.{RmmGranule}
 use Rattle.rmm_model.specs.Granule.{realm_of}
 use Rattle.rmm_model.specs.Machine.{Machine}
 use Rattle.rmm_model.specs.Realm.{IsServed}
@@ -8,14 +9,16 @@ use Rattle.rmm_granules.proofs.granules.Granules.set.Goals as goal
 
 pub invariant_of-self : goal.invariant_of-self
 invariant_of-self g c =
-    let len = length-set c.self.inside.granules.items c.number.result c.args.kept in
+    let now : RmmGranule = c.set.new.self in
+    let len = length-set c.self.inside.granules.items c.number.result now in
     let count : length c.args.self.now.granules ≡ length c.self.inside.granules.items = sym (ap (λ (m : Machine). length m.granules) c.self.view_is) in
     let inside : c.number.result < length c.self.inside.granules.items = omega (arith, count, c.requires.inside, c.number.ensures.value) in
     record {
       as_many = len ∙ c.self.invariant.as_many;
       few = let few = c.self.invariant.few in omega arith;
       taken = c.self.invariant.taken;
-      tables = HasTables-set c.self.inside.granules.items c.number.result c.args.kept inside c.self.invariant.tables
-          (subst (λ (n : ℕ). IfSome (realm_of c.args.kept.state) (IsServed n)) count c.requires.served);
+      tables = HasTables-set c.self.inside.granules.items c.number.result now inside c.self.invariant.tables
+          (subst (λ (kept : RmmGranule). IfSome (realm_of kept.state) (IsServed (length c.self.inside.granules.items))) (sym c.set.ensures)
+          (subst (λ (n : ℕ). IfSome (realm_of c.args.kept.state) (IsServed n)) count c.requires.served));
       each_vmid = c.self.invariant.each_vmid;
     }

@@ -1,0 +1,17 @@
+-- The records of granules.
+use Rattle.rmm_model.specs.declared.granule.RmmGranuleState.{RmmGranuleState}
+use Rattle.rmm_model.specs.declared.granule.RmmGranuleState.TheVariants as state
+use Rattle.rmm_model.specs.declared.realm.RmmRealm.{RmmRealm}
+use Rattle.rmm_model.specs.declared.rec.RmmRec.{RmmRec}
+use Rattle.rmm_granules.specs.declared.record.GranuleKind.{GranuleKind}
+use Rattle.rmm_granules.specs.declared.record.GranuleKind.TheVariants as kind
+
+-- the state of a granule, of the kind and with the attributes that its record has
+abbrev pub recorded_state : GranuleKind → RmmRealm → RmmRec → RmmGranuleState
+recorded_state kind.Undelegated realm rec = state.Undelegated
+recorded_state kind.Delegated realm rec = state.Delegated
+recorded_state kind.Rd realm rec = state.Rd realm
+recorded_state kind.Rec realm rec = state.Rec rec
+recorded_state kind.RecAux realm rec = state.RecAux
+recorded_state kind.Data realm rec = state.Data
+recorded_state kind.Rtt realm rec = state.Rtt
