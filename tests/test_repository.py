@@ -13,7 +13,7 @@ from edits import FOLDERS
 from programs import SECONDS, TOP, module_of, ran, run
 from toolchain import Toolchain
 
-ANOTHER, NAMED = "rattle-kit-0 logic 0", (TOP / "rattle-toolchain").read_text().strip()
+ANOTHER, NAMED = "rattle-kit-0 logic 0", (TOP / "rattle-toolchain").read_text().splitlines()
 # A toolchain of another version, which has no crates.
 RT = f"""#!/usr/bin/env python3
 import types
@@ -45,7 +45,7 @@ def toolchain(tmp_path):
 @pytest.mark.parametrize("words", TOOLS.values(), ids=TOOLS)
 def test_another_toolchain(toolchain, words):
     came = run(words[0], words[1:], "", cwd=TOP, env={**os.environ, "PATH": toolchain})
-    note = f"note: the toolchain on the PATH is `{ANOTHER}`, and rattle-toolchain names `{NAMED}`"
+    note = f"note: the toolchain on the PATH is `{ANOTHER}`, and rattle-toolchain names `{'`, `'.join(NAMED)}`"
     said = came.err.splitlines()
     assert said and said[0] == said[-1] == note and len(said) > 1, came.err
 
@@ -174,7 +174,7 @@ def test_gate_passes_on_what_it_reads(monkeypatch, tmp_path, capfd):
 # What `rt try` is called with, and then a line of the program and one of the build.
 TRIED = """\
 #!/bin/sh
-[ "$1" = version ] && exec cat "$NAMED"
+[ "$1" = version ] && exec tail -n 1 "$NAMED"
 echo "$PWD: $* < $(cat)"
 echo "realmview: no plan" >&2
 echo "checked: ended" >&2

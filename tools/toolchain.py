@@ -8,17 +8,17 @@ import sys
 import threading
 import types
 
-# What `rt version` prints of the toolchain that the repository is written for.
+# What `rt version` prints of each toolchain that has proved the repository, a line each.
 VERSION = f"{os.path.dirname(os.path.dirname(os.path.realpath(__file__)))}/rattle-toolchain"
 
 
 def check_version(rt="rt"):
-    """Says on standard error, now and once more at the end, if this toolchain is not the one that rattle-toolchain names."""
+    """Says on standard error, now and once more at the end, if this toolchain is none of those that rattle-toolchain names."""
     found = subprocess.run([rt, "version"], stdout=subprocess.PIPE, text=True, check=True).stdout.strip()
     with open(VERSION, encoding="utf-8") as it:
-        named = it.read().strip()
-    if found != named:
-        note = f"note: the toolchain on the PATH is `{found}`, and rattle-toolchain names `{named}`"
+        named = it.read().splitlines()
+    if found not in named:
+        note = f"note: the toolchain on the PATH is `{found}`, and rattle-toolchain names `{'`, `'.join(named)}`"
         print(note, file=sys.stderr, flush=True)
         atexit.register(print, note, file=sys.stderr)
 
