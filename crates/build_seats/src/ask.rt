@@ -24,9 +24,9 @@ pub enum Question {
 /// The outcome of a list of a worker's requests to the host: all accepted, one refused, or cut short.
 #[derive(Clone, Copy)]
 pub enum Ending {
-    /// The outcome when every step, exit or undo of the list is accepted.
+    /// The outcome when each request is accepted.
     Done,
-    /// The outcome when a step, exit or undo of the list is refused.
+    /// The outcome when a request is refused. The worker asks nothing after it.
     Refused,
     /// The outcome if a build's worker did not get a turn to ask its next question. The gate did not give the turn, and
     /// the question was not asked.

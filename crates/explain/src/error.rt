@@ -147,7 +147,7 @@ fn of_room(machine: u16, fact: RoomFact) -> Phrase {
     }
 }
 
-/// Returns the message that REC `number`, whose creation is next to undo, is RUNNING.
+/// Returns the message that REC `number` is RUNNING, so that its creation cannot be undone.
 pub(crate) fn newest_error(number: u16) -> Phrase {
     one(
         "REC {}, the newest operation's, must be READY; it is RUNNING",

@@ -130,8 +130,8 @@ fn are_free<S: PageStore>(host: &Host<S>, build: BuildId, ipa: u32, count: u16) 
     true
 }
 
-/// The check that the `count` entries from `ipa` on are UNASSIGNED. For each of these IPA granules, the walk to level 3
-/// ends at an UNASSIGNED entry.
+/// Returns the check that `count` table entries from `ipa` on are UNASSIGNED. For each of these IPA granules, the walk
+/// to level 3 ends at an UNASSIGNED entry.
 pub(crate) fn entries_free<S: PageStore>(
     host: &Host<S>,
     build: BuildId,

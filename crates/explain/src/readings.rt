@@ -1,4 +1,4 @@
-//! Functions that read values for messages from a host or a step. These messages need more than the values of a check.
+//! Functions that read from a host or a step what a message shows. These messages need more than the values of a check.
 use crate::of_block::has_block;
 use crate::operands::pages_named;
 use arrayvec::ArrayVec;

@@ -6,18 +6,18 @@ use rmi_abi::Call;
 /// guest.
 #[derive(Drop)]
 pub enum HostAction {
-    /// The host writes `value` to each byte of consecutive granules.
+    /// The host's write of `value` to each byte of consecutive granules.
     Fill {
         address: u64,
         granules: u16,
         value: u8,
     },
-    /// The host reads a word from memory and finds `byte` in each of its bytes.
+    /// The host's load of a word that has `byte` in each of its bytes.
     Load {
         address: u64,
         byte: u8,
     },
-    /// The host writes the parameters of a realm to a page. RMM 1.0, RmiRealmParams.
+    /// The host's write of a realm's parameters to a page. RMM 1.0, RmiRealmParams.
     RealmParams {
         page: u64,
         width: u8,
@@ -25,18 +25,18 @@ pub enum HostAction {
         tables: u64,
         count: u16,
     },
-    /// The host writes the parameters of a REC to a page. RMM 1.0, RmiRecParams.
+    /// The host's write of a REC's parameters to a page. RMM 1.0, RmiRecParams.
     RecParams {
         page: u64,
         mpidr: u64,
         auxiliaries: ArrayVec<u64, 16>,
     },
-    /// The host calls the RMM, and the call succeeds. `x1` is the output in X1, if that output is known beforehand.
+    /// A call of the RMM that succeeds. `x1` is the output in X1, if that output is known beforehand.
     Call {
         call: Call,
         x1: Option<u64>,
     },
-    /// The host enters a REC by RMI_REC_ENTER, and the guest keeps running.
+    /// An RMI_REC_ENTER after which the guest keeps running.
     Enter {
         rec: u64,
         run: u64,
@@ -45,17 +45,17 @@ pub enum HostAction {
     Interrupt {
         rec: u64,
     },
-    /// A guest writes a byte after the next entry of its REC.
+    /// A guest's write of a byte after the next entry of its REC.
     Write {
         rec: u64,
         ipa: u64,
         value: u8,
     },
-    /// The guest runs on until it is interrupted.
+    /// A guest's loop until it is interrupted.
     Spin {
         rec: u64,
     },
-    /// The guest has seen that its last write is done.
+    /// The completion of a guest's last write, as the guest sees it.
     Saw {
         rec: u64,
     },

@@ -45,8 +45,8 @@ pub struct Allocated {
     pub byte: u8,
 }
 
-/// The host's reply to an accepted undo of a build. `kind` is the kind of the reversed operation, and `left` is the
-/// number of operations that the build has open afterwards.
+/// The host's reply when it has undone an operation of a build. `kind` is the kind of the reversed operation, and
+/// `left` is the number of operations that the build has open afterwards.
 #[derive(Clone, Copy, Debug, PartialEq, Eq)]
 pub struct Undone {
     pub kind: Kind,

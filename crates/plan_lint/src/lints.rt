@@ -37,7 +37,7 @@ pub(crate) fn slips_in(
     found.finish()
 }
 
-/// A build of a plan, with its steps and their spans in the text.
+/// A build that a plan describes, with its steps and their spans in the plan's text.
 #[derive(Clone, Copy)]
 struct PlannedBuild<'a> {
     plan: &'a Plan,

@@ -111,7 +111,8 @@ pub fn vmids_are_of_open_acts()
     ensures { (limits : Limits) (history : List Event) (world : World) (vmid : ℕ) → IsLegal limits history → replay limits history ≡ Some world → VmidIsOpen history world vmid }
 {}
 
-/// Reversing an operation right away restores the ownership of granules before it. The reverse is accepted.
+/// Proves that an operation and its reverse right after it leave the ownership of granules as it was. The reverse is
+/// accepted.
 pub fn pairs_lead_back()
     ensures { (limits : Limits) (history : List Event) (world : World) (build : ℕ) (act back : Act) (middle : World)
         → replay limits history ≡ Some world → PairLeadsBack limits build world act back middle }

@@ -21,7 +21,7 @@ pub enum PlanStep {
 }
 
 impl PlanStep {
-    /// Returns the complete step, with the smallest IPA width if the width is left out. No memory is taken.
+    /// Returns the step, with the smallest IPA width in place of one that is left out. No memory is taken.
     pub fn asked(&self) -> Step
         ensures { result ≡ asked self.now }
     {

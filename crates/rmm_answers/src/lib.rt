@@ -1,4 +1,4 @@
-//! The answers of an RMM to the questions of a trace.
+//! The answers of an RMM to the calls and queries of a trace.
 //!
 //! A question is words that `RmmTraceLine::parse` accepts. Each is performed on the machine of the trace: a call by
 //! registers, a load or a store of the host, a step of a guest, or a reading. The answer is words too, so it is

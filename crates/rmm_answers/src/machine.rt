@@ -14,7 +14,7 @@ use rmm_trace::TraceWord;
 use std::alloc::{AllocError, Global};
 use std::marker::Model;
 
-/// The RMM that performs a trace's questions, or none before a `platform` question has opened one.
+/// The RMM that answers a trace. There is none before the first valid `platform` line.
 #[derive(Drop)]
 pub struct TraceMachine {
     rmm: Option<Rmm<PlainStore>>,

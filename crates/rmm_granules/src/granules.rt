@@ -293,7 +293,7 @@ impl<S: PageStore> Granules<S> {
         self.store.write_rising(granule, kind, first, step);
     }
 
-    /// Writes one byte of a granule's page.
+    /// Writes one byte of a granule.
     pub fn set_byte(&mut self, granule: Gran, offset: u16, value: u8)
         requires inside { granule < granule_count self.old }
         requires offset { offset < 4096 }

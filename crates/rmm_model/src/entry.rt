@@ -185,7 +185,7 @@ impl RmmRttEntry {
         }
     }
 
-    /// Whether the entry is among the `changeable` ones, whose RIPAS a command changes.
+    /// Returns whether a command that changes the RIPAS of `changeable` entries changes this one.
     pub fn can_change(self, changeable: Changeable) -> bool
         ensures { result ≡ entries.can_change changeable self }
     {

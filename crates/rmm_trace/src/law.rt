@@ -51,7 +51,7 @@ pub fn measurement_texts_are_injective()
     ensures { (a b : List ℕ) → IsBytes a → IsBytes b → encode_lower a ≡ encode_lower b → a ≡ b }
 {}
 
-/// Proves that each constant in `place` is the index of its name. The index is that in the table of names.
+/// Proves that each constant of the module `place` is the index of its name in the table of names.
 pub fn places_are_of_their_names()
     ensures { are_places_named ≡ true }
 {}

@@ -1,4 +1,4 @@
-//! The JSON items for granules, rows of translation tables, RECs and pages. The items are as the host has them.
+//! The JSON objects for granules, rows of translation tables, RECs and pages. They are as the host has them.
 ghost use Rattle.std.specs.Prelude.{◌≡◌, IfOk};
 ghost use Rattle.run_json.specs.Items.{granule_item, row_item, IsRecItem, page_item};
 
@@ -14,7 +14,7 @@ use realm_plan::state_word;
 use serde::{Described, Serialize, Serializer};
 use std::alloc::{AllocError, Global};
 
-/// The JSON item of a granule, with its state, build and realm. They are as the host has them.
+/// The JSON object of a granule, with its state, build and realm. They are as the host has them.
 #[derive(Clone, Copy)]
 pub struct GranuleItem {
     pub granule: Gran,
@@ -34,7 +34,7 @@ impl Serialize for GranuleItem {
     }
 }
 
-/// Returns the JSON item of a granule of a host's machine. The result is `None` if the machine has no such granule.
+/// Returns the JSON object of a granule of a host's machine. The result is `None` if the machine has no such granule.
 pub fn granule_item<S: PageStore>(host: &Host<S>, granule: Gran) -> Option<GranuleItem>
     ensures { result ≡ granule_item host.now granule }
 {
@@ -42,7 +42,7 @@ pub fn granule_item<S: PageStore>(host: &Host<S>, granule: Gran) -> Option<Granu
     Some(GranuleItem { granule, view })
 }
 
-/// The JSON item of a series of equal rows in a realm's translation tables. The rows are at one level. The item has the
+/// The JSON object of a series of equal rows in a realm's translation tables. The rows are at one level. It has the
 /// first row, and the number of rows.
 #[derive(Clone, Copy)]
 pub struct RowItem {
@@ -66,7 +66,7 @@ impl Serialize for RowItem {
     }
 }
 
-/// Creates the JSON item for `count` rows of a realm's translation tables. The first row is the one at which the RTT
+/// Creates the JSON object for `count` rows of a realm's translation tables. The first row is the one at which the RTT
 /// walk for an IPA granule towards a level ends.
 pub fn row_item<S: PageStore>(
     host: &Host<S>,
@@ -81,7 +81,7 @@ pub fn row_item<S: PageStore>(
     Some(RowItem { row, count })
 }
 
-/// The data of an existing REC in the REC's JSON item. They are its granule, its state and its auxiliary granules.
+/// The data of an existing REC in the REC's JSON object. They are its granule, its state and its auxiliary granules.
 #[derive(Drop)]
 pub struct RecView {
     pub granule: Gran,
@@ -89,7 +89,7 @@ pub struct RecView {
     pub auxiliaries: Vec<Gran>,
 }
 
-/// The JSON item of a REC. It has the REC's number, and the REC's data if the REC exists.
+/// The JSON object of a REC. It has the REC's number, and the REC's data if the REC exists.
 #[derive(Drop)]
 pub struct RecItem {
     pub number: RecNo,
@@ -114,7 +114,7 @@ impl Serialize for RecItem {
     }
 }
 
-/// Returns the JSON item of the REC with number `number` in a build's realm. The item is as the host has the REC.
+/// Returns the JSON object of the REC with number `number` in a build's realm. It is as the host has the REC.
 pub fn rec_item<S: PageStore>(
     alloc: Global,
     host: &Host<S>,
@@ -138,7 +138,7 @@ pub fn rec_item<S: PageStore>(
     })
 }
 
-/// The JSON item of a build's page: its granule and the sum of its bytes.
+/// The JSON object of a build's page: its granule and the sum of its bytes.
 #[derive(Clone, Copy)]
 pub struct PageItem {
     pub granule: Gran,
@@ -156,7 +156,7 @@ impl Serialize for PageItem {
     }
 }
 
-/// Returns the JSON item of a build's page. The result is `None` if the build has no such page.
+/// Returns the JSON object of a build's page. The result is `None` if the build has no such page.
 pub fn page_item<S: PageStore>(host: &Host<S>, build: BuildId, page: u16) -> Option<PageItem>
     ensures { result ≡ page_item host.now build page }
 {

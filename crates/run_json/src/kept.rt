@@ -8,9 +8,9 @@ use page_arena::PageStore;
 use realm_host::Host;
 use serde::Serializer;
 
-/// The part of the JSON item of a build, or of a turn, about the build's rollback mark and its abort. It has the mark,
-/// if there is one, and whether the build is aborting. `mark` is the number of operations that the build had open at
-/// its mark.
+/// The part of the JSON object of a build, or of a turn, about the build's rollback mark and its abort. It has the
+/// mark, if there is one, and whether the build is aborting. `mark` is the number of operations that the build had open
+/// at its mark.
 #[derive(Clone, Copy)]
 pub struct BuildKept {
     pub mark: Option<u16>,

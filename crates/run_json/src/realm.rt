@@ -1,4 +1,4 @@
-//! The JSON item of a build's realm. The realm's rows and RECs are not part of the item.
+//! The JSON object of a build's realm. It does not have the realm's rows and RECs.
 ghost use Rattle.std.specs.Prelude.{◌≡◌};
 ghost use Rattle.run_json.specs.Items.{realm_item};
 
@@ -11,7 +11,7 @@ use realm_model::RealmState;
 use realm_plan::realm_word;
 use serde::{Described, Serialize, Serializer};
 
-/// The JSON item of a realm: the realm's attributes and its RD. RMM 1.0, Realm attributes.
+/// The JSON object of a realm: the realm's attributes and its RD. RMM 1.0, Realm attributes.
 #[derive(Clone, Copy)]
 pub struct RealmItem {
     pub rd: Gran,
@@ -47,7 +47,7 @@ impl Serialize for RealmItem {
     }
 }
 
-/// Returns the JSON item of a build's realm, if the build has a realm.
+/// Returns the JSON object of a build's realm, if the build has a realm.
 pub fn realm_item<S: PageStore>(host: &Host<S>, build: BuildId) -> Option<RealmItem>
     ensures { result ≡ realm_item host.now build }
 {

@@ -1,4 +1,4 @@
-//! The JSON item of a build's turn: step, answer, event, and the event's changes.
+//! The JSON object of a build's turn: step, answer, event, and the event's changes.
 ghost use Rattle.std.specs.Prelude.{◌≡◌, ◌+◌, ◌≤◌, ◌++◌, OnOk, IfOk, slice_get, option_map};
 ghost use Rattle.run_json.specs.Turns.{step_view, placed, numbered_granule, more_granules, each_granule, changed_items, changed_view};
 ghost use Rattle.run_json.specs.Turns.{granules_after, rows_after, IsRecAfter, realm_after, IsEventItem, IsEventAt, IsAfterTurn};
@@ -19,8 +19,8 @@ use realm_plan::{PlanStep, StepText};
 use serde::{Described, Serialize, Serializer};
 use std::alloc::{AllocError, Global};
 
-/// The JSON item of a step: its index, its text, and the host's answer. The index is that in the build's list of steps,
-/// and the text is that of a plan.
+/// The JSON object of a step: its index, its text, and the host's answer. The index is that in the build's list of
+/// steps, and the text is that of a plan.
 #[derive(Drop)]
 pub struct StepItem {
     pub place: usize,
@@ -39,7 +39,7 @@ pub struct EventItem {
     pub realm: Option<Option<RealmItem>>,
 }
 
-/// The JSON item of a build's turn: step, event, and build state afterwards. A step or an event is there only if the
+/// The JSON object of a build's turn: step, event, and build state afterwards. A step or an event is there only if the
 /// turn has one.
 #[derive(Drop)]
 pub struct TurnItem {
@@ -129,7 +129,8 @@ fn step_item(
     })
 }
 
-/// Returns the JSON item of a turn's step: index, text and answer. The result is `None` if the build has no step left.
+/// Returns the JSON object of a turn's step: index, text and answer. The result is `None` if the build has no step
+/// left.
 pub fn step_of(
     alloc: Global,
     place: usize,
@@ -159,7 +160,7 @@ fn push_numbered<S: PageStore>(
     Ok(())
 }
 
-/// Appends the JSON items of `count` granules, from granule `from` on.
+/// Appends the JSON objects of `count` granules, from granule `from` on.
 pub fn push_more_granules<S: PageStore>(
     items: &mut Vec<Option<GranuleItem>>,
     host: &Host<S>,
@@ -316,7 +317,7 @@ fn event_at<S: PageStore>(
     }
 }
 
-/// Returns the JSON item of a turn that a build has just taken. The history had `before` events at the start of the
+/// Returns the JSON object of a turn that a build has just taken. The history had `before` events at the start of the
 /// turn.
 pub fn turn_item<S: PageStore>(
     alloc: Global,

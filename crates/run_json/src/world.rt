@@ -1,4 +1,4 @@
-//! The JSON item of a host's state. It has all granules, and the pages, open operations and realm of each build.
+//! The JSON object of a host's state. It has all granules, and the pages, open operations and realm of each build.
 ghost use Rattle.std.specs.Prelude.{◌≡◌, IfOk, length};
 ghost use Rattle.host_ledger.specs.View.{pages_of_build};
 ghost use Rattle.run_json.specs.Worlds.{all_granules, page_items, open_lines, AreRecItems, IsRealmContents, IsBuildItem, AreBuildItems, IsWorldItem};
@@ -30,7 +30,7 @@ impl Serialize for EventLine {
     }
 }
 
-/// The JSON item of a realm, with its translation table rows and its RECs. Each REC is at the index of its number.
+/// The JSON object of a realm, with its translation table rows and its RECs. Each REC is at the index of its number.
 #[derive(Drop)]
 pub struct RealmContents {
     pub realm: RealmItem,
@@ -50,8 +50,8 @@ impl Serialize for RealmContents {
     }
 }
 
-/// The JSON item that describes a build's state on the host. It has the mark, the abort flag, the open operations, the
-/// pages and the realm. The open operations are events, from the oldest on.
+/// The JSON object that describes a build's state on the host. It has the mark, the abort flag, the open operations,
+/// the pages and the realm. The open operations are events, from the oldest on.
 #[derive(Drop)]
 pub struct BuildItem {
     pub build: BuildId,
@@ -75,7 +75,8 @@ impl Serialize for BuildItem {
     }
 }
 
-/// The JSON item of a host's state: its granules and its builds. It also has the number of granules that nobody leases.
+/// The JSON object of a host's state: its granules and its builds. It also has the number of granules that nobody
+/// leases.
 #[derive(Drop, Serialize)]
 pub struct WorldItem {
     pub free: u16,
@@ -186,7 +187,7 @@ fn builds_of<S: PageStore>(alloc: Global, host: &Host<S>) -> Result<Vec<BuildIte
     Ok(items)
 }
 
-/// Returns the JSON item of a host's state: its granules and its builds. An `Err` comes only if allocation failed.
+/// Returns the JSON object of a host's state: its granules and its builds. An `Err` comes only if allocation failed.
 pub fn world_item<S: PageStore>(alloc: Global, host: &Host<S>) -> Result<WorldItem, AllocError>
     ensures { IfOk result (IsWorldItem host.now) }
 {

@@ -13,7 +13,7 @@ use std::process::Abort;
 /// A test script: a sequence of calls, each with the number of its build.
 pub(crate) type Script = &'static [(u8, Call)];
 
-/// A command that a build gives in a test script.
+/// A command of a test script, which the host gets from a build.
 pub(crate) enum Command {
     /// Leases a block of 2^order pages.
     Take(u8),
