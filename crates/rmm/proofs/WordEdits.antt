@@ -119,7 +119,7 @@ word_of_page-with_words_from_other first (suc count) f page i within whole index
     ∙ word_of_page-with_words_from_other first count f page i (omega arith) whole index (⊎_elim (λ (below : i < first). inl below) (λ (above : first + suc count ≤ i). inr (omega arith)) beside)
 
 -- the same words
-with_words_from-same : (first count : ℕ) (f g : ℕ → ℕ) (page : List ℕ) → ((i : ℕ) → i < first + count → f i ≡ g i) → with_words_from first count f page ≡ with_words_from first count g page
+pub with_words_from-same : (first count : ℕ) (f g : ℕ → ℕ) (page : List ℕ) → ((i : ℕ) → i < first + count → f i ≡ g i) → with_words_from first count f page ≡ with_words_from first count g page
 unfolding with_words_from
 with_words_from-same first zero f g page same = refl
 with_words_from-same first (suc count) f g page same =

@@ -1,5 +1,6 @@
 //! The command RMI_REC_ENTER.
 ghost use Rattle.std.specs.Prelude.{◌≡◌, ◌<◌, ◌≤◌, ◌==◌, ◌&&◌, false, not, IfOk};
+ghost use Rattle.rmi_abi.specs.RecRun.{only_reason};
 ghost use Rattle.rmm_model.specs.declared.rec.LastExit.TheVariants.{RipasChange, HostCall, EmulatableAbort};
 ghost use Rattle.rmm_model.specs.Guest as guests;
 ghost use Rattle.rmm_model.specs.Check.{outcome, first_failing, refusal_in};
@@ -15,7 +16,7 @@ use crate::host::host_granule;
 use crate::operand::host_page;
 use crate::realm::error_realm;
 use crate::rec::{error_rec, rec_of};
-use crate::run_page::{copy_gic, copy_gprs, is_gic_wrong, write_run};
+use crate::run_page::{copy_gic, copy_gprs, is_gic_wrong, write_run, write_run_reason};
 use crate::step::{call_outcome, exit_edit, fetched, tried};
 use granule_addr::Gran;
 use page_arena::PageStore;
@@ -48,6 +49,20 @@ pub fn leave<S: PageStore>(granules: &mut Granules<S>, g: Gran, exit: &RecExit, 
     let run = rec_in(granules, g).run;
     granules.edit_rec(g, RecEdit::Leave(last));
     write_run(granules, g, run, exit);
+}
+
+// Ends the run of a REC with an IRQ exit, as after an interrupt of the host.
+#[inline(always)]
+#[tactic(auto, unfolding(rmm_model::specs::Command::RecEnter::after_exit))]
+pub fn leave_by_irq<S: PageStore>(granules: &mut Granules<S>, g: Gran)
+    requires { g < granule_count granules.old }
+    ensures machine { granules.new
+        ≡ command.after_exit granules.old g (only_reason ExitReason.Irq) LastExit.Other }
+    ensures count { granule_count granules.new ≡ granule_count granules.old }
+{
+    let run = rec_in(granules, g).run;
+    granules.edit_rec(g, RecEdit::Leave(LastExit::Other));
+    write_run_reason(granules, g, run, ExitReason::Irq);
 }
 
 // ---- entries
@@ -341,12 +356,7 @@ fn perform_steps<S: PageStore>(granules: &mut Granules<S>, g: Gran, flags: u64) 
             StepOutcome::Spin => return false,
         }
     }
-    leave(
-        granules,
-        g,
-        &RecExit::only(ExitReason::Irq),
-        LastExit::Other,
-    );
+    leave_by_irq(granules, g);
     true
 }
 
@@ -356,12 +366,7 @@ fn run_guest<S: PageStore>(granules: &mut Granules<S>, g: Gran, flags: u64) -> b
     ensures { (result, granules.new) ≡ command.after_steps granules.old g flags 16 }
 {
     if is_idle(granules, g) {
-        leave(
-            granules,
-            g,
-            &RecExit::only(ExitReason::Irq),
-            LastExit::Other,
-        );
+        leave_by_irq(granules, g);
         true
     } else {
         perform_steps(granules, g, flags)
@@ -465,11 +470,6 @@ pub fn interrupt<S: PageStore>(granules: &mut Granules<S>, address: u64) -> Opti
     } else {
         Word::ErrorInput
     };
-    leave(
-        granules,
-        g,
-        &RecExit::only(ExitReason::Irq),
-        LastExit::Other,
-    );
+    leave_by_irq(granules, g);
     Some(word)
 }

@@ -1,6 +1,7 @@
 //! Functions with which the RMM reads and writes the run page of RMI_REC_ENTER. Registers are copied between a REC's
 //! page and its run page, and exits are written to run pages.
 ghost use Rattle.std.specs.Prelude.{◌≡◌, ◌+◌, ◌<◌, ◌≤◌, ◌⊎◌, length};
+ghost use Rattle.rmi_abi.specs.RecRun.{only_reason};
 ghost use Rattle.rmm_model.specs.Machine.{granule_count, page_in, with_page};
 ghost use Rattle.rmm_model.specs.Table.{with_words_from};
 ghost use Rattle.rmm_model.specs.Command.RecEnter as entering;
@@ -8,7 +9,7 @@ ghost use Rattle.rmm_model.specs.Command.RecEnter as entering;
 use crate::host::host_granule;
 use granule_addr::Gran;
 use page_arena::{PageStore, word_in};
-use rmi_abi::RecExit;
+use rmi_abi::{ExitReason, RecExit};
 use rmm_granules::{Granules, refuses_gic};
 
 // Copies `count` words from word `first` of one page to word `place` of another or the same page, without overlap.
@@ -115,6 +116,16 @@ fn write_exit<S: PageStore>(granules: &mut Granules<S>, page: Gran, exit: &RecEx
     granules.set_word(page, 256, exit.reason.code());
 }
 
+// Writes an exit into the upper half of a page. Of its fields only the reason is not zero.
+fn write_reason<S: PageStore>(granules: &mut Granules<S>, page: Gran, reason: ExitReason)
+    requires { page < granule_count granules.old }
+    ensures machine { granules.new ≡ entering.with_exit_words granules.old page (only_reason reason) }
+    ensures count { granule_count granules.new ≡ granule_count granules.old }
+{
+    clear_exit(granules, page);
+    granules.set_word(page, 256, reason.code());
+}
+
 // Writes an exit of a REC into the run page at an address, if the run page is a page of the host.
 pub fn write_run<S: PageStore>(granules: &mut Granules<S>, g: Gran, run: u64, exit: &RecExit)
     requires { g < granule_count granules.old }
@@ -123,6 +134,24 @@ pub fn write_run<S: PageStore>(granules: &mut Granules<S>, g: Gran, run: u64, ex
 {
     if let Some(page) = host_granule(granules, run) {
         write_exit(granules, page, exit);
+        write_gic(granules, g, page);
+    }
+}
+
+// Writes an exit of a REC into the run page at an address, if the run page is a page of the host. The exit has a reason
+// and no other field.
+pub fn write_run_reason<S: PageStore>(
+    granules: &mut Granules<S>,
+    g: Gran,
+    run: u64,
+    reason: ExitReason,
+)
+    requires { g < granule_count granules.old }
+    ensures machine { granules.new ≡ entering.with_exit granules.old g run (only_reason reason) }
+    ensures count { granule_count granules.new ≡ granule_count granules.old }
+{
+    if let Some(page) = host_granule(granules, run) {
+        write_reason(granules, page, reason);
         write_gic(granules, g, page);
     }
 }

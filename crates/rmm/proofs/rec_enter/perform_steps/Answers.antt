@@ -1,7 +1,4 @@
 use Rattle.std.proofs.Common.{true, sym, ap, ◌∙◌, arith}
-use Rattle.rmi_abi.specs.declared.rec_run.RecExit.{RecExit}
-use Rattle.rmm_model.specs.declared.rec.LastExit.TheVariants.{Other}
-use Rattle.rmm_model.specs.Command.RecEnter.{after_exit}
 use Rattle.rmm_model.specs.Machine.{Machine}
 use Rattle.rmm.proofs.Runs.{by_step, after_steps-idle, after_steps-end}
 use Rattle.rmm.proofs.rec_enter.perform_steps.Goals as goal
@@ -27,8 +24,7 @@ returns-in-Spin g c =
 
 pub returns : goal.returns
 returns g c =
-    ap (λ (m : Machine). (true, m)) c.leave-2.ensures.machine
-    ∙ ap (λ (exit : RecExit). (true, after_exit c.loop-i.granules c.args.g exit Other)) c.only.ensures
+    ap (λ (m : Machine). (true, m)) c.leave_by_irq.ensures.machine
     ∙ sym (elim c.loop-i-test.branch [
       | else-loop-i-test w ↦ after_steps-end c.loop-i.granules c.args.g c.args.flags c.loop-i.i (omega arith)
       | then-loop-i-test+then-is_idle w ↦ after_steps-idle c.loop-i.granules c.args.g c.args.flags c.loop-i.i (omega arith) (sym w.is_idle.ensures ∙ w.if-is_idle.true)
