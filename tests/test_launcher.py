@@ -37,12 +37,28 @@ def test_nothing_fits(launch, tmp_path):
     assert not (tmp_path / ".venv").exists()
 
 
+INSTALL = "install --yes --quiet python3-pytest python3-pytest-xdist python3-hypothesis python3-jsonschema\n"
+# An apt that keeps what it is asked. It installs nothing until it has a list of packages.
+APT = """\
+#!/bin/sh
+echo "$@" >> {folder}/asked
+[ "$1" = update ] && exec touch {folder}/list
+[ -e {folder}/list ] && exec ln -s {python} {folder}/bin/python3.11
+exit 100
+"""
+
+
 @pytest.mark.skipif(os.geteuid() != 0, reason="apt is for root alone")
-def test_apt_installs(launch, tmp_path):
+@pytest.mark.parametrize("has_list", [True, False])
+def test_apt_installs(launch, tmp_path, has_list):
     apt = tmp_path / "bin/apt-get"
-    apt.write_text(f'#!/bin/sh\n/bin/echo "$@" > {tmp_path}/asked\n/bin/ln -s {sys.executable} {tmp_path}/bin/python3.11\n')
+    apt.write_text(APT.format(folder=tmp_path, python=sys.executable))
     apt.chmod(0o755)
+    for name in ("touch", "ln"):
+        (tmp_path / "bin" / name).symlink_to(shutil.which(name))
+    if has_list:
+        (tmp_path / "list").touch()
     ran = launch("-q", "-p", "no:cacheprovider")
     assert "1 passed" in ran.stdout, ran.stderr
     asked = (tmp_path / "asked").read_text()
-    assert asked == "install --yes --quiet python3-pytest python3-pytest-xdist python3-hypothesis python3-jsonschema\n"
+    assert asked == (INSTALL if has_list else f"{INSTALL}update --quiet\n{INSTALL}")
