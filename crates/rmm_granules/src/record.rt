@@ -27,14 +27,15 @@ pub(crate) enum GranuleKind {
 
 /// The record that `Granules` keeps of a granule. It is seen as the granule's attributes.
 ///
-/// It has attributes of a realm and of a REC beside the kind of the state. Those that the kind does not have are left as
-/// they are. So a state without attributes is set by writing its kind and the owner.
+/// It has attributes of a REC and of a realm beside the kind of the state. Those that the kind does not have are left
+/// as they are. So a state without attributes is set by writing its kind and the owner. RMI_REC_ENTER reads the kind and
+/// the attributes of a REC, so these two lie side by side.
 #[derive(Drop)]
 pub(crate) struct GranuleRecord {
     kind: GranuleKind,
     owner: Option<Gran>,
-    realm: RmmRealm,
     rec: RmmRec,
+    realm: RmmRealm,
 }
 
 impl Model for GranuleRecord {
@@ -71,8 +72,8 @@ impl GranuleRecord {
         GranuleRecord {
             kind: GranuleKind::Undelegated,
             owner: None,
-            realm: no_realm(),
             rec: RmmRec::new(false, 0),
+            realm: no_realm(),
         }
     }
 
