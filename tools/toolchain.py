@@ -8,7 +8,7 @@ import sys
 import threading
 import types
 
-# What `rt version` prints of each toolchain that has proved the repository, a line each.
+# What `rt version` prints of each toolchain that the repository is written for, a line each.
 VERSION = f"{os.path.dirname(os.path.dirname(os.path.realpath(__file__)))}/rattle-toolchain"
 
 

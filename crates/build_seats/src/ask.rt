@@ -26,7 +26,7 @@ pub enum Question {
 pub enum Ending {
     /// The outcome when each request is accepted.
     Done,
-    /// The outcome when a request is refused. The worker asks nothing after it.
+    /// The outcome when a request is refused. The rest of the list is not asked.
     Refused,
     /// The outcome if a build's worker did not get a turn to ask its next question. The gate did not give the turn, and
     /// the question was not asked.

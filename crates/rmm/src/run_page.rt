@@ -116,7 +116,7 @@ fn write_exit<S: PageStore>(granules: &mut Granules<S>, page: Gran, exit: &RecEx
     granules.set_word(page, 256, exit.reason.code());
 }
 
-// Writes an exit into the upper half of a page. Of its fields only the reason is not zero.
+// Writes an exit into the upper half of a page. It has a reason, and its other fields are zero.
 fn write_reason<S: PageStore>(granules: &mut Granules<S>, page: Gran, reason: ExitReason)
     requires { page < granule_count granules.old }
     ensures machine { granules.new ≡ entering.with_exit_words granules.old page (only_reason reason) }
