@@ -15,6 +15,7 @@ fn wipe<S: PageStore>(granules: &mut Granules<S>, granule: Gran, kept: &RmmGranu
     requires plain { realm_of kept.now.state ≡ None }
     ensures { granules.new ≡ auxiliary.with_wiped granules.old granule kept.now }
 {
+    granules.fill(granule, 0);
     granules.set(
         granule,
         RmmGranule {
@@ -22,7 +23,6 @@ fn wipe<S: PageStore>(granules: &mut Granules<S>, granule: Gran, kept: &RmmGranu
             owner: kept.owner,
         },
     );
-    granules.fill(granule, 0);
 }
 
 // Auxiliary granule k of a REC, if the address for it in the REC's page lies in the machine.
