@@ -6,7 +6,7 @@ ghost use Rattle.rmm_model.specs.Walk.{memory_below, top as next_live};
 ghost use Rattle.rmm_model.specs.Command.Operand as operands;
 ghost use Rattle.rmm_model.specs.Command.DataCreateUnknown as creating;
 ghost use Rattle.rmm_model.specs.Command.DataDestroy as destroying;
-ghost use Rattle.rmm.specs.Found.{IsPageVacancy, IsMapped};
+ghost use Rattle.rmm.specs.CheckedOperands.{IsPageVacancy, IsMapped};
 
 use crate::granule::blank;
 use crate::operand::{check_entry, check_page, delegated, error_rtt_top, realm_of};

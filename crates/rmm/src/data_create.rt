@@ -4,7 +4,7 @@ ghost use Rattle.rmm_model.specs.Check.{outcome, first_failing, refusal_in};
 ghost use Rattle.rmm_model.specs.Machine.{granule_count};
 ghost use Rattle.rmm_model.specs.Command.DataCreate as command;
 ghost use Rattle.rmm.specs.NewPages.{flags_checks, with_data};
-ghost use Rattle.rmm.specs.Found.{IsSource, IsTarget, IsNewPage};
+ghost use Rattle.rmm.specs.CheckedOperands.{IsSource, IsTarget, IsNewPage};
 
 use crate::operand::{Rd, check_entry, check_page, delegated, host_page, realm_of};
 use crate::realm::{check_new, set_rim};

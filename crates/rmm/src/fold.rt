@@ -4,7 +4,7 @@ ghost use Rattle.rmm_model.specs.Check.{outcome, first_failing, refusal_in};
 ghost use Rattle.rmm_model.specs.Machine.{granule_count};
 ghost use Rattle.rmm_model.specs.Walk.{table_below};
 ghost use Rattle.rmm_model.specs.Command.RttFold as command;
-ghost use Rattle.rmm.specs.Found.{IsFoldable};
+ghost use Rattle.rmm.specs.CheckedOperands.{IsFoldable};
 
 use crate::granule::blank;
 use crate::operand::{check_ipa, realm_of};

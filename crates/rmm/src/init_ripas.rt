@@ -2,7 +2,7 @@
 ghost use Rattle.std.specs.Prelude.{◌≡◌, ◌^◌, ◌<◌, ◌≤◌, IfOk, OnOk};
 ghost use Rattle.rmm_model.specs.Check.{outcome, first_failing, refusal_in};
 ghost use Rattle.rmm_model.specs.Command.RttInitRipas as command;
-ghost use Rattle.rmm.specs.Found.{IsRipasRange};
+ghost use Rattle.rmm.specs.CheckedOperands.{IsRipasRange};
 
 use crate::operand::{Rd, is_protected, realm_of};
 use crate::realm::{error_realm, is_new, set_rim};

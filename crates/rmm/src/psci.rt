@@ -6,7 +6,7 @@ ghost use Rattle.rmm_model.specs.Machine.{granule_count, number_of};
 ghost use Rattle.rmm_model.specs.Command.Operand.{rec_at, rec_checks};
 ghost use Rattle.rmm_model.specs.Guest.{rec_in};
 ghost use Rattle.rmm_model.specs.Command.PsciComplete as command;
-ghost use Rattle.rmm.specs.Found.{IsCompletion};
+ghost use Rattle.rmm.specs.CheckedOperands.{IsCompletion};
 
 use crate::rec::{NamedRec, rec_of};
 use granule_addr::Gran;

@@ -6,7 +6,7 @@ ghost use Rattle.rmm_model.specs.Machine.{granule_count, with_page};
 ghost use Rattle.rmm_model.specs.Realm.{is_start, IsServed};
 ghost use Rattle.rmm_model.specs.Command.Operand.{host_checks};
 ghost use Rattle.rmm_model.specs.Command.RealmCreate as command;
-ghost use Rattle.rmm.specs.Found.{IsNewRealm};
+ghost use Rattle.rmm.specs.CheckedOperands.{IsNewRealm};
 
 use crate::operand::{delegated, host_page, is_protected};
 use granule_addr::Gran;

@@ -4,7 +4,7 @@ ghost use Rattle.rmm_model.specs.Check.{outcome, first_failing, refusal_in};
 ghost use Rattle.rmm_model.specs.Machine.{granule_count, page_in, with_page};
 ghost use Rattle.rmm_model.specs.Command.RecCreate as command;
 ghost use Rattle.rmm_model.specs.Command.RecMeasurement as measuring;
-ghost use Rattle.rmm.specs.Found.{IsNewRec};
+ghost use Rattle.rmm.specs.CheckedOperands.{IsNewRec};
 
 use crate::auxiliary::set_aux;
 use crate::operand::{delegated, host_page, realm_of};

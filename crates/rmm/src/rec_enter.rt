@@ -8,7 +8,7 @@ ghost use Rattle.rmm_model.specs.Machine.{granule_count, granule_at, number_of};
 ghost use Rattle.rmm_model.specs.Realm.{IsServed};
 ghost use Rattle.rmm_model.specs.Step as steps;
 ghost use Rattle.rmm_model.specs.Command.RecEnter as command;
-ghost use Rattle.rmm.specs.Found.{IsEntry};
+ghost use Rattle.rmm.specs.CheckedOperands.{IsEntry};
 
 use crate::access::{read, write};
 use crate::guest::{first_step, owner_realm, past_step, push_result, rec_in, rec_named};

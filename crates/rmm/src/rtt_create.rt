@@ -5,7 +5,7 @@ ghost use Rattle.rmm_model.specs.Entry.{descriptor_of, repeated_byte};
 ghost use Rattle.rmm_model.specs.Machine.{granule_count, with_page};
 ghost use Rattle.rmm_model.specs.Table.{children_page};
 ghost use Rattle.rmm_model.specs.Command.RttCreate.{rtt_create as creating};
-ghost use Rattle.rmm.specs.Found.{IsVacancy};
+ghost use Rattle.rmm.specs.CheckedOperands.{IsVacancy};
 
 use crate::operand::{check_entry, check_ipa, delegated, realm_of};
 use crate::walking::write;

@@ -4,7 +4,7 @@ ghost use Rattle.rmm_model.specs.Check.{outcome, first_failing, refusal_in};
 ghost use Rattle.rmm_model.specs.Machine.{granule_count};
 ghost use Rattle.rmm_model.specs.Walk.{table_below};
 ghost use Rattle.rmm_model.specs.Command.RttDestroy.{rtt_destroy as destroying, unused_checks};
-ghost use Rattle.rmm.specs.Found.{IsUnused};
+ghost use Rattle.rmm.specs.CheckedOperands.{IsUnused};
 
 use crate::granule::blank;
 use crate::operand::{check_ipa, error_rtt_top, is_protected, realm_of};

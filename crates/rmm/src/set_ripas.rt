@@ -3,7 +3,7 @@ ghost use Rattle.std.specs.Prelude.{◌≡◌, ◌^◌, ◌<◌, ◌≤◌, IfOk
 ghost use Rattle.rmm_model.specs.Check.{outcome, first_failing, refusal_in};
 ghost use Rattle.rmm_model.specs.Machine.{granule_count, number_of};
 ghost use Rattle.rmm_model.specs.Command.RttSetRipas as command;
-ghost use Rattle.rmm.specs.Found.{IsRequestedRange};
+ghost use Rattle.rmm.specs.CheckedOperands.{IsRequestedRange};
 
 use crate::operand::{Rd, is_protected, realm_of};
 use crate::rec::{NamedRec, error_rec, rec_of};

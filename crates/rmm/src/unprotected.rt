@@ -6,7 +6,7 @@ ghost use Rattle.rmm_model.specs.Walk.{walk as walked};
 ghost use Rattle.rmm_model.specs.Command.Operand as operands;
 ghost use Rattle.rmm_model.specs.Command.RttMapUnprotected as mapping;
 ghost use Rattle.rmm_model.specs.Command.RttUnmapUnprotected as unmapping;
-ghost use Rattle.rmm.specs.Found.{IsUnprotected};
+ghost use Rattle.rmm.specs.CheckedOperands.{IsUnprotected};
 
 use crate::operand::{check_entry, check_unprotected, realm_of};
 use crate::walking::write;
