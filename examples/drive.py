@@ -234,6 +234,8 @@ class Machine:
     def ended(self, rec):
         """Interrupts a REC that runs on. X0 of its entry, and its run page."""
         entry = self.running.pop(rec)
+        if not hasattr(self.rmm, "interrupt"):
+            raise Late(f"the entry of {rec:#x} runs on, and the RMM has no method `interrupt`")
         self.rmm.interrupt(rec)
         after = entry.after(self.seconds)
         if after is None:
