@@ -32,7 +32,7 @@ use Rattle.rmm_laws.proofs.Accesses.{reached_normal}
 use Rattle.rmm_laws.proofs.Aside.{written_apart}
 use Rattle.rmm_laws.proofs.Contents.{leads_to_data}
 use Rattle.rmm_laws.proofs.GuestWrites.{reached, written_beside}
-use Rattle.rmm_laws.proofs.Plain.{host_plain}
+use Rattle.rmm_laws.proofs.Plain.{host_inside, host_plain}
 use Rattle.rmm_laws.proofs.Writes.{page_in-other}
 
 -- ---- unprotected addresses
@@ -71,7 +71,7 @@ host_read m realm g flags ipa v size proper upper =
     (λ exit last is. absurd (cc))
     (λ address host is.
     let value : value_in (page_in m (number_of m address)) size ipa ≡ v = cc in
-    (number_of m address, host_plain m address host, reached_normal m (number_of m address) proper.linked.sound (address, host, refl), sym value))
+    (number_of m address, host_inside m address host, host_plain m address host, reached_normal m (number_of m address) proper.linked.sound (address, host, refl), sym value))
     realm upper false size 0
 
 host_reached : (m : Machine) (realm : RmmRealm) (ipa : ℕ) → is_protected realm ipa ≡ false → (size : AccessSize) (value h : ℕ) → access m realm ipa true size value ≡ Ok h → (granule_at m h).state ≡ Undelegated

@@ -16,7 +16,7 @@ use Rattle.rmm_model.specs.declared.step.GuestStep.TheVariants.{Write}
 use Rattle.rmm_model.specs.Access.{value_in}
 use Rattle.rmm_model.specs.Granule.{of_realm}
 use Rattle.rmm_model.specs.Guest.{first_step}
-use Rattle.rmm_model.specs.Machine.{Machine, granule_at, page_in, number_of}
+use Rattle.rmm_model.specs.Machine.{Machine, granule_at, granule_count, page_in, number_of}
 use Rattle.rmm_model.specs.Rec.{new_rec}
 use Rattle.rmm_model.specs.Command.RecCreate.{rec_page}
 use Rattle.rmm_model.specs.Command.RecEnter.{running_at, step_outcome, after_step, with_step_passed, first_step_outcome, after_first_step}
@@ -33,9 +33,9 @@ abbrev pub is_write : GuestStep → Bool
 is_write (Write ipa value size) = true
 is_write _ = false
 
--- a value is one that an access reads from some host page outside the secure world
+-- a value is one that an access reads from some host page of the machine outside the secure world
 abbrev pub IsHostValue : Machine → AccessSize → ℕ → ℕ → Type 0
-IsHostValue m size ipa value = (h : ℕ) × ((granule_at m h).state ≡ Undelegated) × IsNormal m h × (value ≡ value_in (page_in m h) size ipa)
+IsHostValue m size ipa value = (h : ℕ) × (h < granule_count m) × ((granule_at m h).state ≡ Undelegated) × IsNormal m h × (value ≡ value_in (page_in m h) size ipa)
 
 -- a REC's first step has the outcome and the effect of that step in the given realm
 abbrev pub IsStepFor : Machine → RmmRealm → ℕ → ℕ → Type 0
