@@ -6,8 +6,8 @@
  *
  * The host has a model of an RMM. A command of a build is performed on the model at once by rhm_ask. In front of an RMM
  * it takes two steps: rhm_prepare gives the operations that the hypervisor performs there, and changes nothing;
- * rhm_commit is given the answer, and performs the command here if it is the model's. rhm_run does both, with a
- * function of the hypervisor for each operation.
+ * rhm_commit is given the answer, and performs the command here if it agrees with the model's. rhm_run does both,
+ * with a function of the hypervisor for each operation.
  *
  * Each name here begins with `rhm_` or `RHM_`, so the headers of a hypervisor or of rmm.h can be included too.
  *

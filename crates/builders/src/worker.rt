@@ -78,8 +78,8 @@ impl<L: Ledgers> Worker<L> {
     }
 
     /// Performs the steps of the worker's build, in turns that the scheduler `gate` gives. After the first refusal the
-    /// remaining steps are left out, the running RECs exit, and what is open is undone. The worker stops when the gate
-    /// stops a turn.
+    /// remaining steps are left out. The worker then asks for exits of the running RECs, and for undos of what is open.
+    /// It stops at a refusal of these, or when the gate stops a turn.
     pub fn run<R: Wait, S: PageStore, G: Gate>(&mut self, rt: &R, shared: &Shared<S, L>, gate: &G)
         requires { self.old.lines ≡ [] }
         ensures { IsWorkerRun L.opened (G.passes gate.now self.old.seat.build) (G.stops gate.now self.old.seat.build) self.old self.new }

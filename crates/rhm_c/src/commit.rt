@@ -80,7 +80,8 @@ fn are_outputs(actions: &[HostAction], x1: u64) -> bool
     actions.iter().all(|action| is_output(action, x1))
 }
 
-// Checks that the RMM's answer is the model's, for operations that the model performs. The error is the call's answer.
+// Checks that the RMM's answer agrees with the model's, for operations that the model performs. The error is the call's
+// answer.
 fn check_performed(actions: &[HostAction], answer: &FirmwareAnswer) -> Result<(), CallAnswer>
     ensures { result ≡ commits.check_performed answer.now actions.now }
 {
@@ -161,7 +162,7 @@ fn commit_undo(
 }
 
 /// Performs a prepared command of a build if the RMM answered as the model predicts. `answer` has the registers of the
-/// RMM's answer. If the model's answer is the same, does and returns what `rhm_ask` would.
+/// RMM's answer. If they agree with the model's answer, does and returns what `rhm_ask` would.
 ///
 /// Else nothing changes. 16: X0 is not the model's, which is `value`: 0 if the model performs the call, and else the
 /// word of its refusal. 17: X0 is the model's, and X1 is not the output that the host knows.
