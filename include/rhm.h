@@ -93,17 +93,17 @@ void rhm_close(rhm_handle *handle) RHM_NO_NULL;
 
 enum {
     RHM_DONE = 0,
-    /* refusals: of those that apply and hold, the one with the lowest number */
+    /* refusals: of those that apply and hold, the one with the lowest number. The value is that of rhm_ask and rhm_commit */
     RHM_NO_BUILD = 1,
     RHM_ABORTING = 2,
-    RHM_BAD_ORDER = 3,
+    RHM_BAD_ORDER = 3,  /* above 9 */
     RHM_NOT_LEASED = 4, /* the build has no such page, which is the value */
     RHM_REALM_THERE = 5,
     RHM_NO_REALM = 6,
     RHM_NOTHING_TO_UNDO = 7,
     RHM_REC_RUNNING = 8,
-    RHM_JOURNAL_FULL = 9,
-    RHM_HISTORY_FULL = 10, /* from here on the build can only undo, until the handle is closed */
+    RHM_JOURNAL_FULL = 9, /* the build has 512 operations open */
+    RHM_HISTORY_FULL = 10, /* the build lacks room for the command; exits and undos have theirs */
     RHM_NO_BLOCK = 11, /* no block of the order is free, which is the value */
     RHM_NO_VMID = 12,
     RHM_RMI = 13, /* the model of the RMM refuses; the value is its result word */
