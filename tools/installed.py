@@ -35,6 +35,7 @@ MODEL = re.compile(r"(?<![\w./-])tests/(?=second_rmm\b|rmm_lines\.py\b)")
 # Command lines that have another form with a package.
 FORMS = (
     (r"(?m)^\$ make try$", "$ realmview why plans/missing-tables.toml"),
+    (r"(?m)^cc -Iinclude (.*) build/lib(\w+)\.a build/lib(\w+)\.a ", r"cc \1 $(pkg-config --cflags --libs \2 \3) "),
     (r"(?m)^cc -Iinclude (.*) build/lib(\w+)\.a ", r"cc \1 $(pkg-config --cflags --libs \2) "),
     (
         r"(?m)^export PKG_CONFIG_PATH=build LD_LIBRARY_PATH=build$",
