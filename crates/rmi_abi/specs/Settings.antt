@@ -41,7 +41,8 @@ pub record IsPlatform (s : RmmSettings) : Type 0 where
   pub wps : s.wps ≤ 63
   pub lrs : s.lrs ≤ 15
 
--- The default of each setting: RMM 1.0-rel0, the widest sizes, and the likeliest choice where the standard leaves one.
+-- The default of each setting: RMM 1.0-rel0, the widest addresses, and one choice where the standard leaves several.
+-- The fields of the GIC are not checked.
 abbrev pub default_settings : RmmSettings
 default_settings = record {
   base = 0x80000000;
