@@ -6,7 +6,7 @@ use Rattle.std.proofs.lemmas.Bool.{cases_Bool, eqb-true, eq-eqb}
 use Rattle.std.proofs.lemmas.List.{get_or_default}
 use Rattle.std.proofs.lemmas.List.Folds.{Any-from_list_any, list_any_at}
 use Rattle.std.proofs.lemmas.List.FromFn.{length-range_with_len, get_or-range_with_len}
-use Rattle.page_arena.proofs.Found.{find_none, find_at}
+use Rattle.page_arena.proofs.Find.{find_none, find_at}
 use Rattle.buddy.specs.Heads.{head_at}
 use Rattle.buddy.specs.FirstBlock.{ListsView, has_head, first_block}
 use Rattle.buddy.specs.Links.{at, HasHead}

@@ -12,7 +12,7 @@ use Rattle.std.proofs.lemmas.Nat.{pow_pos}
 use Rattle.page_arena.specs.Page.{is_free}
 use Rattle.page_arena.specs.Block.{IsRun, IsFreeBlock}
 use Rattle.page_arena.specs.LowestBlock.{begins_free_block, lowest_block}
-use Rattle.page_arena.proofs.Found.{find_none, find_at}
+use Rattle.page_arena.proofs.Find.{find_none, find_at}
 
 both_left : (a b : Bool) → (a && b) ≡ true → a ≡ true
 both_left true b both = refl
