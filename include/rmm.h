@@ -13,8 +13,9 @@
  *
  * What a caller has to guarantee is at each function after `Required:`, and nothing checks it. There `handle` is:
  *   - a pointer to an rmm_handle, and not NULL;
- *   - all bytes of it are 0, or it came from rmm_open and was neither copied, moved nor written to since;
- *   - no other pointer of the call leads into it;
+ *   - it is RMM_CLOSED, all bytes of it are 0, or it is as the last call with it left it: neither copied, moved nor
+ *     written to since;
+ *   - no two pointers of the call lead into the same memory;
  *   - one call with it at a time, and none from a signal handler, nor from the forked child of a process with threads.
  * Two handles have nothing in common: each may be in a thread of its own.
  */
@@ -74,7 +75,7 @@ typedef struct rmm_settings {
     bool aligns_live_top;    /* `top` of a live entry is the address at which the entry begins */
     bool shows_target_alone; /* a PSCI exit shows the function and the target alone */
     bool takes_shareability; /* bits 9:8 of a descriptor are the host's to choose, but for 0b01 */
-    bool checks_params;      /* fields of RmiRealmParams above those of feature register 0 are refused */
+    bool checks_params;      /* num_bps, num_wps and sve_vl above those of feature register 0 are refused */
     bool checks_gic;         /* RMI_REC_ENTER checks gicv3_hcr and gicv3_lrs */
 } rmm_settings;
 
@@ -157,7 +158,9 @@ bool rmm_load(rmm_handle *handle, uint64_t address, void *bytes, size_t count) R
 bool rmm_store(rmm_handle *handle, uint64_t address, const void *bytes, size_t count) RMM_NO_NULL;
 
 /* ---- guests. A REC has a list of at most 16 steps. RMI_REC_ENTER performs them until one makes an exit; if none is
- * left, the exit is IRQ */
+ * left, the exit is IRQ. A step whose exit is SYNC stays, and is tried again at the next entry unless the host answers
+ * it there; RMM_STEP_SYSTEM_REGISTER is done with its exit. A host call, a change of RIPAS and a PSCI call with an exit
+ * have their result after the next entry */
 
 /* A step, and its operands a to d in the sequence here. An operand that is not named is not looked at. */
 enum {
@@ -196,8 +199,9 @@ enum { RMM_QUEUED = 0, RMM_FULL = 1, RMM_NO_REC = 2 };
  * Required: handle; `step` is not NULL, and each of its fields is written. */
 uint64_t rmm_guest(rmm_handle *handle, uint64_t rec, const rmm_step *step) RMM_NO_NULL;
 
-/* Ends the run of a REC: the exit IRQ is written to the run page that RMI_REC_ENTER named, and `word` is what it
- * returns. False, with nothing changed, if the REC is not RUNNING.
+/* Ends the run of a REC, and `word` is what its RMI_REC_ENTER returns. It is 0, and the exit IRQ is in the run page that
+ * the entry named; or RMI_ERROR_INPUT, with no exit written, if that page is the host's no longer. False, with nothing
+ * changed, if the REC is not RUNNING.
  * Required: handle; `word` is not NULL, and may be written to. */
 bool rmm_interrupt(rmm_handle *handle, uint64_t rec, uint64_t *word) RMM_NO_NULL;
 

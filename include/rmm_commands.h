@@ -43,8 +43,8 @@ extern "C" {
 #define RMM_FID_RTT_INIT_RIPAS 0xC4000168
 #define RMM_FID_RTT_SET_RIPAS 0xC4000169
 
-/* ---- commands. Each returns its result word. An output is written whatever the word is, 0 if there is none, and
- * left out where its pointer is NULL */
+/* ---- commands. Each returns its result word. An output is written whatever the word is: 0 if there is none, and with
+ * RMM_NOT_SUPPORTED what the register had before the call. It is left out if its pointer is NULL */
 
 static inline rmm_registers rmm_registers_of(uint64_t x0, uint64_t x1, uint64_t x2, uint64_t x3, uint64_t x4,
                                              uint64_t x5, uint64_t x6)

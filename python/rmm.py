@@ -11,9 +11,9 @@
         rmm.smc(0xC4000151, 0x80010000)                    # [1, 0, 0, 0, 0]
         rmm.line("state 0x80010000")                       # 'DELEGATED': a line of a trace
 
-A method has the name of a function of include/rmm.h or include/rmm_commands.h. A command returns its Answer. With
-`raises=True` an answer that is not RMI_SUCCESS is raised as `Refused`, and a load or store that faults as `Fault`. A
-number that no register holds, below 0 or from 2^64 on, is an OverflowError. An RMM that is closed is a ValueError.
+A method has the name of a function of include/rmm.h or include/rmm_commands.h; `results` is rmm_result. A command returns
+its Answer. With `raises=True` a command that is refused is raised as `Refused`, and a load or store that faults as
+`Fault`; what `smc` and `interrupt` return is not. A number that no register holds, below 0 or from 2^64 on, is an OverflowError. An RMM that is closed is a ValueError.
 
 This needs librmm.so.0 (`make c-library`). It is looked for at the path of $RMM_LIBRARY, beside this file, in the
 folder build/ of the repository, and where the system has its libraries. Where it is not found, there is an OSError.
@@ -510,6 +510,9 @@ class Rmm:
 
     def line(self, text):
         """The answer to a line of a trace, as 'RMI_SUCCESS'; '' to a comment, and to a platform: a fresh machine."""
+        # (an interrupt or a platform ends runs; what run page a later entry has is not known here)
+        if text.startswith(("interrupt ", "platform ")):
+            self._runs.clear()
         line, room = text.encode(errors="surrogateescape"), ctypes.create_string_buffer(ANSWER_SIZE)
         count = self._call("line", line, len(line), room, len(room))
         if count == NOT_ANSWERED:
