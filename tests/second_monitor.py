@@ -1,7 +1,7 @@
 """A second monitor, in which each rule can be switched off: for `tests/test_rules.py`, and to see what a rule is good for.
 
-It was written from TRACES.md, RULES.md and the definitions in crates/realm_model/specs/Command, and has no
-code in common with `rmitrace`. A command is a generator: it yields its checks in their order, and then changes the
+It was written from RULES.md and the definitions in crates/realm_model/specs/Command, and has no code in
+common with the proved RMM. A command is a generator: it yields its checks in their order, and then changes the
 machine. A rule is named by its command and a word, as `data_create.new`; effects begin with `then_` or `says_`, and
 what is allowed with `may_`.
 
@@ -324,7 +324,7 @@ class Monitor:
         yield None, self.keeps("may_be_16") or len(auxiliaries) < 16, INPUT
         yield "each_once", len(set(auxiliaries)) == len(auxiliaries), INPUT
         yield "apart", granule not in auxiliaries, INPUT
-        # (no trace has that many RECs)
+        # (a precondition of the proved RMM; no history has that many)
         yield None, realm.next < 65535, INPUT
         yield "new", realm.state == "NEW", REALM
         number, realm.next = realm.next, realm.next + (1 if self.keeps("then_next_rises") else 0)
