@@ -1,4 +1,4 @@
-/* How long a call of the RMM for C takes: nanoseconds of the processor, the least of several rounds.
+/* The time of a call of the RMM for C: nanoseconds of the processor, the least of several rounds.
  *
  *     cc -O2 -Iinclude bench/calls.c build/librmm.a -o calls && ./calls
  */

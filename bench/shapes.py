@@ -38,7 +38,7 @@ def filled():
 
 
 def with_realm(steps):
-    """The steps behind a realm with tables over its first pages: page 4 is DELEGATED, and page 5 the host's."""
+    """The steps after a realm with tables over its first pages: page 4 is DELEGATED, and page 5 the host's."""
     realm = ["take 3"] + [f"delegate {page}" for page in range(5)] + ["realm 0 1", "rtt 2 0 2", "rtt 3 0 3"]
     return realm + steps
 
@@ -109,7 +109,7 @@ SHAPES = {
 # The one shape of which nothing but the reader is measured: it has no ratio.
 READ_ALONE = {"plan of 1 MiB, refused"}
 
-# What grows with what: of each series, the numbers, and the plan of one.
+# The series of growth: of each one, the numbers, and the plan of one.
 SERIES = {
     "turns": (range(2048, MOST_TURNS + 1, 2048), lambda n: plan(4096, [mixed_orders(b) for b in range(8)], turns=n)),
     "pages": (range(512, 4097, 512), lambda n: plan(n, [filled() for _ in range(n // 512)])),

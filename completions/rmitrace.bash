@@ -2,7 +2,7 @@
 _rmitrace() {
     local word=${COMP_WORDS[COMP_CWORD]} before=${COMP_WORDS[COMP_CWORD - 1]} command='' at
     COMPREPLY=()
-    # Behind < or > comes a file.
+    # After < or > comes a file.
     [[ $before == [\<\>]* || $word == [\<\>]* ]] && return
     # In --erase=3 the sign is a word of its own.
     if [[ $word == = ]]; then

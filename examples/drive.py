@@ -166,7 +166,7 @@ class Watch(threading.Thread):
 
 
 class Ledger:
-    """What the accepted calls of a machine have made."""
+    """The ledger of a machine: the results of its accepted calls."""
 
     def __init__(self):
         self.delegated, self.recs, self.realms, self.named = set(), {}, {}, set()
@@ -191,7 +191,7 @@ class Ledger:
 
 
 class NotUndone(Exception):
-    """What the teardown of a machine could not take down."""
+    """A part that the teardown of a machine could not take down."""
 
 
 class Machine:
@@ -301,7 +301,7 @@ class Machine:
 
 
 class LeftOut(Exception):
-    """Why a line is not asked."""
+    """The reason for which a line is not asked."""
 
 
 # The results of a guest's steps that have a value.
@@ -371,7 +371,7 @@ class Driver:
         return ", ".join([word_text(after[0]), *(self.exit(self.memory.moved(values[1])) if is_exit else outputs)])
 
     def exit(self, run):
-        """What an exit has written to a run page, as far as a line has it."""
+        """The fields that an exit has written to a run page, as far as a line has them."""
         page = self.rmm.load(run, PAGE)
         read = lambda at, width: int.from_bytes(page[at : at + width], "little")
         values = {name: [read(at + k * width, width) for k in range(most)] for name, (at, width, most) in EXIT.items()}
@@ -458,7 +458,7 @@ class Report:
         self.counts = {"same": 0, "refused": 0, "wrong": 0, "left out": 0}
 
     def trace(self, name, lines):
-        """Drives a trace. False if it has ended early: what is left in the RMM is not known, and no trace can follow."""
+        """Drives a trace. False if it has ended early: what is left in the RMM is not known, so no other can follow."""
         try:
             self.ask(name, lines)
         except (Late, NoLine, NotUndone) as why:

@@ -264,7 +264,7 @@ def are_values(name, written, here):
 
 
 def verdict(question, written, here):
-    """How the answer of the RMM compares with the one that is written."""
+    """The comparison of the RMM's answer with the one that is written."""
     kind = question.split(" ")[0]
     if kind == "smc":
         written, here = written.split(" "), here.split(" ")

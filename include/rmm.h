@@ -1,6 +1,6 @@
 /* rmm.h: a simulated Realm Management Monitor as a library, to test hosts against. For C11 and C++11.
  *
- * It is the monitor of RMM 1.0 (Arm DEN0137), called by registers as firmware is: all 23 commands of the RMI, with
+ * It is an RMM of version 1.0 (Arm DEN0137), called by registers as firmware is: all 23 commands of the RMI, with
  * addresses, parameter pages and run pages. Its guests are simulated: each REC has a list of steps. Each function is
  * proved to do what the definition of its command says, whatever the registers are.
  *
@@ -53,7 +53,7 @@ typedef struct rmm_handle {
 
 RMM_STATIC_ASSERT(sizeof(rmm_handle) == 16 && offsetof(rmm_handle, monitor) == 8, "rmm_handle has 16 bytes");
 
-/* The memory of a machine, and the choices that RMM 1.0 leaves to a monitor. */
+/* The memory of a machine, and the choices that RMM 1.0 leaves to an RMM. */
 typedef struct rmm_settings {
     uint64_t granules;       /* 1 to 4096, from `base` on */
     uint64_t base;           /* a multiple of 4096 below 2^47 */
@@ -149,7 +149,7 @@ bool rmm_is_allowed(rmm_handle *handle, const rmm_registers *registers, uint64_t
 
 /* ---- memory of the host */
 
-/* Reads and writes bytes within one granule. False, with nothing changed, where a host gets a granule protection fault:
+/* Reads and writes bytes within one granule. False, with nothing changed, if a host gets a granule protection fault:
  * the granule is not UNDELEGATED, is secure, or there is none. False also for bytes of more than one granule, and on a
  * closed handle.
  * Required: handle; `bytes` is not NULL, not even if `count` is 0; it points to `count` bytes, which rmm_store reads

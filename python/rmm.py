@@ -166,7 +166,7 @@ class NoMachine(ValueError):
 
 
 class Exit(NamedTuple):
-    """What an exit writes to the run page. RMM 1.0, RmiRecExit."""
+    """The fields that an exit writes to the run page. RMM 1.0, RmiRecExit."""
 
     reason: str
     esr: int

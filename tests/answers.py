@@ -1,4 +1,4 @@
-"""What has to hold of the programs' answers to any bytes, where no text is known for them.
+"""Properties of the programs' answers to any bytes, for inputs whose text is not known.
 
 The answers to one plan are compared with one another: `findings` runs it, leaves a build out, and runs what was accepted alone.
 """
@@ -75,12 +75,12 @@ def fault_of_threads(replayed, ran):
 FINDING = re.compile(r"plan:(\d+):(\d+): (error|warning): (.+)\n")
 # A line below the carets of a finding.
 NOTE = re.compile(r"(help: |note: |    ).*\n")
-# How many bytes of a line are shown on either side of a place; two fewer where some are left out.
+# The number of bytes of a line that are shown on either side of a place; two fewer if some are left out.
 SHOWN = 80
 
 
 def cut_lines(text):
-    """The line of each place as it is shown, and how much of it may stand before and above the carets below it."""
+    """The line of each place as it is shown, and how much of it may be before and above the carets below it."""
 
     def plain(part):
         return bytes(0x20 if byte < 0x20 or byte == 0x7F else byte for byte in part).decode(errors="replace")
@@ -100,7 +100,7 @@ def cut_lines(text):
 
 
 def size_of(plan):
-    """The line that tells how much a plan has."""
+    """The line that has the size of a plan."""
     keys = tomllib.loads(plan.decode().removeprefix("\ufeff"))
     counts = len(keys["build"]), sum(len(it["steps"]) for it in keys["build"]), len(keys.get("order", []))
     nouns = ("build", "step", "turn")
@@ -108,8 +108,8 @@ def size_of(plan):
 
 
 def fault_of_a_check(plan, replayed, checked):
-    """What is wrong with a check of a plan, if anything is: it has an error exactly where a replay has the fault of a plan, it
-    ends with the plan's size where there is none, and each place lies inside the text and is shown."""
+    """The fault of a check of a plan, or none: it has an error exactly if a replay has the fault of a plan, it ends with the
+    plan's size if there is none, and each place lies inside the text and is shown."""
     status, out, err = checked
     is_fault = replayed[0] == 1 and REFUSED.fullmatch(replayed[2]) is not None
     if (status, err) != (1 if is_fault else 0, b""):
@@ -138,7 +138,7 @@ def fault_of_a_check(plan, replayed, checked):
 
 
 def findings(ask, plan, build):
-    """Which answers to a plan are wrong. `ask(words, plan)` answers status, standard output and standard error."""
+    """The answers to a plan that are wrong. `ask(words, plan)` answers status, standard output and standard error."""
     erase = (b"replay", b"--erase", b"%d" % build)
     replayed, erased, ran = (ask(words, plan) for words in ((b"replay",), erase, (b"run",)))
     if fault_of_a_replay(*replayed):

@@ -1,5 +1,5 @@
 #!/usr/bin/env python3
-"""What must be believed of the headline: the definitions that the contracts of CONTRACTS name, and what these name in
+"""The definitions that must be believed of the headline: those that the contracts of CONTRACTS name, and what these name in
 turn, by the `use` lines of each file. With a type comes what it is seen as, and with a field of a type the field's own type;
 of the types of WHOLE also what always holds of them. So from Host on, this leads from its memory to the world that contracts
 speak of.
@@ -9,10 +9,10 @@ tests/test_believed.py holds DEFINITIONS.md and the documents' numbers against t
     tests/believed.py --list    writes each file, and the definitions in it that are needed
     tests/believed.py --text    writes the definitions themselves, with their comments; the types in src/ that they name are in --list
 
-Of DEFINITIONS.md, the part "What the headline needs" has to name each file that is needed, and no other; where only names
-stand in brackets behind a file, they are the definitions that are needed of it. Each other file of definitions is named below.
+Of DEFINITIONS.md, the part "What the headline needs" has to name each file that is needed, and no other; if only names
+are in brackets after a file, they are the definitions that are needed of it. Each other file of definitions is named below.
 
-A name that is bound in a definition counts as the definition of that name, where the file has one: so there may be a little
+A name that is bound in a definition counts as the definition of that name, if the file has one: so there may be a little
 too much, and nothing is left out. The library of the toolchain, and its ports, are not followed.
 """
 import collections
@@ -40,12 +40,12 @@ USE = re.compile(r"^ *(?:ghost )?use Rattle\.([\w.]+?)(?:\.\{([^}]*)\}|(?: as (\
 DEFINED = re.compile(r"(?:abbrev |unfoldable |opaque )*pub (record |data )?(?!mod |record |data )([^\s:({.]+)")
 WORD = re.compile(r"(?<![\w.'])([A-Za-z_][\w']*(?:-[\w']+)*)(?:\.([A-Za-z_][\w']*))?")
 NUMBERS = re.compile(r"(\d+)\s+definitions\s+in\s+(\d+)\s+files,\s+about\s+([\d,]+)\s+lines")
-# Where a line of a document ends that its paragraph or item goes on behind.
+# The end of a line of a document after which its paragraph or item goes on.
 WRAPPED = re.compile(r"\n(?=[ \t]*[^\s|#>!<])(?![ \t]*([-*] |\d+\.\s))")
 
-# What a file of specs/ has: of each definition its lines, and those of the comment above it; of each constructor its type.
+# The parts of a file of specs/: of each definition its lines, and those of the comment above it; of each constructor its type.
 Specs = collections.namedtuple("Specs", "definitions comments constructors scope")
-# Where the names of a file come from: of a name its module and its name there, and of an alias its module.
+# The origins of the names of a file: of a name its module and its name there, and of an alias its module.
 Scope = collections.namedtuple("Scope", "names modules")
 
 
@@ -97,7 +97,7 @@ def file_of(module):
 
 
 def named(code, scope, path=None, own=()):
-    """What a piece of code names: definitions, each as its file and its name, and types, as the file of src/ and the name."""
+    """The names in a piece of code: definitions, each as its file and its name, and types, as the file of src/ and the name."""
     pairs = [(path, it) for it in own if re.search(rf"(?<![\w.']){re.escape(it)}(?![\w'])", code)]
     modules = [scope.names[word] for word, _ in WORD.findall(code) if word in scope.names and word not in own]
     modules += [(scope.modules[word], part) for word, part in WORD.findall(code) if part and word in scope.modules]
@@ -132,19 +132,19 @@ def types_in(code, path):
     for name in sorted(set(re.findall(r"\b[A-Z]\w*", code))):
         crates = [crate, *(home for home, names in used if re.search(rf"\b{name}\b", names))]
         homes = [it for it in types()[name] if it.relative_to(CRATES).parts[0] in crates]
-        # What a crate has from another one under its own name.
+        # A type that a crate has from another one under its own name.
         homes = homes or [it for it in types()[name] if re.search(rf"use crate::(\{{[^}}]*)?\b{name}\b", text)]
         yield from ((it, name) for it in homes[:1])
 
 
 def clause(block, word):
-    """What stands in the braces of a line `ghost WORD = { .. };`, or nothing."""
+    """The text in the braces of a line `ghost WORD = { .. };`, or nothing."""
     at = re.search(rf"ghost {word} = \{{", block)
     return block[at.end() : at.end() + re.search(r"\};\n", block[at.end() :]).start()] if at else ""
 
 
 def of_type(path, name):
-    """What a type leads to: the types of its fields, and what it is seen as."""
+    """The names that a type leads to: the types of its fields, and what it is seen as."""
     text = path.read_text(encoding="utf-8")
     declared = re.search(rf"^pub(?:\(crate\))? (?:struct|enum) {name}\b.*?(?:;$|^\}})", text, re.M | re.S)
     model = re.search(rf"^impl\b[^\n]*\bModel for {name}\b.*?^\}}", text, re.M | re.S)
@@ -157,7 +157,7 @@ def of_type(path, name):
 
 
 def of_contract(path, function):
-    """What the contract of a function names, with the types of its signature and its own."""
+    """The names in the contract of a function, with the types of its signature and its own."""
     text = path.read_text(encoding="utf-8")
     found = re.search(rf"^( *)pub fn {function}\b.*?^\1\{{", text, re.M | re.S)
     head, _, contract = found[0].partition("\n")
@@ -194,14 +194,14 @@ def by_file(names):
 
 
 def parts():
-    """The part of the list that the headline needs, and what stands below it."""
+    """The part of the list that the headline needs, and what is below it."""
     _, _, behind = LIST.read_text(encoding="utf-8").partition(HEADING + "\n")
     part, *rest = re.split(r"^##", behind, flags=re.M)
     return WRAPPED.sub(" ", part), WRAPPED.sub(" ", "\n".join(rest))
 
 
 def files_in(text):
-    """The files of crates that a part of the list names, each with the names that alone stand in brackets behind it."""
+    """The files of crates that a part of the list names, each with the names that alone are in brackets after it."""
     found = {}
     for line in text.split("\n"):
         folder = DEFAULT

@@ -160,7 +160,7 @@ class Library(NamedTuple):
         same("the linked program", ran([room.from_text("linked.c", self.first("c"), *words, common=[])], env=where), self.said)
 
     def installed(self, room, script, said):
-        """What `make install-c-library` puts below a folder is enough to link the first program, and for a script in Python."""
+        """Links the first program by what `make install-c-library` puts below a folder alone, and runs a script in Python."""
         ran(["make", "-s", "-C", TOP, "install-c-library", f"DESTDIR={room.folder}", "PREFIX=/usr"])
         below = room.folder / "usr"
         self.linked(room, below / "lib/pkgconfig", below / "lib")

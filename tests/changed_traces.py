@@ -79,7 +79,7 @@ def text_of(lines):
 
 
 def findings(ask, lines):
-    """Which answers to a trace are wrong. `ask(words, trace)` answers status, standard output and standard error."""
+    """The answers to a trace that are wrong. `ask(words, trace)` answers status, standard output and standard error."""
     bench = Bench()
     try:
         answered = [bench.line(it) for it in lines]

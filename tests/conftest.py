@@ -1,4 +1,4 @@
-"""What all tests share: checks that are counted, differences that are shown as a diff, and a word where a program is not built."""
+"""Parts that all tests share: checks that are counted, differences as a diff, and a word if a program is not built."""
 import collections
 import os
 import sys

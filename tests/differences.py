@@ -1,9 +1,9 @@
-"""Lines that show how two values differ: of texts and of lists a diff, in which `-` is wanted and `+` is what came; of outcomes the
+"""Lines that show how two values differ: of texts and of lists a diff, in which `-` is expected and `+` came; of outcomes the
 parts that are not alike.
 """
 import difflib
 
-# How many lines of a difference are shown, with how many equal ones around them, and how many characters of what is no text.
+# The most lines of a difference that are shown, the equal ones around them, and the most characters of what is no text.
 MOST_LINES, CONTEXT, MOST_CHARACTERS = 40, 1, 600
 
 
@@ -36,7 +36,7 @@ def difference(got, wanted):
 
 
 def differing(name, came, *wanted):
-    """What differs in an outcome, or none."""
+    """The difference of an outcome, or none."""
     return None if tuple(came) == wanted else "\n".join([f"{name}:", *difference(came, wanted)])
 
 

@@ -1,8 +1,8 @@
-"""Must-fail edits: whose body an edit changes, and which edits can share a check.
+"""Must-fail edits: the function whose body an edit changes, and the edits that can share a check.
 
 An edit is a file with a line `file: src/NAME.rt` and, below it, pairs of lines `old: TEXT` and `new: TEXT`. Each TEXT
-is one line, and an old one stands in its file once. An edit changes the body of one function and nothing else, since it
-is then that function which the prover has to refuse. It may add functions right behind: `{ 0 } pub fn kept(self) -> u8`
+is one line, and an old one is in its file once. An edit changes the body of one function and nothing else, since it
+is then that function which the prover has to refuse. It may add functions right after: `{ 0 } pub fn kept(self) -> u8`
 in front of a body makes `{ 0 }` the body, and hands the old one to `kept`.
 """
 import os
@@ -22,7 +22,7 @@ class Edit:
         self.why_bad, self.file, self.function = "", "", None
         # The function with the edit, from its attributes to its end.
         self.text = b""
-        # The names that the prover prints for the function, and for those that the edit adds behind it.
+        # The names that the prover prints for the function, and for those that the edit adds after it.
         self.name, self.added = "", set()
 
     def can_share(self, other):
@@ -140,7 +140,7 @@ class Sources:
 
 def is_body_alone(before, function, text, changed):
     """Returns whether a text differs from what it was before in a function's body alone, or in blanks around it.
-    `changed` is that function, and those that stand behind it now."""
+    `changed` is that function, and those that follow it now."""
     same_head = text[function.first : changed[0].opens].split() == before[function.first : function.opens].split()
     same_rest = text[changed[-1].end :].lstrip() == before[function.end :].lstrip()
     return same_head and same_rest and text[: function.first] == before[: function.first]

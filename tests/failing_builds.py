@@ -4,9 +4,9 @@ The texts are worked out here by the rules: every step is accepted, and an abort
 """
 from programs import plan_of
 
-# The steps that open an act, by their word; the reverse of an act has the same word.
+# The steps that open an operation, by their word; the reverse of an operation has the same word.
 OPENING = {"take", "delegate", "realm", "rtt", "data", "rec"}
-# How many turns the failing build has after those that all three have.
+# The number of turns that the failing build has after those that all three have.
 TURNS_TO_ABORT = 14
 
 MAP_OF_THE_OTHERS = """\
@@ -56,7 +56,7 @@ def aborted(build, steps):
 def failing_build(done):
     """A plan in which build 1 aborts after `done` steps, the text of its run, and the map of the run without build 1."""
     lives = [life(7), life(8)[:done], life(9)]
-    # A REC that runs would stand in the way of the abort.
+    # A REC that runs would prevent the abort.
     exits = ["exit 0"] if "enter 0" in lives[1] else []
     # Build 1 has VMID 2 before build 2 asks for one, where it has come as far as its realm.
     vmid = 3 if "realm 0 1" in lives[1] else 2

@@ -1,15 +1,15 @@
-"""What a history leads to on the second monitor: for `tests/test_json.py`.
+"""The state that a history leads to on the second RMM: for `tests/test_json.py`.
 
 Each event of a history (REALMVIEW.md) is a command to tests/second_monitor.py. What the host keeps itself, as which pages a
-build leases and which granule is which REC, is kept here, from the events. What is there then is told as a document of
-`realmview json` tells it (REALMVIEW.md). The module has no code in common with `realmview`.
+build leases and which granule is which REC, is kept here, from the events. The state is given as a document of
+`realmview json` has it (REALMVIEW.md). The module has no code in common with `realmview`.
 """
 from collections.abc import Iterator
 
 from second_machine import Entry, Realm
 from second_monitor import COVERED, Monitor, line_of
 
-# What an event tells that the monitor answered, by its place.
+# The answer of the RMM that an event has, by its place.
 ANSWERED = {"peek": 2, "rec": 1}
 
 
@@ -24,9 +24,9 @@ class HistoryModel:
         builds = range(settings["builds"])
         # Of each build: its pages by their own numbers, its RD, and the granules of its RECs by their numbers.
         self.pages, self.rds, self.recs = [[] for _ in builds], [None for _ in builds], [{} for _ in builds]
-        # Who leases a granule.
+        # The build that leases a granule.
         self.leased: dict[int, int] = {}
-        # The events that the monitor answers otherwise than they tell.
+        # The events whose answer by the RMM is another than theirs.
         self.faults: list[tuple[str, str]] = []
 
     # ---- events
@@ -96,7 +96,7 @@ class HistoryModel:
         return self.rows(self.realm_of(build).tables)
 
     def rows(self, tables: list[int], level: int = 1, first: int = 0) -> list[dict]:
-        """The rows of tables that stand one behind the other. Those that say the same are one item."""
+        """The rows of tables that follow one another. Those that say the same are one item."""
         items, before = [], None
         for place, entry in enumerate(entry for table in tables for entry in self.monitor.machine.granules[table].table):
             told, begin = told_entry(entry), first + place * COVERED[level]

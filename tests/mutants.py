@@ -8,12 +8,12 @@ The edits are those of crates/NAME/must-fail/ and crates/NAME/mutants/. Each get
   NOT REFUSED  it does not: the body may be right, or the contract too weak
   BAD EDIT     it changes more than one function's body, or it does not compile
   NO VERDICT   the prover did not say
-The last line is `edits: N passed, M failed`. The status is 0 where none failed, 1 where one did, and 2 where none was
+The last line is `edits: N passed, M failed`. The status is 0 if none failed, 1 if one did, and 2 if none was
 tried. Of the repository only folders out/ are written.
 
 With --since, only the crates that have changed since a commit are tried, and those above them an edit of which names a
 function or a type that has changed. With --planted, the edits of tests/planted/NAME/ are tried beside the crate's own, in
-the same checks. They keep the meaning, or are bad, and the line `told: ..` of each is what has to be said of it. The last
+the same checks. They keep the meaning, or are bad, and the line `told: ..` of each is the report that it has to get. The last
 line then counts those.
 """
 # The planted edits are tried again at each change of this tool and of the toolchain: what is said here is read in the
@@ -167,6 +167,6 @@ def main():
 
 
 if __name__ == "__main__":
-    # (what is told shall be seen at once, in a file too)
+    # (each line shall be seen at once, in a file too)
     sys.stdout.reconfigure(line_buffering=True)
     sys.exit(main())

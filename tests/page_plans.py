@@ -8,7 +8,7 @@ def text_of(pages, order, builds, title=""):
 
 
 def in_rotation(builds, more=0):
-    """Turns for all steps, one of each build after the other, and `more` for each behind them."""
+    """Turns for all steps, one of each build after the other, and `more` for each after them."""
     most = max(map(len, builds))
     return [b for turn in range(most) for b, steps in enumerate(builds) if turn < len(steps)] + [*range(len(builds))] * more
 
@@ -48,7 +48,7 @@ def of_written_pages():
 
 
 def of_each_build():
-    """Eight builds of two pages, to tell apart."""
+    """Eight builds of two pages, to be distinguished."""
     builds = [["take 1", f"fill 0 {b}", "delegate 1"] for b in range(8)]
     return text_of(16, in_rotation(builds), builds)
 

@@ -164,7 +164,7 @@ class Following:
             self.open[build].append(" ".join([REVERSES[kind], *(words[:2] if word.startswith("data_") else words)]))
 
     def map(self) -> str:
-        """What `apply` prints: each build's pages, and its realm."""
+        """The map that `apply` prints: each build's pages, and its realm."""
         all_granules, maps = self.monitor.machine.granules, []
         for build, granules in self.taken.items():
             realm = next((all_granules[rd].realm for rd, of in self.builds.items() if of == build), None)

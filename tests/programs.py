@@ -20,7 +20,7 @@ STATIC, SHARED = TOP / "build/librmm.a", TOP / "build/librmm.so.0"
 MEMORY = TOP / "bin/test_memory"
 # The folders with plans that have the text of their run beside them.
 PLANS, RUNS = ("plans", "plans/guide"), "tests/runs"
-# What judges the log of an RMM; JUDGE names another program, as `python3 tests/second_rmm check`.
+# The program that judges the log of an RMM; JUDGE names another one, as `python3 tests/second_rmm check`.
 JUDGE = shlex.split(os.environ.get("JUDGE", "")) or [os.fspath(TRACER), "check"]
 SECONDS, LONG_SECONDS = 60, 900
 
@@ -48,7 +48,7 @@ def run(program, words, given=b"", **how):
 
 
 def ran(words, status=0, **how):
-    """What a program prints on both streams. Its status has to be this one, or any but 0 for None."""
+    """The output of a program on both streams. Its status has to be this one, or any but 0 for None."""
     words, given = [os.fspath(word) for word in words], how.get("input")
     how = {"stdout": subprocess.PIPE, "stderr": subprocess.STDOUT, "timeout": LONG_SECONDS, **how}
     how |= {"input": given.encode()} if isinstance(given, str) else {} if "input" in how else {"stdin": how.get("stdin", subprocess.DEVNULL)}
@@ -60,7 +60,7 @@ def ran(words, status=0, **how):
 
 
 def limited(*limits):
-    """What a process does before it becomes a program: of each of these resources it has so much at most."""
+    """A function for a process before it becomes a program: it limits each of these resources."""
     return lambda: [resource.setrlimit(of, (most, most)) for of, most in limits]
 
 
@@ -69,7 +69,7 @@ LITTLE_MEMORY = {"preexec_fn": limited((resource.RLIMIT_AS, 1 << 24))}
 
 
 def of_devices(program, words, given):
-    """How a program ends where a device fails: a name for each, the outcome, and the wanted one."""
+    """The ends of a program when a device fails: a name for each, the outcome, and the expected one."""
     for name, text, how in (
         ("a folder as standard input", None, {"stdin": os.open(TOP, os.O_RDONLY)}),
         ("a closed standard input", None, {"preexec_fn": lambda: os.close(0)}),

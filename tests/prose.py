@@ -38,7 +38,7 @@ COUNTS = TOP / "tests/prose.txt"
 WORDS_OF_A_PARAGRAPH, WORDS_OF_A_SENTENCE, SPANS, COLUMNS = 70, 30, 4, 120
 README_LINES, README_WORDS, README_COMMAND, PIXELS = 150, 900, 25, 320
 GLOSSARY_TERMS, INDEX_LINES = 30, 60
-# Abbreviations that readers of README.md know, or that stand there for something that is not here.
+# Abbreviations that readers of README.md know, or that mean something there that is not here.
 KNOWN = set("CCA CPU HTML JSON KVM LLVM PATH QEMU TF TOML VM FEATURES LICENSE PSCI RSI VERSION".split())
 # A phrase, and what to write in its place.
 PHRASES = {
@@ -213,7 +213,7 @@ def stored():
 
 
 def of_counts(name):
-    """For each kind of finding, what is wrong with the count of a document or crate, or none."""
+    """For each kind of finding, the fault of the count of a document or crate, or none."""
     found, bound = list(findings_in(TOP / name)), stored().get(name, {})
     for kind in KINDS:
         them, may = [it for it in found if it.kind == kind], bound.get(kind, 0)
@@ -250,7 +250,7 @@ def lower():
 
 
 def of_readme():
-    """What is wrong with the bounds of README.md, or none for each."""
+    """The faults of README.md by its bounds, or none for each."""
     text = README.read_text(encoding="utf-8")
     lines, inside = text.rstrip("\n").split("\n"), re.sub(r"^```.*?^```$", "", text, flags=re.M | re.S)
     yield f"README.md has {len(lines)} lines, more than {README_LINES}" if len(lines) > README_LINES else None
@@ -280,7 +280,7 @@ def forms_of(word):
 
 
 def of_terms():
-    """What is wrong with README.md's first use of a term, and with its abbreviations, or none for each."""
+    """The faults of README.md's first use of a term, and of its abbreviations, or none for each."""
     known = terms()
     yield f"the glossary has {len(known)} terms, more than {GLOSSARY_TERMS}" if len(known) > GLOSSARY_TERMS else None
     prose = [it.text for it in pieces_of(README.read_text(encoding="utf-8")) if it.kind in ("paragraph", "item", "row")]

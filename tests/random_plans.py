@@ -14,22 +14,22 @@ from programs import TOP, plan_of
 
 # Only short plans are changed: in a long one, most changes would meet one step of many that are alike.
 MOST_BYTES = 2000
-# How many changed plans the gate runs.
+# The number of changed plans that the gate runs.
 CHANGED_PLANS = 300
-# Beside the numbers below 9, which most pages, orders and levels have: both sides of limits.
+# Beside the numbers below 9, which most pages, orders of blocks and levels have: both sides of limits.
 NUMBERS = (
     15, 16, 17, 38, 39, 40, 43, 44, 255, 256, 511, 512, 513, 1024, 4095, 4096, 4097, 16384, 65535, 65536, 262143, 262144,
     67108863, 67108864, 134217728, 4294967295, 4294967296,
 )
 STEP, TURNS, WORD = re.compile(rb'"[^"]*"'), re.compile(rb"order = \[[^]]*\]"), re.compile(rb"[A-Za-z]+|\d+")
-# What spoils a plan, mostly: its marks, letters in its words, and whole lines.
+# The parts whose change spoils a plan, mostly: its marks, letters in its words, and whole lines.
 MARKS = (b'"', b"[", b"]", b"[[", b",", b"=", b"#", b".", b"{", b"}", b" ", b"\t", b"\n", b"\\", b"'", b"-", b"0x", b"\xc3\xa9", b"\xff")
 LETTERS = b"abcdefghijklmnopqrstuvwxyzABCXYZ_0189 "
 
 
 def examples(count, share=1):
-    """How many inputs a test draws in the gate. In `make fuzz`, which runs the tests with the mark `random`, these are COUNT times a
-    share."""
+    """Sets the number of inputs that a test draws in the gate. In `make fuzz`, which runs the tests with the mark `random`, these
+    are COUNT times a share."""
     drawn = int(os.environ.get("COUNT") or 0) * share or count
     return lambda test: pytest.mark.random(settings(max_examples=drawn)(test))
 
@@ -152,7 +152,7 @@ STEPS = st.one_of(
 
 @st.composite
 def random_plans(draw):
-    """A plan with the life of a realm up to some step in each of up to eight builds, and random steps behind it; and a build to
+    """A plan with the life of a realm up to some step in each of up to eight builds, and random steps after it; and a build to
     leave out."""
     builds = draw(st.integers(1, 8))
     steps = [life(below(draw, 256))[: below(draw, 19)] + draw(st.lists(STEPS, max_size=23)) for _ in range(builds)]

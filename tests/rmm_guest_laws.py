@@ -1,6 +1,6 @@
 """Statements about what guests rely on, whatever a host does, as the second model of the RMI by registers has them.
 
-What a guest has to read, and the RIPAS that it has to meet, are told from calls that succeed, from steps of guests with
+What a guest has to read, and the RIPAS that it has to meet, are inferred from calls that succeed, from steps of guests with
 their results, and from the host's pages. No table and no page of data is read for it.
 
     pages  a guest reads at a protected address what DATA_CREATE copied there, or zeros of DATA_CREATE_UNKNOWN, and then
@@ -28,7 +28,7 @@ Found = Iterable[str] | None
 
 
 class Given(NamedTuple):
-    """What a call begins with: the host's page that it copies, and the steps of the guest that it enters."""
+    """The inputs of a call: the host's page that it copies, and the steps of the guest that it enters."""
 
     page: bytes = b""
     rd: int = 0
@@ -60,7 +60,7 @@ class Guests:
         # Of each realm its pages by address, and ranges with their RIPAS, the newest last.
         self.pages: dict[int, dict[int, bytearray]] = {}
         self.ranges: dict[int, list[tuple[int, int, int]]] = {}
-        # What the guest of each REC asked for at its last exit.
+        # The change of RIPAS that the guest of each REC asked for at its last exit.
         self.asked: dict[int, Asked] = {}
 
     def ask(self, question: str) -> Iterator[str]:
@@ -156,7 +156,7 @@ class Guests:
             self.asked[values["rec"]] = Asked(given.rd, base, top, ripas, bool(more))
 
     def stepped(self, realm: Realm, step: Step, result: Result) -> Iterator[str]:
-        """What is wrong with the result of an access to a protected address."""
+        """The faults of the result of an access to a protected address."""
         (kind, operands), (name, value) = step, result
         if kind not in ACCESSES or not realm.is_protected(operands[0]):
             return

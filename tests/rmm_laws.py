@@ -61,7 +61,7 @@ def named_by(machine: Machine, realm: Realm) -> Iterator[tuple[int, str]]:
 
 
 def of_roles(machine: Machine) -> str | None:
-    """What is wrong with the roles of granules, or none."""
+    """The fault of the roles of granules, or none."""
     named = Counter(it for realm in machine.realms() for it in named_by(machine, realm))
     addresses = range(machine.base, machine.base + PAGE * len(machine.granules), PAGE)
     states = zip(addresses, (it.state for it in machine.granules))
@@ -71,7 +71,7 @@ def of_roles(machine: Machine) -> str | None:
 
 
 def of_entries(machine: Machine) -> str | None:
-    """What is wrong with an entry, or none."""
+    """The fault of an entry, or none."""
     for realm in machine.realms():
         for level, at, entry in entries_of(machine, realm):
             if not is_entry_right(machine, realm, level, at, entry):
@@ -98,7 +98,7 @@ class Teardown:
         return outcome.word, dict(outcome.outputs)
 
     def step(self, at: int) -> int:
-        """What is at an address is undone. Returns the address that `top` gives."""
+        """Undoes what is at an address. Returns the address that `top` gives."""
         rd = self.realm.rd
         _, entry = self.call("rmi_rtt_read_entry", rd, at & -PAGE, 3)
         level, begin = entry["level"], at - at % size(entry["level"])
@@ -135,7 +135,7 @@ class Teardown:
 
 
 def of_teardown(bench: Bench) -> str | None:
-    """What is wrong with the teardown of all realms, or none."""
+    """The fault of the teardown of all realms, or none."""
     here = bench.machine
     for number, granule in enumerate(here.granules):
         if granule.rec is not None and granule.rec.is_running:

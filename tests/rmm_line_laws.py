@@ -37,11 +37,11 @@ from second_rmm.pages import REC_PARAMS, one_of
 from second_rmm.reading import number, step_of
 
 NAMES_REALM, NAMES_REC = ("rd",), ("rec", "calling", "target")
-# What a host does; the others are readings of the model's own, and steps of guests.
+# The operations of a host; the others are readings of the model's own, and steps of guests.
 OF_A_HOST = (*COMMANDS, "smc", "repeat", "load", "store", "fill", "realm_params", "rec_params", "rec_run", "interrupt")
 Kept = tuple[object, ...]
 Step = tuple[str, tuple[int, ...]]
-# Where the pc and the registers of a REC are in what is kept of it.
+# The places of the pc and the registers of a REC in what is kept of it.
 PC, GPRS = 3, 4
 
 
@@ -173,7 +173,7 @@ class Watch:
         return sum(operands[2] for kind, operands in it.rec.steps if kind == "write") if it and it.rec else 0
 
     def asked(self, line: Line) -> Asked | None:
-        """What a REC asked for."""
+        """The change of RIPAS that a REC asked for."""
         it = self.bench.machine.granule_at(line.values.get("rec", -1)) if line.kind == "rmi_rtt_set_ripas" else None
         return replace(it.rec.asked) if it and it.rec else None
 
@@ -188,7 +188,7 @@ class Watch:
 
 
 def of_effects(line: Line, outcome: Outcome | None, before: Seen, after: Seen) -> Iterator[str]:
-    """What a call that succeeds has found, and what it has done."""
+    """The faults in what a call that succeeds has found, and in what it has done."""
     if outcome is None or outcome.word != SUCCESS:
         return
     number_of = lambda name: (line.values[name] - before.base) // PAGE
@@ -284,7 +284,7 @@ def of_new(before: Seen, after: Seen) -> Iterator[str]:
 
 
 def of_range(line: Line, outcome: Outcome | None, after: Seen, asked: Asked | None) -> Iterator[str]:
-    """What the range has up to which RMI_RTT_SET_RIPAS has come."""
+    """The faults in the range up to which RMI_RTT_SET_RIPAS has come."""
     if asked is None or outcome is None or outcome.word != SUCCESS:
         return
     base, top = line.values["base"], outcome.outputs["top"]
@@ -398,7 +398,7 @@ def with_another(bench: Bench, question: str, dice: Random) -> str:
 
 
 def of_secrets(questions: list[str], dice: Random) -> str | None:
-    """What a host learns of a guest's secrets, or none."""
+    """The difference by which a host learns of a guest's secrets, or none."""
     bench, cut = Bench(), dice.randrange(1, len(questions))
     for it in questions[:cut]:
         bench.ask(it)
@@ -416,7 +416,7 @@ def of_secrets(questions: list[str], dice: Random) -> str | None:
 
 
 def of_tops(machine: Machine) -> str | None:
-    """What is wrong with the steps by `top` from address 0 on, or none."""
+    """The fault of the steps by `top` from address 0 on, or none."""
     for realm in machine.realms():
         met, at, end = set(), 0, ENTRIES * size(realm.level) * len(realm.tables)
         while at < end:
@@ -434,7 +434,7 @@ def of_tops(machine: Machine) -> str | None:
 
 
 def of_folds(bench: Bench, dice: Random) -> str | None:
-    """What is wrong with a table that is made, folded and made once more, or none."""
+    """The fault of a table that is made, folded and made once more, or none."""
     here = bench.machine
     spares = [k for k, it in enumerate(here.granules) if it.state == DELEGATED]
     places = [

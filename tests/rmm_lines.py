@@ -2,7 +2,7 @@
 """Turns lines of traces into raw operations on a machine: registers, stores, loads, and steps of guests.
 
     tests/rmm_lines.py < TRACE      the raw operations of a trace
-    tests/rmm_lines.py --run        performs raw operations by the second model; the status is 1 where one differs
+    tests/rmm_lines.py --run        performs raw operations by the second model; the status is 1 if one differs
     tests/rmm_lines.py --by PROGRAM [WORD ..]       in the repository: performs the operations of all traces by a program,
                                     as by `bench/out/cargo/release/plain_rmm lines`, once bench/rmm has built it
 
@@ -296,7 +296,7 @@ def differences_by(program: list[str]) -> Iterator[str]:
 
 
 def is_met(operation: str, came: str) -> bool:
-    """Whether a result is the one that stands beside its operation, if one does."""
+    """Whether a result is the one that is written beside its operation, if one is."""
     asked, is_written, wanted = operation.partition(" = ")
     words, got = wanted.split(" "), came.split(" ")
     are_alike = all(NOT_COMPARED in (a, b) or a == b for a, b in zip(words, got))
@@ -310,7 +310,7 @@ class RawBench:
     here: Machine
 
     def perform(self, operation: str) -> str | None:
-        """What differs in an operation, or none."""
+        """The difference of an operation, or none."""
         kind, *words = operation.partition(" = ")[0].split(" ")
         came = getattr(self, kind)(*words)
         return None if is_met(operation, came or "") else came

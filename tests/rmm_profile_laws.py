@@ -19,7 +19,7 @@ from second_rmm.bench import Bench
 from second_rmm.facts import PAGE, RIPAS, number_of_mpidr
 from second_rmm.machine import Entry, Granule, Machine
 
-# Granule 0 of the RMM by registers. Behind the granules of a trace are two pages of parameters, and those of runs.
+# Granule 0 of the RMM by registers. After the granules of a trace are two pages of parameters, and those of runs.
 BASE, PARAMETERS, RUNS = 0x80000000, 2, 64
 READINGS = ("state", "sum", "word", "realm", "measurement", "rec")
 # The machines are compared after so many commands, and at the end.
@@ -37,7 +37,7 @@ def address(granule: int) -> int:
 
 
 def of_profile(machine: Machine, granule: Granule) -> Known:
-    """What a granule of the RMM by registers is in the profile."""
+    """The profile's view of a granule of the RMM by registers."""
     number = lambda it: (it - machine.base) // PAGE
 
     def of_entry(it: Entry) -> tuple[str, str, int]:
@@ -188,7 +188,7 @@ class Calls:
 
 
 def profile(number: int) -> str | None:
-    """What is wrong with the calls of the random trace of a number, or none."""
+    """The fault of the calls of the random trace of a number, or none."""
     opening, *lines = Life(Random(number)).lines()
     calls = Calls(opening)
     for k, line in enumerate(it for it in lines if it.split(" ")[0] not in READINGS):

@@ -72,7 +72,7 @@ def bare(answer: str) -> tuple[list[str], dict[str, list[str]]]:
 
 
 def finding(row: Row) -> str | None:
-    """What is wrong with a row, or none."""
+    """The fault of a row, or none."""
     lines, what = lines_of(TRACES / row.trace), f"{row.command} {row.check}: line {row.number} of {row.trace}.trace"
     if answered_at(lines, row.number) != row.text:
         return f"{what} is not {row.text!r}"

@@ -10,7 +10,7 @@ RMM refuses has to have its word.
 
 In the column Switch of a row, `A` is a rule that is switched off, and `A first` a check that is made before the others
 of its command; of `A`, `B` each alone has to change the answer, and of `A` + `B` both together. The rule is off in the
-whole trace. Where the row has a range of lines, it is off from a line on for each of them: what it lets through would
+whole trace. If the row has a range of lines, it is off from a line on for each of them: what it lets through would
 change the state.
 
     tests/rules.py RULE ..      the first line of each trace that has another answer without all of these rules
@@ -33,12 +33,12 @@ UNKNOWN = "the second monitor has no such rule"
 ROW = re.compile(r"^\| (.*) \| ([^|]*) \| ([a-z0-9-]+) \| (\d+)(?:-(\d+))? \| `(.*)` \|$", re.M)
 # Rules that no line pins, and why.
 NOT_PINNED = {"rec_destroy.then_zero": "a REC and its auxiliaries are zero all the time"}
-# How the second monitor ends where a rule that is off has let through what it cannot go on with, as no table for one.
+# The ends of the second RMM after a rule that is off has let through what it cannot go on with, as no table for one.
 LOST = (AttributeError, IndexError, KeyError, TypeError)
 
 
 class Line(NamedTuple):
-    """A line of a trace that is performed: its number, what is asked, and the answer that stands there, if any."""
+    """A line of a trace that is performed: its number, what is asked, and the answer that is written there, if any."""
 
     number: int
     asked: str
@@ -56,7 +56,7 @@ def lines_of(text: bytes) -> list[Line]:
 
 
 def answers(monitor: Monitor, lines: list[Line]) -> Iterator[tuple[Line, str | None]]:
-    """Each line with the answer of a monitor. None is that of a monitor that is lost."""
+    """Each line with the answer of an RMM. None is that of an RMM that is lost."""
     for line in lines:
         try:
             yield line, monitor.line(line.asked)
@@ -70,7 +70,7 @@ def traces() -> list[Path]:
 
 
 def seen() -> set[str]:
-    """The rules that a monitor meets in all traces."""
+    """The rules that an RMM meets in all traces."""
     found: set[str] = set()
     for path in traces():
         monitor = Monitor()
@@ -84,7 +84,7 @@ def seen() -> set[str]:
 
 
 class Switch(NamedTuple):
-    """What is another in a monitor: the rules that it is without, and the check that it makes first."""
+    """The differences of an RMM: the rules that it is without, and the check that it makes first."""
 
     without: tuple[str, ...]
     first: str = ""
@@ -94,7 +94,7 @@ class Switch(NamedTuple):
 
 
 def switches_of(cell: str) -> list[Switch]:
-    """What stands in the column Switch: each has to change the answer."""
+    """The switches in the column Switch: each has to change the answer."""
     if not re.fullmatch(r"`[\w.]+( first)?`(( \+|,) `[\w.]+( first)?`)*", cell):
         return []
     each = [part.replace("`", "") for part in cell.split(", ")]
@@ -103,7 +103,7 @@ def switches_of(cell: str) -> list[Switch]:
 
 
 def answer_at(lines: list[Line], number: int, switch: Switch, since: int) -> str | None:
-    """The answer to a line, where the monitor is another from a line on."""
+    """The answer to a line, by an RMM that is another from a line on."""
     monitor, told = Monitor(), None
     before, after = [it for it in lines if it.number < since], [it for it in lines if since <= it.number <= number]
     for _ in answers(monitor, before):
@@ -154,7 +154,7 @@ def histories_of(text: bytes) -> Iterator[Tried]:
 
 
 def applied(it: Tried) -> tuple[str | None, bool]:
-    """What is wrong with the program's outcome of a history, or none, and whether the RMM has refused its last line."""
+    """The fault of the program's outcome of a history, or none, and whether the RMM has refused its last line."""
     ran = subprocess.run([PROGRAM, "apply"], input=it.history, capture_output=True, text=True, timeout=SECONDS)
     came = ran.returncode, ran.stdout, ran.stderr
     last = it.history.splitlines()[-1]

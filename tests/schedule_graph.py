@@ -17,7 +17,7 @@ from second_machine import Entry
 Locals = tuple[int, ...]
 # A step's end: the build, the place of the step, and the answer.
 End = tuple[int, int, str]
-# The place of the abort of a build that gives up, behind those of all steps.
+# The place of the abort of a build that gives up, after those of all steps.
 GIVING_UP = 1 << 16
 
 
@@ -27,7 +27,7 @@ def machine_of(plan: dict) -> Machine:
 
 @lru_cache(None)
 def seen(machine: Machine, build: Build) -> Hashable:
-    """What decides a build's further answers, and its lines of the map: not what it did, but what is there."""
+    """The state that decides a build's further answers, and its lines of the map: not what it did, but what is there."""
     granules = monitor_after(machine, build.lines).machine.granules
     empty = Entry().word()
     rows = []
@@ -51,7 +51,7 @@ class State:
     smooth: list[int] = field(default_factory=list)
     came: tuple[int, int] | None = None
     edges: list[Edge] = field(default_factory=list)
-    # How many ways lead on from here, and so without refusals.
+    # The number of ways that lead on from here, and so without refusals.
     rest: int = 0
     smooth_rest: list[int] = field(default_factory=list)
 
@@ -242,7 +242,7 @@ class Graph:
                     return self.prefix(depth, place)
         return None
 
-    # ---- what is told
+    # ---- the text
 
     def ends(self) -> dict[End, tuple[int, list[int]]]:
         """Of each end of a step, in how many schedules it is and the first of them."""

@@ -1,7 +1,7 @@
 """A second host, in Python, over tests/second_monitor.py: for `tests/test_schedules.py`.
 
 It was written from PLANS.md, and has no code in common with realmhost. A build is seen alone, as what it did so far: its pages,
-its open operations, its cursor in the plan, and a monitor that performed its commands. Builds meet in two places only, the
+its open operations, its cursor in the plan, and an RMM that performed its commands. Builds meet in two places only, the
 allocator and the VMIDs; both are arguments of a turn. Values are never changed: a turn makes a new one.
 """
 from __future__ import annotations
@@ -14,12 +14,12 @@ from second_monitor import REVERSES, Monitor, line_of
 
 MOST_OPEN, HIGHEST_ORDER = 512, 9
 PAIRED = ("take", "delegate", "realm", "rtt", "data", "unknown", "rec")
-# The room that a step takes; 1 for any other command.
+# The number of events that a step needs; 1 for any other command.
 ROOM = {**dict.fromkeys(PAIRED, 2), "enter": 2, "exit": 0}
 OF_A_REALM = ("rtt", "ripas", "data", "unknown", "rec", "activate", "enter", "exit", "poke")
 # The places of pages among the numbers of a step. A realm and a REC have more of them.
 PAGES = {**dict.fromkeys(("fill", "peek", "delegate", "rtt", "unknown"), (0,)), "data": (0, 2), "realm": (0, 1), "rec": range(17)}
-# How many numbers of an event are kept of an open operation.
+# The count of numbers of an event that are kept of an open operation.
 KEPT = {"delegate": 1, "realm": 1, "rtt": 3, "data": 2, "unknown": 2, "rec": 1}
 INPUT = "no 13 Rmi 1 0"
 
@@ -79,7 +79,7 @@ class Build:
     vmid: int | None = None
     # A step of it was refused, and an abort is all that is left to do.
     gives_up: bool = False
-    # The lines that the monitor got so far.
+    # The lines that the RMM got so far.
     lines: tuple[str, ...] = ()
 
 
@@ -122,7 +122,7 @@ class Turn:
         self.machine, self.build, self.blocks, self.vmids = machine, build, blocks, vmids
         self.answer = ""
 
-    # ---- what the monitor says
+    # ---- the answers of the RMM
 
     def realm(self):
         rd = next((op[1] for op in self.build.open if op[0] == "realm"), None)

@@ -1,4 +1,4 @@
-"""What the second monitor keeps: granules, with the tables, realms and RECs that they are, and what is read of them."""
+"""The state of the second RMM: granules, with the tables, realms and RECs that they are, and what is read of them."""
 from __future__ import annotations
 
 from collections.abc import Iterator
@@ -12,7 +12,7 @@ WITH_SUM = ("UNDELEGATED", "DATA")
 
 @dataclass
 class Entry:
-    """An entry of a table: what is behind the IPAs that it covers."""
+    """An entry of a table: what the IPAs that it covers lead to."""
 
     kind: str = "UNASSIGNED"
     ripas: str = "EMPTY"

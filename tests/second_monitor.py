@@ -1,4 +1,4 @@
-"""A second monitor, in which each rule can be switched off: for `tests/test_rules.py`, and to see what a rule is good for.
+"""A second RMM, in which each rule can be switched off: for `tests/test_rules.py`, and to see what a rule is good for.
 
 It was written from RULES.md and the definitions in crates/realm_model/specs/Command, and has no code in
 common with the proved RMM. A command is a generator: it yields its checks in their order, and then changes the
@@ -18,10 +18,10 @@ from hashlib import sha256
 from second_machine import ENTRIES, PAGE, ZEROS, Entry, Granule, Machine, Realm, Rec
 
 SUCCESS, INPUT, REALM, REC = 0, 1, 2, 3
-# How many IPA granules an entry of a level covers.
+# The number of IPA granules that an entry of a level covers.
 COVERED = {1: 2**18, 2: 2**9, 3: 1}
 MEASURED = ("rtt_init_ripas", "data_create", "rec_create")
-# Checks that find what is changed: where one of them is off and fails, the command does nothing, and answers 0.
+# Checks that find what is changed: if one of them is off and fails, the command does nothing, and answers 0.
 FINDING = ("inside", "rd", "rec", "level", "walk", "table", "page")
 
 # The command of each event of a history, by its word. The numbers in braces are places in the event, as REALMVIEW.md has them.

@@ -1,10 +1,10 @@
-"""Which crates have changed since a commit, and which edits of the crates above them name what changed."""
+"""The crates that have changed since a commit, and the edits of the crates above them that name what changed."""
 import os
 import re
 import subprocess
 import tempfile
 
-# What a check of a crate reads.
+# The folders that a check of a crate reads.
 PARTS = ("src", "specs", "proofs", "must-fail", "mutants")
 # The head of an item that is no function.
 ITEM = re.compile(r"^\s*(?:pub(?:\(\w+\))? )?(?:struct|enum|trait|type|const|macro_rules!) (\w+)", re.M)

@@ -1,18 +1,19 @@
-"""What the built programs take, give back and read, watched by tests/watch.c, which is loaded before the C library.
+"""The blocks that the built programs take and give back, and their reads, watched by tests/watch.c, which is loaded before
+the C library.
 
-  refusals    each allocation of a run is refused in turn, until a run meets no refusal. A run that is refused one tells
+  refusals    each allocation of a run is refused in turn, until a run meets no refusal. A run that is refused one says
               `memory` with status 3 and prints nothing (`rmitrace answer`: the first lines), or it prints the plain text
   given back  each of these runs has given all of its blocks back when it ends
-  handed back the program of crates/test_memory boots a host, shares it and builds a worker, each at the second try where
+  handed back the program of crates/test_memory boots a host, shares it and builds a worker, each at the second try if
               memory was refused at the first, from what came back
   commands    from its boot to its text a run takes no block: a replay takes as many as one of the same plan in which each
               turn is idle; while builds work in threads, only the start of a further thread takes one; the lines of a trace take
               none after some rounds; and test_memory takes none between two of its lines, by every call of a
               host and of a seat
-  reads       an input is read in parts of 4,096 bytes, with one read more for its end; or byte by byte, where each read gives
+  reads       an input is read in parts of 4,096 bytes, with one read more for its end; or byte by byte, if each read gives
               one byte, up to the longest plan
-  threads     each build but one has a thread of its own; where no thread can be made, the text of `run` is as good
-  blocks      a block that is named is taken as fast as one that the store picks, and in 4,096 pages as fast as in 512
+  threads     each build but one has a thread of its own; if no thread can be made, the text of `run` is as good
+  blocks      a block that is named is taken as fast as one that the store chooses, and in 4,096 pages as fast as in 512
 
 `make allocations` also has tests/runs, tests/faults, all traces, and the words of realmview over all plans, which takes some minutes. A
 C compiler is needed, $CC or cc, and the C library of GNU.
@@ -32,7 +33,7 @@ from programs import HOST, MEMORY, RUNS, SECONDS, TOP, TRACER, VIEW, fault_at, f
 pytestmark = needs(HOST, TRACER, VIEW, MEMORY)
 PART, MOST_BYTES = 4096, 1 << 20
 NO_MEMORY = (3, b"", b"memory\n")
-# The plans that realmview is refused memory for: realms, each refusal, marks, and orders that differ.
+# The plans that realmview is refused memory for: realms, each refusal, marks, and schedules that differ.
 FEW_VIEWS = ("realm", "refusals", "rollback", "some-orders")
 # Beside plans/: traces in which commands are accepted and refused, and faults of each kind.
 FEW_TRACES = ("granules", "measurement", "rec")
@@ -42,11 +43,11 @@ FEW_FAULTS = (
     "words_erase_build_8", "words_help", "words_none", "words_not_utf8",
 )
 
-# How often a program is watched for its time, since others may take the processor; and how many times that of another part of
-# the program a part may take at most, where both have as much to do.
+# The number of times that a program is watched, since others may take the processor; and the greatest ratio of the time of a
+# part of the program to that of another part, if both have as much to do.
 TRIES, MOST_RATIO = 5, 3
 
-# `fits` says whether an outcome is one of a run that was refused nothing; `told` whether it is one of a run that says `memory`.
+# `fits` says whether an outcome is one of a run that was refused nothing; `told` whether it is one of a run that prints `memory`.
 Case = collections.namedtuple("Case", "name program words given fits told", defaults=[lambda outcome: outcome == NO_MEMORY])
 # An outcome is a status, standard output and standard error. A mark is what the program had taken when it wrote a line, and
 # its microseconds until then.
@@ -130,7 +131,7 @@ def of_check(path):
 def of_trace(path):
     text = path.read_bytes()
     answers = sum(b" = " in line.split(b"#")[0] for line in text.splitlines())
-    # What was written when memory was refused is an answer to the first lines.
+    # The text that was written when memory was refused is an answer to the first lines.
     told = lambda it: (it[0], b"", it[2]) == NO_MEMORY and text.startswith(it[1]) and it[1][-1:] in (b"", b"\n")
     yield Case("answer", TRACER, [b"answer"], text, printed(text), told)
     yield Case("check", TRACER, [b"check"], text, printed(b"%d same, 0 allowed, 0 wrong\n" % answers))
@@ -142,7 +143,7 @@ def of_fault(path):
 
 
 def of_calls():
-    """Where a boot, a start or a building of a worker is refused memory, its line says that it came at the second try."""
+    """If a boot, a start or a building of a worker is refused memory, its line says that it came at the second try."""
     text = (TOP / "crates/test_memory/stdout").read_bytes()
 
     def fits(outcome):
@@ -156,7 +157,7 @@ def of_calls():
     yield Case("every call of a host", MEMORY, [], b"", fits, told)
 
 
-# ---- what is looked at
+# ---- checks
 
 
 def reads_of(given):
@@ -186,7 +187,7 @@ def refusals(library, it):
 
 
 def taken(library, program, words, given):
-    """How many blocks a run takes, and how often each grows, but for growths of its text."""
+    """The number of blocks that a run takes and of times that each grows, but for growths of its text."""
     run = watched(library, program, words, given)
     return run.counts["taken"] - run.counts["grown_text"], run.outcome
 
@@ -231,7 +232,7 @@ def quiet_lines(library, name, text):
 
 
 def read_byte_by_byte(library):
-    """Where each read gives one byte there is one read for each byte, and one for the end."""
+    """If each read gives one byte, there is one read for each byte, and one for the end."""
     plan, text = (TOP / "plans/two-builds.toml").read_bytes(), (TOP / "plans/two-builds.txt").read_bytes()
     trace = (TOP / "traces/rec.trace").read_bytes()
     longest = plan + b"#" * (MOST_BYTES - len(plan) - 1) + b"\n"

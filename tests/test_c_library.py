@@ -3,7 +3,7 @@
   header     each function that the crate exports is declared in include/rmm.h with the same types, and no other is; its
              structures have the crate's fields; each function says what its caller has to guarantee. The libraries
              have these functions, and the shared one no other name
-  defaults   RMM_DEFAULTS and those of the Python module are the defaults of the monitor's settings
+  defaults   RMM_DEFAULTS and those of the Python module are the defaults of the RMM's settings
   names      no name of the headers is one of a host's: each begins with rmm_ or RMM_
   numbers    the checks in the header and in the Python module have the names and the numbers of the definitions
   traces     each answer in traces/rmm comes through C and through Python, and before each call the check that decides it
@@ -71,7 +71,7 @@ def header(_room):
 
 
 def defaults(_room):
-    """The settings of the header and of the Python module, by name, beside those of the monitor."""
+    """The settings of the header and of the Python module, by name, beside those of the RMM."""
     text = (TOP / "crates/rmi_abi/src/settings.rt").read_text()
     body = re.search(r"DEFAULT: RmmSettings = RmmSettings \{(.*?)\}", text, re.S)[1]
     wanted = dict(re.findall(r"(\w+): ([\w:]+),", body))
@@ -79,7 +79,7 @@ def defaults(_room):
     macro = re.search(r"#define RMM_DEFAULTS\s*\\\n\s*\{(.*?)\}", HEADERS[0].read_text(), re.S)[1].replace("\\", "")
     fields = [name for name, _ in LIBRARY.structures()[1]["rmm_settings"]]
     of_header = dict(zip(fields, (it.strip() for it in macro.split(",")), strict=True))
-    # (the number of granules is no setting of a monitor)
+    # (the number of granules is no setting of an RMM)
     count = of_header.pop("granules")
     same("RMM_DEFAULTS", {it: value.replace("RMM_REL0", "Rel0") for it, value in of_header.items()}, wanted)
     import rmm

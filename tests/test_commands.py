@@ -56,7 +56,7 @@ PROVED = {
 
 
 def commands_of(block):
-    """Returns each command of a block, with the lines that stand below it."""
+    """Returns each command of a block, with the lines that are below it."""
     found = []
     for line in block.splitlines():
         if line.startswith("$ "):
@@ -136,7 +136,7 @@ def test_items_of_readme(command, tmp_path):
 @needs(VIEW, TRACER)
 @pytest.mark.parametrize("command", PROVED)
 def test_try(command):
-    """What is built with nothing proved prints what the proved program prints."""
+    """A program that is built with nothing proved prints what the proved program prints."""
     unproved, proved = (subprocess.run(["bash", "-c", it], cwd=TOP, stdin=subprocess.DEVNULL, capture_output=True, timeout=SECONDS)
                         for it in (command, PROVED[command]))
     assert proved.stdout and unproved.stdout == proved.stdout

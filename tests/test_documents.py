@@ -8,17 +8,17 @@
           in a file of the first one, and a function of a type in a file with functions of this type
   crates  a table with the column Crate has a row for each crate of crates.txt, and no other row
   names   a name in backticks that is written like a name of the code is a word of the code, or a crate
-  quotes  a line of a block of code that is a contract, a definition or a field of one stands in a source
+  quotes  a line of a block of code that is a contract, a definition or a field of one is in a source
   stands  a sentence on the libraries of crates.txt has those that are there: which ports of the toolchain are trusted, and
-          which crates do not stand on one
+          which crates do not depend on one
   counts  a number in a sentence of COUNTS is what is counted. One from 1,000 on that ends in zeros is rounded. Each of these
           sentences is in some document
   profile the files of specs that DEFINITIONS.md names in its section on the profile are those with a comment on it
 
-In a path NAME, MODULE, TYPE, FUNCTION and B stand for any text. Of what is built (bin/, out/) only the crate is looked for,
+In a path NAME, MODULE, TYPE, FUNCTION and B mean any text. Of what is built (bin/, out/) only the crate is looked for,
 and what is in build/ not at all.
 
-What this cannot tell: whether a contract says what its row says; which of several functions of one name a row means;
+This cannot find: whether a contract says what its row says; which of several functions of one name a row means;
 whether an output that a document shows is that of the program; and whether a crate is gone whose name is still a word of
 the code.
 """
@@ -47,7 +47,7 @@ WORDS = (
 FOLDERS = {path.name for path in TOP.iterdir() if path.is_dir() and not path.name.startswith(".")} | {"bin"}
 # Folders with code that is in no crate.
 CODE = ("tests", "bench", "include", "python", "examples")
-# What is in these is made from the code.
+# The files in these are made from the code.
 MADE = {"out", "__pycache__"}
 OF_A_CRATE = ("src", "specs", "proofs", "must-fail", "mutants")
 # Names without a folder are in these, as DEFINITIONS.md says.
@@ -57,7 +57,7 @@ PLACEHOLDER = re.compile(r"(?<![A-Za-z])(?:NAME|MODULE|TYPE|FUNCTION|B)(?![A-Za-
 # A line of a document; of a paragraph that is wrapped, all of its lines are one. Its text is without the targets of its links;
 # `is_code` says that it is in a block of code.
 Line = collections.namedtuple("Line", "place text is_code links")
-# What begins with these goes on with no line above it.
+# A line that begins so goes on with no line above it.
 BEGINS = re.compile(r"\s*([-*] |[|#>!<]|\d+\.\s|```|$)")
 
 
@@ -106,7 +106,7 @@ def tables_of(document):
 
 @functools.cache
 def anchors_of(document):
-    """The anchors of the headings. Where several have one text, those behind the first are numbered."""
+    """The anchors of the headings. If several have the same text, those after the first are numbered."""
     anchors, counts = set(), collections.Counter()
     for line in lines_of(document):
         heading = re.match(r"#+ (.*)", line.text)
@@ -277,7 +277,7 @@ def of_quotes(document):
 
 @functools.cache
 def below(crate):
-    """All that a crate stands on."""
+    """All that a crate depends on."""
     libraries = STANDS_ON.get(crate, [])
     return frozenset(libraries).union(*(below(it) for it in libraries))
 
@@ -299,7 +299,7 @@ def of_stands(document):
 
 
 def written(folder):
-    """How many lines are in a folder of the crates, blank ones not counted."""
+    """The number of lines in a folder of the crates, blank ones not counted."""
     return sum(1 for path in BELOW_CRATES.glob(f"*/{folder}/**/*.antt") for line in path.read_text().split("\n") if line.strip())
 
 

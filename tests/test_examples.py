@@ -68,7 +68,7 @@ RIM = "3dfd809fc28200386ed791bc6d4dec892afae01d89a16dd888612e84f1673fa8"
 
 
 def judged(log):
-    """How many answers of a log the second model has compared. All of them have to be its own."""
+    """The number of answers of a log that the second model has compared. All of them have to be its own."""
     last = run(JUDGE, input=log).splitlines()[-1]
     count, same_, *others = last.split()
     same("the verdict", (same_, others), ("same,", ["0", "allowed,", "0", "wrong"]))
@@ -184,7 +184,7 @@ def traces():
 
 
 def driven(rmm, paths, base=None, seconds=60.0):
-    """How many answers are the same, refused, wrong, and left out. A machine that is not taken down is wrong too."""
+    """The numbers of answers that are the same, refused, wrong, and left out. A machine that is not taken down is wrong too."""
     drive, _ = driver_modules()
     report = drive.Report(drive.Driver(rmm, seconds, base), is_log=True)
     with open(os.devnull, "w") as nowhere:
@@ -199,7 +199,7 @@ def driven(rmm, paths, base=None, seconds=60.0):
 
 
 def answers_of_calls(paths):
-    """How many lines of traces have an answer that a driver compares."""
+    """The number of lines of traces with an answer that a driver compares."""
     _, rmi_lines = driver_modules()
     lines = [rmi_lines.line_of(text) for path in paths for text in path.read_text().splitlines()]
     is_call = lambda line: line.question.split(" ")[0] not in rmi_lines.READINGS and line.answer != "no command"

@@ -38,7 +38,7 @@ def compiled(folder, name, *flags):
 
 
 def fuzzed(program, inputs, seconds, status=0, kept=f"{BUILD}/fuzz_c-"):
-    """What libFuzzer prints, which goes on from some first inputs."""
+    """The output of libFuzzer, which goes on from some first inputs."""
     inputs.mkdir()
     for number in range(FIRST_INPUTS):
         (inputs / str(number)).write_bytes(Random(number).randbytes(MOST_BYTES))

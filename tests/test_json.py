@@ -1,13 +1,13 @@
 """The documents of `realmview json`, against what other subcommands and programs say of the same plans.
 
 Of each plan of plans/, plans/guide/ and tests/runs/: the schema realmview.schema.json accepts the document; its turns as
-lines, and behind them the map made of its last world, are what `realmhost replay` prints; its events are those of `realmview
+lines, and after them the map made of its last world, are what `realmhost replay` prints; its events are those of `realmview
 history`; its changes, replayed one after another from a machine that is all free, lead to its last world, and a turn has those
 members of change alone that its event can change; what each turn says that its build has open, had at its mark, and whether it is
 in abort, is what the lines up to it give; and what each build has open in the end is what brackets matched in its events leave
 open. `realmview page` has this document in its data, and for each build the world to which the changes of the other builds alone
-lead. The rows of a realm are compared as lists: in their order, and in the items of REALMVIEW.md. A second monitor, in Python,
-accepts the events, and has behind each turn and in each of these worlds what the document says (tests/history_model.py). A plan
+lead. The rows of a realm are compared as lists: in their order, and in the items of REALMVIEW.md. A second RMM, in Python,
+accepts the events, and has after each turn and in each of these worlds what the document says (tests/history_model.py). A plan
 with a fault has no document.
 """
 import json
@@ -19,10 +19,10 @@ from programs import HOST, LITTLE_MEMORY, PLANS, RUNS, TOP, VIEW, Ran, data_of, 
 from second_monitor import COVERED
 
 pytestmark = needs(HOST, VIEW)
-# Each act that has a reverse, by the word of the reverse.
+# Each operation that has a reverse, by the word of the reverse.
 REVERSED = {f"un{it}": (it,) for it in ("take", "delegate", "realm", "rtt", "rec")} | {"undata": ("data", "unknown")}
 PAIRED = {word for words in REVERSED.values() for word in words}
-# What an event can change, by its word. REALMVIEW.md, Turns.
+# The members that an event can change, by its word. REALMVIEW.md, Turns.
 MEMBERS = {
     "take": {"granules"}, "untake": {"granules"}, "delegate": {"granules"}, "undelegate": {"granules"},
     "realm": {"granules", "rows", "realm"}, "unrealm": {"granules", "realm"}, "activate": {"realm"},
@@ -59,7 +59,7 @@ def map_of(world):
 
 
 def numbers_of(turn):
-    """The numbers that stand in an answer's text."""
+    """The numbers in an answer's text."""
     return [int(word) for word in (turn["answer"] or "").split() if word.isdigit()]
 
 
@@ -67,7 +67,7 @@ def numbers_of(turn):
 
 
 def put_row(rows, item):
-    """The rows of an item take the place of what stood in their range, at their level and below."""
+    """The rows of an item take the place of what was in their range, at their level and below."""
     size, begin = COVERED[item["level"]], item["first"]
     end = begin + item["count"] * size
     for place in [it for it in rows if it[0] >= item["level"] and begin <= it[1] < end]:
@@ -138,8 +138,8 @@ def members_of(turn):
 
 
 def kept(turns, builds):
-    """What the host keeps of the build of each turn behind it, by the lines up to it: how many acts are open, how many were at the
-    mark, and whether the build is in abort."""
+    """The host's ledger of the build of each turn after it, by the lines up to it: how many operations are open, how many were at
+    the mark, and whether the build is in abort."""
     last = [(0, None, False)] * builds
     for turn in turns:
         count, mark, aborting = last[turn["build"]]
@@ -158,7 +158,7 @@ def kept(turns, builds):
 
 
 def is_there(turn, machine, model):
-    """Whether the changes up to a turn lead to what the second monitor has of whatever the turn changed."""
+    """Whether the changes up to a turn lead to what the second RMM has of whatever the turn changed."""
     build = turn["build"]
     return (
         ("granules" not in turn or machine.granules == model.granules())
@@ -169,7 +169,7 @@ def is_there(turn, machine, model):
 
 
 def of_model(document):
-    """The events on the second monitor: it accepts each; the changes lead, turn by turn, to what is there; so is the last world."""
+    """The events on the second RMM: it accepts each; the changes lead, turn by turn, to what is there; so is the last world."""
     machine, model, faults = Replayed(document["settings"]), HistoryModel(document["settings"]), []
     for turn in (it for it in document["turns"] if it["event"]):
         machine.take(turn)
@@ -188,7 +188,7 @@ def of_machine(world):
 
 
 def are_open(turns, build):
-    """What brackets that are matched in a build's events leave open, the newest last."""
+    """The events of a build that brackets matched in its events leave open, the newest last."""
     stack = []
     for event in (turn["event"] for turn in turns if turn["build"] == build and turn["event"]):
         word = event.split()[1]

@@ -2,14 +2,14 @@
 inputs each, `realmview history`, `apply` and `check` over some. No byte is read or written that is not the program's, none is
 used that was never written, and no block is lost; and the text is the stored one.
 
-helgrind and drd are not run: they do not know the lock, which is a futex, and tell of races where it is held.
+helgrind and drd are not run: they do not know the lock, which is a futex, and report races where it is held.
 """
 import pytest
 
 from programs import HOST, TOP, TRACER, VIEW, needs, run
 
 pytestmark = [pytest.mark.long, needs(HOST, TRACER, VIEW)]
-# What pthread_create keeps of a thread's stack for the next thread is no lost block: only those without any pointer are.
+# The block that pthread_create keeps of a thread's stack for the next thread is no lost one: only those without any pointer are.
 MEMCHECK = ["valgrind", "--quiet", "--error-exitcode=99", "--leak-check=full", "--errors-for-leak-kinds=definite", "--fair-sched=yes"]
 
 # A program, its words, an input, and the file that has the text.
@@ -26,11 +26,11 @@ RUNS = [
     (HOST, "run", "tests/runs/workers_undo_and_clear.toml", "tests/runs/workers_undo_and_clear.run.txt"),
     (HOST, "run", "tests/runs/workers_are_refused.toml", "tests/runs/workers_are_refused.run.txt"),
     *((TRACER, "answer", f"traces/{name}.trace", f"traces/{name}.trace") for name in ("rec", "measurement", "wide-realms")),
-    # What they print is compared by tests/test_view.py.
+    # Their output is compared by tests/test_view.py.
     *((VIEW, "history", f"plans/{name}.toml", None) for name in ("realm", "rollback", "wide-realm")),
     *((VIEW, words, "tests/histories/realm_runs.history", None) for words in ("apply", "apply --erase 0")),
     *((VIEW, "check", f"plans/{name}.toml", None) for name in ("realm", "failed-build")),
-    # What a check prints is compared by tests/test_traces.py.
+    # The output of a check is compared by tests/test_traces.py.
     *((TRACER, "check", f"traces/{name}.trace", None) for name in ("order-of-checks", "every-state", "two-realms")),
 ]
 

@@ -1,12 +1,12 @@
-"""The name of a public definition or type is used for one thing. In the files of crates/*/specs each name stands for
-one definition, type or law that others may cite. Names of fields and of constructors are read with their type, and are not
-meant. In the files of crates/*/src each name stands for one public type of the repository, with no exception.
+"""The name of a public definition or type is used for one thing. In the files of crates/*/specs each name means
+one definition, type or theorem that others may cite. Names of fields and of constructors are read with their type, and are not
+meant. In the files of crates/*/src each name means one public type of the repository, with no exception.
 
 The RMM by registers has a model of its own, with the names that the standard gives, as that of the profile has: the crates of its
 group in crates.txt are compared among themselves.
 
 A name that is used twice on purpose has a line in tests/names.txt: the name, the crates that define it, and the reason. A line
-there fails where its name is no longer used in just these crates, or where it gives no reason.
+there fails if its name is no longer used in just these crates, or if it gives no reason.
 
 Each name that is used twice without such a line, and each line that is not right, is shown.
 """

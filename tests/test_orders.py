@@ -1,12 +1,12 @@
-"""The subcommands `explore` and `order` of realmview over plans, against replays by realmhost of each order.
+"""The subcommands `explore` and `order` of realmview over plans, against replays by realmhost of each schedule.
 
-The orders of a plan are found here by replays alone: a build has a step left where its next turn is not idle. Of each order the
-lines of the replay tell how each step ended, and what the map is. From these the whole text of `explore` is made, and it has to
-be the one that the program writes. Of a plan of more orders the first order of each line is replayed: it has to show what the
-line says. How many orders there are is known besides, where each step has one turn: the multinomial of the builds' numbers of
+The schedules of a plan are found here by replays alone: a build has a step left if its next turn is not idle. Of each one the
+lines of the replay say how each step ended, and what the map is. From these the whole text of `explore` is made, and it has to
+be the one that the program writes. Of a plan of more schedules the first one of each line is replayed: it has to show what the
+line says. The number of schedules is known besides, if each step has one turn: the multinomial of the builds' numbers of
 steps.
-Where builds give up, the plan that is replayed has an abort behind a build's first refusal.
-Of orders that are drawn, the numbers of xoshiro256++ are made here too. What is told of the progress is read from a terminal.
+If builds give up, the plan that is replayed has an abort after a build's first refusal.
+Of schedules that are drawn, the numbers of xoshiro256++ are made here too. The lines of the progress are read from a terminal.
 
 What `order` writes of a plan is replayed: no turn is idle, each build performs every step, and the builds take turns as they have
 to. The rest of the text is as it was. A few such texts are stored in tests/reordered.
@@ -28,18 +28,18 @@ import pytest
 from programs import HOST, PLANS, RUNS, SECONDS, TOP, VIEW, needs, over, run
 
 pytestmark = needs(HOST, VIEW)
-# How many orders of a plan are replayed here at most. Plans that have more are compared in tests/test_schedules.py.
+# The most schedules of a plan that are replayed here. Plans that have more are compared in tests/test_schedules.py.
 MOST = 40
-# How many plans of random steps.
+# The number of plans of random steps.
 RANDOM_PLANS = 25
-# What the program writes to a terminal before each line, and in the end: it goes back to the line's first column, and clears it.
+# The text to a terminal before each line, and in the end: it goes back to the line's first column, and clears it.
 CLEARED = "\r\x1b[K"
-# The most bytes of a plan, and what is said where one would have more.
+# The most bytes of a plan, and the message if one would have more.
 MOST_BYTES = 1048576
 OUTSIDE = "with the turns that its builds need, the plan has more than 16384 turns or 1048576 bytes\n"
-# The place of a build's giving up, behind those of all steps.
+# The place of a build's giving up, after those of all steps.
 BEYOND = 1 << 16
-# How many lines of progress there are in a second at most.
+# The most lines of progress in a second.
 LINES_A_SECOND = 5
 
 
@@ -74,10 +74,10 @@ class Replay:
 
 
 class GivingUp(Replay):
-    """A replay of a plan in an order, in which a build gives up once a step of it is refused.
+    """A replay of a plan by a schedule, in which a build gives up once a step of it is refused.
 
-    `realmhost` goes on after a refusal. So behind the first step of a build that is refused its steps are cut off, and an abort is put
-    in their place; and the plan is replayed again, the earliest refusal first, since the abort decides what others get from there on.
+    `realmhost` goes on after a refusal. So after the first step of a build that is refused its steps are cut off, and an abort
+    is put in their place. The plan is replayed again, the earliest refusal first: the abort decides what others get after it.
     """
 
     def __init__(self, plan, order):
@@ -112,12 +112,12 @@ def words_of(end):
 
 
 def left_behind(plan, builds, prefix, replay):
-    """Which builds have a step left behind these turns."""
+    """The builds that have a step left after these turns."""
     return [build for build in range(builds) if not replay(plan, [*prefix, build]).turns[-1].endswith(" - idle\n")]
 
 
 def orders_of(plan, builds, replay, prefix=()):
-    """Each order of the plan that begins so, the lowest first, with its replay."""
+    """Each schedule of the plan that begins so, the lowest first, with its replay."""
     left = left_behind(plan, builds, prefix, replay)
     if not left:
         yield list(prefix), replay(plan, list(prefix))
@@ -130,7 +130,7 @@ WAYS = (((), Replay), (("--give-up",), GivingUp))
 
 
 class Shown(dict):
-    """How many orders show a thing, and the first of them."""
+    """The number of schedules that show a thing, and the first of them."""
 
     def add(self, thing, order):
         count, first = self.get(thing, (0, order))
@@ -142,7 +142,7 @@ class Shown(dict):
 
 
 class Totals:
-    """What orders come to."""
+    """The outcomes of schedules."""
 
     def __init__(self, builds):
         self.builds, self.orders = builds, 0
@@ -163,7 +163,7 @@ class Totals:
     def lines(self):
         for words in self.wholes:
             yield words + self.wholes.text(words, self.orders)
-        # of one step the ends come in the order in which orders first show them
+        # of one step the ends come in the sequence in which schedules first show them
         for end in sorted(self.ends, key=lambda end: end[:2]):
             yield words_of(end) + self.ends.text(end, self.orders)
         for build in range(self.builds):
@@ -173,7 +173,7 @@ class Totals:
 
 
 def text_of(plan, builds, most, replay):
-    """What `explore` has to write; none if there are more orders."""
+    """The text that `explore` has to write; none if there are more schedules."""
     totals = Totals(builds)
     for order, replayed in orders_of(plan, builds, replay):
         if totals.orders == most:
@@ -204,7 +204,7 @@ def numbers_of(seed):
 
 
 def text_of_sample(plan, builds, count, seed, replay):
-    """What `explore --sample --seed` has to write."""
+    """The text that `explore --sample --seed` has to write."""
     numbers, totals = numbers_of(seed), Totals(builds)
     for _ in range(count):
         order = []
@@ -292,7 +292,7 @@ def of_random_plan(number):
 
 
 def of_options():
-    """Where one option is given alone, and where more are to be drawn than may be."""
+    """Calls with one option alone, and with more to be drawn than may be."""
     plan = plan_of([["take 0"], ["take 1"]])
     for words, first in (
         (["--seed", "4294967295"], "orders drawn 1000"),
@@ -348,7 +348,7 @@ def on_a_terminal(words, given):
 
 
 def of_progress():
-    """What is told while orders are run, where standard error is a terminal; where it is none, `run` sees that nothing is."""
+    """The lines while schedules are run, if standard error is a terminal; if it is none, `run` sees that there are none."""
     plan = (TOP / "plans/failed-build.toml").read_text()
     words, count = ["explore", "--sample", "40000"], 40000
     status, out, told, took = on_a_terminal(words, plan)
@@ -387,7 +387,7 @@ def in_rotation(order):
 
 
 def of_whole_order(name, plan, words):
-    """What `order` writes of a plan."""
+    """The plan that `order` writes."""
     name = f"{name}, order {words}"
     status, text, err = run(VIEW, ["order", *words], plan)
     yield name, (status, err), (0, "")
@@ -414,7 +414,7 @@ def of_stored_orders():
 
 
 def of_no_order():
-    """What is no plan, and a plan that its order would make too long."""
+    """An input that is no plan, and a plan that its schedule would make too long."""
     status, findings, _ = run(VIEW, ["check"], "pages = 1\n")
     yield "order of no plan", run(VIEW, ["order"], "pages = 1\n"), (status, "", findings)
     plan = plan_of([["take 0", "take 1"]])

@@ -6,8 +6,8 @@ order, and its history is that of `realmview history` with the lines of the refu
 granules, the realms and the sums of the pages make the map of `realmhost replay` of the plan cut off there; with a
 build left out, those of the second grid make the map of `realmhost replay --erase B`, and the page says that there is
 a difference exactly if the build has something open. (Of long plans some of the turns.) Of one plan: links, keys,
-folded tables, words of refusals, roles; of machines of three sizes: room, contrast, speed. The colours of builds are
-told apart by the colour-blind. If there is no browser, all but the colours is skipped.
+folded tables, words of refusals, roles; of machines of three sizes: room, contrast, speed. The colours of builds can be
+distinguished by the colour-blind. If there is no browser, all but the colours is skipped.
 """
 import functools
 import itertools
@@ -31,7 +31,7 @@ AUDIT = (TOP / "tests/page_audit.js").read_text()
 # Plans of plans/, and plans of page_plans.py.
 PLANS = ("failed-build", "two-realms", "refusals", "guide/recs", "128-pages", "written-pages", "each-build")
 SECONDS = 300
-# Of a plan with more turns than this, some are looked at.
+# Of a plan with more turns than this, some are checked.
 MOST_TURNS = 80
 SIZES = (400, 1280, 1920)
 # The least distances of colours (CIEDE2000): 2 is seen by a practised eye.
@@ -113,7 +113,7 @@ def map_of(labels, realms):
 
 
 def signs_of(labels):
-    """What the tiles have to show of what their pages contain."""
+    """The signs that the tiles have to show for the contents of their pages."""
     return ["full" if "not zero" in it else "zero" if "all bytes zero" in it else "" for it in labels]
 
 
@@ -153,7 +153,7 @@ def of_steps(name, plan, shown, turns):
 
 
 def of_turn(name, plan, shown, document, turn):
-    """What is shown at a turn, of the run and without each build."""
+    """The parts shown at a turn, of the run and without each build."""
     before = cut(plan, turn)
     shown.value(f"leaveOut(null); show({turn}); 0")
     labels = shown.value("audit.labels('grid')")
@@ -294,7 +294,7 @@ def of_folds(at, data):
 
 
 def of_verdicts(at, data):
-    """What is said of a build that is left out: before it begins, while it has something, and after its abort."""
+    """The words on a build that is left out: before it begins, while it has something, and after its abort."""
     shown = Shown(at, page_of(data), "#turn=1&without=1")
     verdict = "[$('verdict').textContent, $('verdict').className]"
     for turn, text, kind in (

@@ -50,7 +50,7 @@ def printed(words, given="", **how):
 
 
 def plain(text):
-    """What a page says, without the marks of its form: a line of a page is a line here."""
+    """The text of a page, without the marks of its form: a line of a page is a line here."""
     lines = []
     for line in text.split("\n"):
         macro = re.match(r"\.(\w+) ?(.*)", line)
@@ -64,7 +64,7 @@ def plain(text):
 
 
 def parts_of(page, macro):
-    """The parts of a page that begin with a macro, by what stands behind it. One that is not there is empty."""
+    """The parts of a page that begin with a macro, by what follows it. One that is not there is empty."""
     cut = re.split(rf"^\.{macro} (.*)$", page, flags=re.M)
     return collections.defaultdict(str, {plain(head).strip('"'): body for head, body in zip(cut[1::2], cut[2::2])})
 
@@ -177,7 +177,7 @@ def by_bash(name, words, begun):
 
 
 def by_fish(name, words, is_value):
-    """fish offers options where a word begins with their sign."""
+    """fish offers options if a word begins with their sign."""
     lines = [" ".join([name, *words, begun]) for begun in ("", "-", "--")[: 1 if is_value else 3]]
     asked = "; ".join(f"complete -C '{line}'" for line in lines)
     out = printed(["fish", "--no-config", "-c", f"source completions/{name}.fish; {asked}"])[1]

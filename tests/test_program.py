@@ -1,14 +1,14 @@
-"""The program realmhost over plans, and over what it refuses: all that it says, byte by byte.
+"""The program realmhost over plans, and over what it refuses: all that it prints, byte by byte.
 
 plans/NAME.toml has the text of its run in plans/NAME.txt: that on standard output, nothing on standard error, status 0.
 So have those of plans/guide/, and of tests/runs/, which show a rule each. Over the plain store (crates/test_memory) the texts are the same.
 That program adds up the results of a script of calls by registers too, for bench/rmm.
-Where NAME.erase-B.txt stands beside it, `--erase B` prints that, and where NAME.run.txt does, `run` prints that.
-tests/faults/NAME.txt is what is wanted of a refusal: a line `status N`, then standard error. Standard output stays empty.
+If NAME.erase-B.txt is beside it, `--erase B` prints that, and if NAME.run.txt is, `run` prints that.
+tests/faults/NAME.txt is what is expected of a refusal: a line `status N`, then standard error. Standard output stays empty.
 Beside it NAME.toml is the standard input (none: empty), and NAME.args the arguments, one a line (none: `replay`).
 tests/prefixes/NAME.txt has a line for each prefix of the plan beside it: its bytes, the status, and the line on standard error,
 or how many lines are printed, as a second reader of plans found them.
-What RULES.md says of the lines of runs has to stand there.
+What RULES.md says of the lines of runs has to be there.
 """
 import re
 import resource

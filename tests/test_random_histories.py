@@ -73,7 +73,7 @@ def shortened(lines: list[str]) -> list[str]:
 
 
 def of_chunk(first: int) -> tuple[Counter[str], int, list[str]]:
-    """What some histories met, how many lines were compared, and what differs."""
+    """The things that some histories met, the number of lines that were compared, and the differences."""
     met, findings, compared = Counter(), [], 0
     made = {number: history(number) for number in range(first, min(first + CHUNK, COUNT))}
     is_well = first_difference([line for it in made.values() for line in it.lines]) is None

@@ -171,7 +171,7 @@ def test_gate_passes_on_what_it_reads(monkeypatch, tmp_path, capfd):
 
 # ---- make try
 
-# What `rt try` is called with, and then a line of the program and one of the build.
+# The words that `rt try` is called with, and then a line of the program and one of the build.
 TRIED = """\
 #!/bin/sh
 [ "$1" = version ] && exec tail -n 1 "$NAMED"

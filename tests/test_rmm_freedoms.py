@@ -27,7 +27,7 @@ SHARE, SHARE_OF_SETTINGS, FIRST = 4, 8, 3
 
 
 class Freedom(NamedTuple):
-    """What an RMM does otherwise: the sequence of its checks, and settings. Its log may be raw."""
+    """The differences of an RMM: the sequence of its checks, and settings. Its log may be raw."""
 
     sequence: str
     settings: str = ""
@@ -59,7 +59,7 @@ def logs(files: list[Path], freedom: Freedom) -> str:
 
 
 def judged(text: str) -> Counts:
-    """What the judge counts in a log. Its status has to be that of the counts."""
+    """The counts of the judge over a log. Its status has to be that of the counts."""
     ran = subprocess.run(JUDGE, input=text, capture_output=True, text=True, timeout=SECONDS)
     counts = COUNTS.fullmatch((ran.stdout.splitlines() or [""])[-1])
     assert counts, f"status {ran.returncode}: {ran.stdout[-200:]} {ran.stderr[:200]}"

@@ -29,9 +29,9 @@ from second_rmm.judge import WRONG, judge, report
 from second_rmm.machine import Machine
 from second_rmm.reading import parts_of
 
-# How many traces are searched for refusals that change something, and of how many one is taken for the laws.
+# The number of traces that are searched for refusals that change something, and of how many one is taken for these statements.
 SEARCHED, EACH = 20, 3
-# What a case says is wrong, or none.
+# The fault that a case finds, or none.
 Finding = str | None
 
 

@@ -11,7 +11,7 @@ from random_plans import examples
 from random_traces import random_traces
 from second_monitor import Monitor
 
-# How many commands the RMM has to refuse in the traces of tests/profile.
+# The number of commands that the RMM has to refuse in the traces of tests/profile.
 REFUSED = 200
 ROWS = rules.rows()
 

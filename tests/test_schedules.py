@@ -14,9 +14,9 @@ from schedule_graph import Graph, machine_of
 from second_host import Blocks, Build, Turn, map_of
 
 pytestmark = needs(VIEW, HOST)
-# How many schedules of a plan are run one after the other at most.
+# The most schedules of a plan that are run one after the other.
 MOST = 500
-# How many there are at most where the shortest way to a thing is found by trying all.
+# The most schedules if the shortest way to a thing is found by trying all.
 FEW = 100
 RANDOM_PLANS, MOST_TURNS, PARTS = 300, 12, 10
 
@@ -28,7 +28,7 @@ class Run:
         plan = tomllib.loads(text)
         self.machine, self.steps = machine_of(plan), [build["steps"] for build in plan["build"]]
         self.last = None
-        # Of each build how it stands: whether a step of it was refused, and whether the abort behind that is over.
+        # The state of each build: whether a step of it was refused, and whether the abort after that is over.
         self.gives_up, self.refused, self.over = gives_up, set(), set()
         self.builds, self.blocks, self.ends = [Build() for _ in self.steps], Blocks.of(self.machine.pages), []
         for build in turns:
@@ -82,7 +82,7 @@ class Shown(dict):
 
 
 def one_by_one(text: str, gives_up: bool = False) -> str | None:
-    """What is to be told of a plan, by a run of each schedule; none if there are too many."""
+    """The text that `explore` has to print of a plan, by a run of each schedule; none if there are too many."""
     steps = [build["steps"] for build in tomllib.loads(text)["build"]]
     orders, wholes, ends, smooth, maps = 0, Shown(), Shown(), Shown(), Shown()
     for order, ended in each_schedule(Run(text, [], gives_up)):
@@ -222,7 +222,7 @@ def test_running_rec(check):
 
 
 def with_answer(text: str, words: list[str], order: list[int] | None, never: str):
-    """What is printed and wanted: the plan with this schedule, or the line that there is none. And the replay of it, in lines."""
+    """The printed and the expected output: the plan with this schedule, or the line that there is none; and its replay."""
     status, out, err = run(VIEW, ["explore", *words], text)
     if order is None:
         return (status, out, err), (0, never, ""), []

@@ -1,14 +1,14 @@
 """plans/plan.schema.json, the JSON Schema of plans for editors, against the built program.
 
-The schema has to accept what the program takes for a plan, and to refuse what it does not, where that is TOML at all:
+The schema has to accept what the program takes for a plan, and to refuse what it does not, if that is TOML at all:
 
   plans/, plans/guide/, tests/runs/     accepted, all of them
-  tests/faults/                         refused, where the fault is 21, 22, 23 or 24
+  tests/faults/                         refused, if the fault is 21, 22, 23 or 24
   the limits of each key                accepted, and refused a step beyond
   texts that are no steps               refused; the greatest numbers of each step are accepted
   plans with random changes             as the program does
 
-What no schema can tell is in `BEYOND`, with why.
+What no schema can find is in `BEYOND`, with why.
 """
 import json
 import tomllib
@@ -37,7 +37,7 @@ poke 65535 4294967295 4095 255|activate|undo|abort|mark|back
 
 
 def is_accepted(plan):
-    """Whether the schema accepts a plan; None where the plan is no TOML."""
+    """Whether the schema accepts a plan; None if the plan is no TOML."""
     try:
         value = tomllib.loads(plan.decode("utf-8"))
     except (UnicodeDecodeError, tomllib.TOMLDecodeError):
@@ -46,7 +46,7 @@ def is_accepted(plan):
 
 
 def is_taken(plan):
-    """Whether the program takes it for a plan, or None where it finds no TOML."""
+    """Whether the program takes it for a plan, or None if it finds no TOML."""
     ran = run(HOST, ["replay"], plan)
     return None if ran.err == b"plan 20 syntax\n" else ran.status == 0
 

@@ -17,7 +17,7 @@ from programs import HOST, SECONDS, TOP, TRACER, VIEW, needs
 pytestmark = needs(HOST, TRACER, VIEW)
 PLAN = "plans/failed-build.toml"
 TRACE = "traces/rmm/kvm-boot.trace"
-# What each label is painted with, and the end of each colour.
+# The colour of each label, and the end of each colour.
 LABELS = {"error:": "1;31", "warning:": "33", "help:": "36"}
 RED, GREEN, END = "\x1b[31m", "\x1b[32m", "\x1b[0m"
 # A plan with a mistake in it.
@@ -37,7 +37,7 @@ here: no command
 help: did you mean rmi_realm_activate?
 1 same, 0 allowed, 2 wrong
 """
-# What the lines of a difference are painted with: the whole line, or its label.
+# The colours of the lines of a difference: of the whole line, or its label.
 PAINTED = (r"^.*: wrong$", "31"), (r"^.*: allowed$", "33"), (r"^here: .*$", "32"), (r"^help:", "36")
 
 
@@ -47,7 +47,7 @@ def surroundings(**more):
 
 
 def read_all(descriptor):
-    """What comes from a terminal, to its end. At the end Linux says that the other side is closed."""
+    """The bytes from a terminal, to its end. At the end Linux says that the other side is closed."""
     parts = []
     while True:
         try:
@@ -115,7 +115,7 @@ def plain(text):
 
 
 def test_input(check):
-    """What is awaited is said at a terminal alone."""
+    """A line says what is awaited, at a terminal alone."""
     plan, trace = (TOP / PLAN).read_text(), "platform 0x80000000 64\nrmi_granule_delegate 0x80000000 = RMI_SUCCESS\n"
     history = run(["realmview", "history", PLAN])[1]
     asked = [(["realmview", it], "a plan", plan) for it in ("history", "json", "page", "why", "check")]

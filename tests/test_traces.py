@@ -39,7 +39,7 @@ from second_rmm.reading import PSCI_NAMES, named, parts_of
 
 pytestmark = needs(TRACER)
 MOST_LINE = 65536
-# What a case says is wrong, or none.
+# The fault that a case finds, or none.
 Finding = str | None
 
 
@@ -48,7 +48,7 @@ def ran(words: str, given: bytes | None = b"", **how: object) -> Ran:
 
 
 def differs(name: str, came: Ran, status: int, out: bytes = b"", err: bytes = b"") -> Finding:
-    """What differs in an outcome, or none."""
+    """The difference of an outcome, or none."""
     return differing(name, came, status, out, err)
 
 

@@ -6,9 +6,9 @@ for each build.
 `calls` has to print a trace of which `rmitrace check` finds each answer the same, or of a refused call allowed. With `--c` it has
 to print the rows that `examples/drive.py --c` makes of that trace.
 tests/histories/NAME.history is the standard input of `apply`, or of what NAME.args has, one word a line; NAME.txt is what is
-wanted: a line `status N`, standard output, and standard error, which begins behind a line `--`. They are written by hand.
+expected: a line `status N`, standard output, and standard error, which begins after a line `--`. They are written by hand.
 tests/lines/ has single lines, by hand too: those that `apply` has to take for an event or for an opening, and those that are none.
-tests/checks/NAME.toml is the standard input of `check`, and NAME.txt is what is wanted: a line `status N`, and standard output.
+tests/checks/NAME.toml is the standard input of `check`, and NAME.txt is what is expected: a line `status N`, and standard output.
 They are written by hand too. tests/reasons/NAME.toml is the standard input of `why`, and NAME.txt is its standard output, by hand
 as well, and NAME.all that of `why --all`; of each plan, `why` has to print what a replay does, with the check that fails below
 each refusal and nothing else, and the data of its page has to have the same words.
@@ -37,7 +37,7 @@ pytestmark = needs(HOST, VIEW, TRACER)
 
 @over("path", *PLANS, RUNS)
 def test_history(check, path):
-    """What the history of a plan leads to, whole and without each build."""
+    """The map that the history of a plan leads to, whole and without each build."""
     plan = path.read_bytes()
     status, history, err = run(VIEW, ["history"], plan)
     check("history", (status, err), (0, b""))
@@ -139,7 +139,7 @@ def lines_of(name):
 
 
 def test_lines(check):
-    """Which lines are events and openings. An event may be refused, in words of its own."""
+    """The lines that are events and openings. An event may be refused, in words of its own."""
     opening, no_event, no_opening = b"history 1 4096 255 16 16384 8\n", b"line 2 is no event\n", b"line 1 opens no history\n"
     for line in lines_of("events"):
         told = run(VIEW, ["apply"], opening + line + b"\n")[2]
@@ -181,7 +181,7 @@ def test_why_all(path):
     assert run(VIEW, ["why", "--all"], path.with_suffix(".toml").read_bytes()) == (0, path.read_bytes(), b"")
 
 
-# What follows RMI_ERROR_, by the status in a refusal.
+# The text that follows RMI_ERROR_, by the status in a refusal.
 RESULTS = {b"1": b"INPUT", b"2": b"REALM", b"3": b"REC", b"4": b"RTT, index %s"}
 # The lines below that of a refused turn: what must be and what is, with the name of the refusal; what helps; how many checks passed.
 BELOW = re.compile(rb"    error: .* \((.*)\)\n(    help: .*\n)?(    (1 earlier check|\d+ earlier checks) passed\n)?")
@@ -201,7 +201,7 @@ def name_of(line):
 
 
 def fault_of_reasons(line, below):
-    """What is wrong with the lines below that of a turn, or None: of a refusal, the check that fails comes first, and ends with its name."""
+    """The fault of the lines below a turn, or None: of a refusal, the check that fails comes first, and ends with its name."""
     name = name_of(line)
     if name is None:
         return f"words below {line}" if below else None

@@ -1,4 +1,4 @@
-"""Tries edits of a crate, several in one check, and reads in the prover's lines what has to be told of each."""
+"""Tries edits of a crate, several in one check, and reads in the prover's lines what has to be reported of each."""
 import collections
 import copy
 import os
@@ -16,22 +16,22 @@ Told = collections.namedtuple("Told", "edit kind why")
 
 # Each check is one process.
 FLAGS = ["--jobs", "1"]
-# How much of a line of the prover's is told.
+# The most characters of a line of the prover's that are reported.
 LONGEST = 160
-# Where the crate's folder keeps what these checks prove of it.
+# The place in the crate's folder that keeps what these checks prove of it.
 KEPT = "out/tried"
 
-# What the prover refuses, and what it says behind that:
+# A name that the prover refuses, and what it says after that:
 UNPROVED = re.compile(r"\w+ (\S+): (?:not proved|no proof|could not tell)\b(.*)")
-# .. where it has nothing against a body but what that calls, or waits for;
+# .. if it has nothing against a body but what that calls, or waits for;
 BY_OTHERS = re.compile(r"it calls|it passes|it waits for|a call of|depends on|for what it cites")
 # .. a goal or a text that it refuses, and where, but for what it leaves unread since that cites a refused text.
 FAULT = re.compile(
     r"(?:note: )?((?:\./)?(\S+?):(\d+):\d+: (?:error(?!.*which was rejected)|it is not proved|`search` found no proof).*)"
 )
-# What does not reach the prover.
+# A text that does not reach the prover.
 NOT_COMPILED = re.compile(r"((?:\./)?(\S+?):(\d+):\d+: error\[.*)")
-# Where a line goes on in the next one: what is no longer there is named first, and told there.
+# The place at which a line goes on in the next one: what is no longer there is named first, and described there.
 GOES_ON = re.compile(r"\n +(?=has no |is not in scope)")
 # A proof's file that does not fit the edited body: it names what is no longer there, or answers what is not asked for.
 LOST = "has no field|is not in scope|has no `|was not admitted|could not tell"
@@ -40,8 +40,8 @@ NOT_ASKED = re.compile(r"note: ((?:\./)?(\S+?): .* is no name that rattle asks f
 
 
 class Check:
-    """What a check of a crate with edits said. `lines` are those that each edited function has in its file, and
-    `is_unread` tells of a line whether it says that an edited text could not be read."""
+    """The report of a check of a crate with edits. `lines` are those that each edited function has in its file, and
+    `is_unread` returns of a line whether it says that an edited text could not be read."""
 
     def __init__(self, ran, lines, is_unread):
         self.said, self.lines = GOES_ON.sub(" ", ran.stdout.rstrip("\n")).split("\n"), lines
@@ -69,7 +69,7 @@ class Check:
         lines = [it for it in self.unproved if it[1] == edit.name]
         misfits, lost = self.misfits_of(edit), {it.string for it in self.misfits}
         faults = [it for it in self.faults if self.is_inside(it, edit) and it.string not in lost]
-        # Where an invariant is lost, or the answer of a goal, goals are refused for want of that, whatever the body
+        # If an invariant is lost, or the answer of a goal, goals are refused for want of that, whatever the body
         # means. Then only an answer counts that fits its goal's names and yet does not prove it.
         if any(it[2].endswith("/Invariants.antt") for it in misfits):
             faults = []
@@ -82,7 +82,7 @@ class Check:
         return [it for it in self.misfits if it[2].startswith(folders_of(edit.name))]
 
     def is_of_edits_alone(self):
-        """Returns whether all that is refused is an edited function, or rests on one. If not, there is no telling
+        """Returns whether all that is refused is an edited function, or depends on one. If not, nobody knows
         which edit it was. So the callers of the edited functions show in each check that no fault passes on to them."""
         names = {name for edit in self.lines for name in (edit.name, *edit.added)}
         are_told = all(it[1] in names or BY_OTHERS.search(it[2]) for it in self.unproved)
@@ -103,7 +103,7 @@ class Trial:
     def __init__(self, toolchain, crate, room):
         self.rt, self.library = toolchain.rt, toolchain.library
         self.room, self.kept, self.printed = room, f"{room}/kept", set()
-        # How many checks there were, and how long they took in all.
+        # The number of checks, and the time that they took in all.
         self.checks, self.seconds, self.counting = 0, 0.0, threading.Lock()
         self.crate = copy.copy(crate)
         self.crate.folder = f"{room}/crate"
@@ -147,7 +147,7 @@ class Trial:
         return check
 
     def tell(self, edits):
-        """Tries edits in one check, or in more where that one does not tell. Returns what is told of each."""
+        """Tries edits in one check, or in more if that one does not decide. Returns the report of each."""
         check = self.check(edits)
         if check.is_proved:
             return [Told(it, NOT_REFUSED, "the crate is proved with it") for it in edits]
@@ -163,7 +163,7 @@ class Trial:
 
 
 def tell_alone(edit, check):
-    """Returns what is told of an edit that had a check of its own, in which the crate was not proved."""
+    """Returns the report of an edit that had a check of its own, in which the crate was not proved."""
     not_read = [it[1] for it in check.not_compiled] + check.unread
     if not_read:
         return Told(edit, BAD_EDIT, f"it does not compile: {not_read[0][:LONGEST]}")
@@ -183,7 +183,7 @@ def tell_alone(edit, check):
 
 
 def parts_of(edits, check):
-    """Parts edits whose check did not tell: those that do not compile from the others, or else in halves."""
+    """Parts edits whose check did not decide: those that do not compile from the others, or else in halves."""
     bad = [it for it in edits if any(check.is_inside(place, it) for place in check.not_compiled)]
     if bad and len(bad) < len(edits):
         return [[it for it in edits if it not in bad], *([it] for it in bad)]

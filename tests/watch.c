@@ -1,11 +1,11 @@
-/* Preloaded into a program, it counts what the program takes, gives back, reads and writes, and refuses what it is told to:
+/* Preloaded into a program, it counts what the program takes, gives back, reads and writes, and refuses what these ask for:
  *
  *   REFUSED=N      the allocation of this number, counted from 1
  *   THREADLESS=1   each thread
  *   SHORT=1        more than one byte a read of standard input
  *
  * At the end of the program the counts go to the file descriptor REPORT, each in a line `name number`. A block is the
- * program's where its own code asks for it, and the C library's otherwise: what pthread_create keeps for the next thread
+ * program's if its own code asks for it, and the C library's otherwise: what pthread_create keeps for the next thread
  * is no leak. The C library of GNU is needed, since its own names are used below the public ones. */
 #define _GNU_SOURCE
 #include <dlfcn.h>

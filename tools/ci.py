@@ -9,7 +9,7 @@ import tempfile
 sys.dont_write_bytecode = True
 from toolchain import Toolchain
 
-# What the compiler is not told of a crate that is already checked.
+# The options that the compiler does not get for a crate that is already checked.
 OF_A_CHECK = "--logic-built", "--jobs"
 
 

@@ -1,4 +1,4 @@
-"""What the pictures are drawn with: a card for light and dark pages, the colours of the states, and elements of SVG.
+"""The parts of the pictures: a card for light and dark pages, the colours of the states, and elements of SVG.
 
 Each cell has its state's word beside its colour, and the colours differ in lightness too: no hue has to be distinguished.
 """

@@ -8,7 +8,7 @@ import re
 from itertools import zip_longest
 from typing import NamedTuple
 
-# The state of a page before each act that can be undone, and again after its undo. None is free.
+# The state of a page before each operation that can be undone, and again after its undo. None is free.
 BEFORE = {"take": None, "delegate": "UNDELEGATED"}
 BEFORE |= dict.fromkeys(("realm", "rtt", "data", "unknown", "rec"), "DELEGATED")
 NARROWEST = 39  # the IPA width in bits of a realm with one starting table; each bit more doubles their number
@@ -33,13 +33,13 @@ def check(holds, otherwise):
 
 
 class Build:
-    """A build's steps that are left, its pages, its open acts with what each made of which page, its mark, its realm."""
+    """A build's steps that are left, its pages, its open operations with what each made of which page, its mark, its realm."""
 
     def __init__(self, steps):
         self.steps, self.states, self.open, self.mark, self.realm = list(steps), {}, [], None, None
 
     def made_by(self, word, first, *more):
-        """What an act makes of which page."""
+        """The states that an operation gives to pages, by page."""
         if word == "take":
             return {len(self.states) + i: "UNDELEGATED" for i in range(1 << first)}
         if word == "realm":
@@ -67,7 +67,7 @@ class Build:
             check(told == [str(self.mark)], f"{self.mark} acts are open")
 
     def undo(self, told):
-        """The newest open act is taken back, which is of the kind told."""
+        """Takes back the newest open operation, which is of the kind that the line has."""
         kind, made = self.open.pop() if self.open else ("none", {})
         check(told == [kind], f"the newest open act is {kind}")
         self.states |= dict.fromkeys(made, BEFORE[kind])

@@ -1,4 +1,4 @@
-"""What the built programs say of their command lines: their --help, as names, texts and options."""
+"""The command lines of the built programs: their --help, as names, texts and options."""
 import re
 import subprocess
 from collections import namedtuple
@@ -8,14 +8,14 @@ TOP = Path(__file__).resolve().parent.parent
 PROGRAMS = ("realmhost", "rmitrace", "realmview")
 # An option: its letter and its value's name may be None.
 Option = namedtuple("Option", "letter name value said")
-# What stands in a command line without a sign before it, as FILE. It may be left out.
+# An argument of a command line without a sign before it, as FILE. It may be left out.
 Argument = namedtuple("Argument", "name said")
 # A program or a subcommand of it. A subcommand has none itself, and its argument may be None.
 Command = namedtuple("Command", "name said options commands argument")
 
 
 def told(*words):
-    """What a program of bin/ prints: help and version of realmhost are on standard error, those of the others on standard output."""
+    """The output of a program of bin/: realmhost has help and version on standard error, the others on standard output."""
     how = {"stdin": subprocess.DEVNULL, "stdout": subprocess.PIPE, "stderr": subprocess.STDOUT, "text": True, "timeout": 60}
     return subprocess.run([TOP / "bin" / words[0], *words[1:]], **how).stdout
 
@@ -41,7 +41,7 @@ def argument_of(text):
 
 
 def command_of(program, name, said):
-    """A subcommand. `help` has no help of its own: behind it stands the name of another."""
+    """A subcommand. `help` has no help of its own: after it comes the name of another."""
     if name == "help":
         return Command(name, said, [], [], Argument("COMMAND", said))
     text = told(program, name, "--help")

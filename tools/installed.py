@@ -1,5 +1,5 @@
 #!/usr/bin/env python3
-"""What is installed of the repository's own files, and where: documents, man pages, completions, plans, traces, examples.
+"""The installed files of the repository's own, and their places: documents, man pages, completions, plans, traces, examples.
 
     tools/installed.py PREFIX       copies all of it below PREFIX
 
@@ -15,7 +15,7 @@ from pathlib import Path
 
 TOP = Path(__file__).resolve().parent.parent
 DOC, SHARE = "share/doc/realmhost/{path}", "share/realmhost/{path}"
-# Which files are installed, and where below PREFIX. Of two that fit, the first one counts.
+# The files that are installed, and their places below PREFIX. Of two that fit, the first one counts.
 PLACES = {
     **dict.fromkeys(("README.md", "CHANGELOG.md", "SECURITY.md", "LICENSE", "docs/**/*.*"), DOC),
     **dict.fromkeys(("plans/**/*.*", "traces/**/*.*", "examples/**/*.*", "python/*.py"), SHARE),
@@ -64,7 +64,7 @@ def places():
 
 @functools.cache
 def place_of(path):
-    """Where a file or folder of the repository is installed, below PREFIX. None if it is not."""
+    """The place of a file or folder of the repository below PREFIX. None if it is not installed."""
     below = [(place, file.relative_to(path).parts) for file, place in places().items() if file.is_relative_to(path)]
     return Path(*below[0][0].parts[: len(below[0][0].parts) - len(below[0][1])]) if below else None
 
@@ -77,7 +77,7 @@ def target_of(path, target):
 
 
 def linked(path, target, start=None):
-    """What a link of an installed document leads to, from the folder of its place or another one. Nothing if that is not installed."""
+    """The target of a link of an installed document, from `start` or its own folder. Nothing if that is not installed."""
     found = target_of(path, target)
     if found is None:
         return target

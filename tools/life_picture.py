@@ -42,7 +42,7 @@ def there_and_back(x, end, step, *marks):
 
 
 def becomes(x, end):
-    """What a DELEGATED page can become, and the way back of all."""
+    """The states that a DELEGATED page can get, and the way back of all."""
     first, last = MIDDLE - ROW * 2, MIDDLE + ROW * 2
     yield path(f"M{x + 4} {MIDDLE}h14M{x + 18} {first}V{last}")
     for y, (step, states, said) in zip(range(first, last + 1, ROW), BECOMES):

@@ -8,7 +8,7 @@ TOP = Path(__file__).resolve().parent.parent
 
 def run(doc, files, faults=lambda: ()):
     """Writes what `files` gives: of each path its text. With the word --check it prints which of these are others as they are
-    stored, and what `faults` finds besides. Returns the status: 1 where anything is printed, and 2 for other words."""
+    stored, and what `faults` finds besides. Returns the status: 1 if anything is printed, and 2 for other words."""
     words, tool = sys.argv[1:], os.path.relpath(os.path.realpath(sys.argv[0]), TOP)
     if words not in ([], ["--check"]):
         print(doc.split("\n\n", 1)[1], end="", file=sys.stderr)

@@ -1,4 +1,4 @@
-"""Tells which crate of how many is done, after how long, and about how long the others take.
+"""Prints which crate of how many is done, after how long, and about how long the others take.
 
 The time that is left is that of the other crates by seconds.txt, at the speed so far. So it fits a machine that is slower
 than the one which measured, once some crates are done.
@@ -33,7 +33,7 @@ class Progress:
     def __init__(self, names, lanes, after=0, out=None):
         self.work, self.lanes, self.after, self.out = {name: seconds_of(name) for name in names}, lanes, after, out or sys.stdout
         self.left, self.lock, self.start = dict(self.work), threading.Lock(), time.monotonic()
-        # When the last crate was done, and how long it took to find those that nothing had to be done for.
+        # The time at which the last crate was done, and the time that it took to find those that nothing had to be done for.
         self.last, self.kept = self.start, 0
 
     def minutes_left(self, gone):

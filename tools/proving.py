@@ -1,7 +1,7 @@
-"""Proves libraries side by side, each after those that it stands on, and keeps what the crates above them read.
+"""Proves libraries side by side, each after those that it depends on, and keeps what the crates above them read.
 
 Of a library its statements are kept, without their proofs: a check reads these much faster. They lie in the crate's folder
-out/statements/, beside a stamp of all that they are made from. Where that is still the same, nothing is proved again.
+out/statements/, beside a stamp of all that they are made from. If that is still the same, nothing is proved again.
 """
 import copy
 import os
@@ -16,7 +16,7 @@ FOLDER = "out/statements"
 
 
 def libraries_of(crates):
-    """Returns the repository's libraries that these crates stand on, each after its own."""
+    """Returns the repository's libraries that these crates depend on, each after its own."""
     found = []
     for crate in crates:
         found += [it for it in crate.below() if it not in found]
@@ -39,7 +39,7 @@ def is_stamped(crate, made):
 
 
 def place_of(crate):
-    """Returns where a program or an archive is built."""
+    """Returns the path at which a program or an archive is built."""
     return f"{crate.folder}/out/built/" + (f"lib{crate.name}.a" if crate.is_static else crate.name)
 
 
@@ -88,7 +88,7 @@ class Lanes:
 
     def run(self, crates, work, soon=()):
         """Does `work(crate, jobs, nice, failed)` for each crate, where `failed` has its libraries whose work failed. Crates of
-        the names `soon`, and all that they stand on, come before others. Returns whether all went well."""
+        the names `soon`, and all that they depend on, come before others. Returns whether all went well."""
         left, way, waits, running, went = list(crates), ranks_of(crates, soon), waits_of(crates), {}, {}
         with ThreadPoolExecutor(len(left) or 1) as pool:
             while left or running:
@@ -115,14 +115,14 @@ class Lanes:
 
 
 def waits_of(crates):
-    """Returns of each crate, by its name, those of these crates that it stands on."""
+    """Returns of each crate, by its name, those of these crates that it depends on."""
     names = {it.name for it in crates}
     return {it.name: [below.name for below in it.below() if below.name in names] for it in crates}
 
 
 def ranks_of(crates, soon):
-    """Returns of each crate, by its name, when it has its turn: the greatest comes first. What is wanted soon comes before all
-    else; then the crate with the longest way above it."""
+    """Returns of each crate, by its name, its rank: the greatest comes first. What is needed soon comes before all else;
+    then the crate with the longest way above it."""
     waits = waits_of(crates)
     wanted = {name for it in soon if it in waits for name in [it, *waits[it]]}
     ways = ways_above(crates) | ways_above([it for it in crates if it.name in wanted])
@@ -133,7 +133,7 @@ def ways_above(crates):
     """Returns of each crate, by its name, the lines of the longest way from it up through these crates."""
     waits, lines = waits_of(crates), {it.name: it.count(rb"\n") for it in crates}
     way = dict(lines)
-    # (a crate comes after those that it stands on)
+    # (a crate comes after those that it depends on)
     for crate in reversed(crates):
         for name in waits[crate.name]:
             way[name] = max(way[name], lines[name] + way[crate.name])

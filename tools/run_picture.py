@@ -10,7 +10,7 @@ MEANING = dict(zip(WORD, ("UNDELEGATED", "DELEGATED", "a realm's descriptor", "t
 
 
 class Sheet:
-    """Where things are. Row 0 is the machine before the first turn."""
+    """The places of things. Row 0 is the machine before the first turn."""
 
     def __init__(self, turns, pages):
         self.turns, self.pages, self.last = turns, pages, turns[-1].states
@@ -66,7 +66,7 @@ class Sheet:
         return text(self.free + 16, y + 14, str(free), "m ink", "end") + bar
 
     def refusal(self, row, turn):
-        """A cross beside a refused turn, and why the build fails where it is aborted next."""
+        """A cross beside a refused turn, and why the build fails if it is aborted next."""
         y, x = self.y(row), self.right + 4
         fails = next((it.step for it in self.turns[row:] if it.build == turn.build), "") == "abort"
         yield path(f"M{x:g} {y + 6}l8 8m0-8l-8 8", "cross", ' stroke-width="2"')

@@ -8,7 +8,7 @@ COLUMN, ROW, LEFT, CELLS, TOP = 27, 12, 20, 116, 96
 
 
 class Strip:
-    """Where things are."""
+    """The places of things."""
 
     def __init__(self, turns):
         self.turns, self.tops, y = turns, [], TOP

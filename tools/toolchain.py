@@ -1,4 +1,4 @@
-"""What stands beside `rt`: its commands as functions, and the reader of functions that `rt plant` has."""
+"""The programs beside `rt`: its commands as functions, and the reader of functions that `rt plant` has."""
 import atexit
 import importlib.machinery
 import os
@@ -8,7 +8,7 @@ import sys
 import threading
 import types
 
-# What `rt version` prints of each toolchain that the repository is written for, a line each.
+# The file with what `rt version` prints of each toolchain that the repository is written for, a line each.
 VERSION = f"{os.path.dirname(os.path.dirname(os.path.realpath(__file__)))}/rattle-toolchain"
 
 
@@ -47,7 +47,7 @@ class Toolchain:
         return module
 
     def crates(self, top):
-        """Returns the crates of the repository, each after the libraries that it stands on."""
+        """Returns the crates of the repository, each after the libraries that it depends on."""
         # (its first call sets a signal's handler, which only the main thread may)
         self.library.guarded()
         return self.library.crates_below(top)

@@ -11,7 +11,7 @@
 #include <inttypes.h>
 #include <stdlib.h>
 
-/* How many calls a run has made, the number of the one that is refused, the word, and its function. */
+/* The number of calls that a run has made, the number of the one that is refused, the word, and its function. */
 static unsigned calls, refused;
 static uint64_t word, function;
 

@@ -15,7 +15,7 @@ enum { PAGE_SIZE = 4096 };
 /* Gives the host adjacent granules, at most 4096, the first at a multiple of 64 KiB. */
 void granules_open(uint64_t base, unsigned count);
 
-/* How many granules are in use, or lost. */
+/* The number of granules that are in use, or lost. */
 unsigned granules_in_use(void);
 
 /* Adjacent pages at a multiple of their size, or 0; and as granules that are DELEGATED. */

@@ -29,15 +29,15 @@ _Static_assert(sizeof(unsigned long) == 8, "a register has 64 bits");
 #ifndef ARM_SMCCC_OWNER_STANDARD
 #define ARM_SMCCC_OWNER_STANDARD 4UL
 #endif
-/* What a0 is of a function that there is not. */
+/* The a0 of a function that does not exist. */
 #ifndef SMCCC_RET_NOT_SUPPORTED
 #define SMCCC_RET_NOT_SUPPORTED (-1)
 #endif
 
-/* How a call is made. Here it is always an SMC, and arm_smccc_1_1_invoke has this value. */
+/* The conduit of a call. Here it is always an SMC, and arm_smccc_1_1_invoke has this value. */
 enum arm_smccc_conduit { SMCCC_CONDUIT_NONE, SMCCC_CONDUIT_SMC, SMCCC_CONDUIT_HVC };
 
-/* What an SMC does: X0 to X6 before the call, X0 to X4 after it. The program defines it, once. The simplest one is
+/* Performs an SMC: X0 to X6 before the call, X0 to X4 after it. The program defines it, once. The simplest one is
  *
  *     void smccc_conduit(rmm_registers *registers) { rmm_smc(&handle, registers); }
  */

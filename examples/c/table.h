@@ -50,8 +50,8 @@ struct table_row {
     const struct table_settings *settings; /* of a platform */
 };
 
-/* What runs the rows. On an RMM of your own: an SMC, loads and stores at addresses, and no guest. table_platform returns
- * whether the RMM is one of these settings. */
+/* The functions that run the rows. On an RMM of your own: an SMC, loads and stores at addresses, and no guest.
+ * table_platform returns whether the RMM is one of these settings. */
 bool table_platform(const struct table_row *row);
 void table_smc(uint64_t x[7]);
 void table_store(uint64_t address, uint64_t word);

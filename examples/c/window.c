@@ -49,7 +49,7 @@ static void log_page(uint64_t page)
     }
 }
 
-/* How many outputs a command has. */
+/* The number of outputs of a command. */
 static unsigned outputs_of(uint64_t x0)
 {
     switch (x0) {

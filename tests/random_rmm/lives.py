@@ -142,7 +142,7 @@ class History(Recs):
             self.exactly("rmi_realm_destroy", realm.rd)
 
     def remove(self, realm: Realm, at: int) -> int:
-        """What is at an address is undone. Returns the address that `top` gives."""
+        """Undoes what is at an address. Returns the address that `top` gives."""
         walk = self.here.walk(realm, at, 3)
         begin = at - at % size(walk.level)
         if not realm.is_protected(at):

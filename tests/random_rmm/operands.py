@@ -1,4 +1,4 @@
-"""What operands are drawn from, and what replaces them."""
+"""The values that operands are drawn from, and those that replace them."""
 from __future__ import annotations
 
 from collections.abc import Callable, Iterator
@@ -12,7 +12,7 @@ from .performing import HIGHEST, Performing
 
 GRANULES = {"rd", "rec", "params", "addr", "rtt", "data", "src", "run", "calling", "target"}
 ADDRESSES = {"ipa", "base", "top"}
-# Where pages are after the beginning of a region: the first and last pages, and the ends of tables and blocks.
+# The places of pages after the beginning of a region: the first and last pages, and the ends of tables and blocks.
 OFFSETS = (0, 0, 0, 1, 2, 3, 4, 7, 510, 511, 512, 513, 1023, 1024, 262143, 262144, 262145)
 # MemAttr of a descriptor, of which 0b100 is reserved, and the lowest bit of SH.
 MEMORY_BITS, RESERVED_MEMORY, SH = 0x1C, 0x10, 0x100
@@ -67,7 +67,7 @@ class Operands(Performing):
     # ---- addresses of realms
 
     def regions_of(self, realm: Realm) -> list[int]:
-        """Where the regions begin in which a realm is used: of each half the first, the last and one more."""
+        """The starts of the regions in which a realm is used: of each half the first, the last and one more."""
         if realm.rd not in self.regions:
             half, unit = 2 ** (realm.s2sz - 1), self.dice.choice((size(1), size(2)))
             between = [it + unit * self.dice.randrange(half // unit) for it in (0, half)]

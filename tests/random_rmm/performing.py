@@ -33,7 +33,7 @@ class Performing:
         # The lines, each with its answer.
         self.lines: list[str] = []
         self.met: Counter[str] = Counter()
-        # How likely it is that an operand is replaced.
+        # The probability that an operand is replaced.
         self.spoils = self.dice.choice((0.0, 0.04, 0.1, 0.1, 0.2, 0.35))
 
     @property

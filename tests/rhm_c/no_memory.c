@@ -7,7 +7,7 @@
 
 enum { ALL = -1 };
 
-/* How many allocations are granted before one is refused; and how many blocks are out. */
+/* The number of allocations that are granted before one is refused; and that of blocks that are out. */
 static long granted = ALL, out, taken;
 
 void *__real_malloc(size_t size);
@@ -63,7 +63,7 @@ static bool takes_none(rhm_handle *handle)
     return done && taken == before;
 }
 
-/* What is wrong with an open that is granted `n` allocations, or NULL; `is_open` says whether they are enough. */
+/* The fault of an open that is granted `n` allocations, or NULL; `is_open` says whether they are enough. */
 static const char *fault(rhm_handle *handle, long n, bool *is_open)
 {
     granted = n;

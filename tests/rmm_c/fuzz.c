@@ -27,7 +27,7 @@ static uint8_t met[COMMANDS * CHECKS];
 
 static const uint64_t BASE = 0x80000000, GRANULE = RMM_GRANULE_SIZE;
 
-/* What the host stored, of each granule that is its own. */
+/* The bytes that the host stored, of each granule that is its own. */
 static uint8_t stored_pages[PAGE_COUNT][RMM_GRANULE_SIZE];
 static rmm_handle handle = RMM_CLOSED;
 /* The machine of random lines, which have platforms of their own. */

@@ -7,7 +7,7 @@
 
 enum { ALL = -1 };
 
-/* How many allocations are granted before one is refused; and how many blocks are out. */
+/* The number of allocations that are granted before one is refused; and that of blocks that are out. */
 static long granted = ALL, out, taken;
 
 void *__real_malloc(size_t size);
@@ -53,7 +53,7 @@ static bool takes_none(rmm_handle *handle)
     return true;
 }
 
-/* What is wrong with an open that is granted `n` allocations, or NULL; `is_open` says whether they are enough. */
+/* The fault of an open that is granted `n` allocations, or NULL; `is_open` says whether they are enough. */
 static const char *fault(rmm_handle *handle, long n, bool *is_open)
 {
     granted = n;
@@ -79,7 +79,7 @@ static uint64_t line(rmm_handle *handle, long n, const char *text, char *answer,
     return count;
 }
 
-/* How many allocations of lines are refused; -1 if an answer comes without them, or a block is not given back. */
+/* The number of allocations of lines that are refused; -1 if an answer comes without them, or a block is not given back. */
 static long lines(rmm_handle *handle)
 {
     char answer[16] = "as before";

@@ -10,7 +10,7 @@ It was written from a description of the standard's 23 commands, and has no code
     realms, tables, recs    the commands
     guest         the steps of a guest and the exits of its REC
     reading, printing       lines of traces
-    bench         a machine that answers lines
+    bench         the model of an RMM: a machine that answers lines
     judge         the comparison of a line's answer with the model's
 
     python3 tests/second_rmm answer < TRACE    each line with its answer

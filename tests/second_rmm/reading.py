@@ -15,7 +15,7 @@ NUMBER = re.compile(r"0|[1-9][0-9]*|0x(?:0|[1-9a-f][0-9a-f]*)")
 PSCI_NAMES = {"PSCI_SUCCESS": PSCI_SUCCESS, "PSCI_DENIED": PSCI_DENIED}
 RIPAS_NAMES = {name: number for number, name in enumerate(RIPAS)}
 PAGES: Mapping[str, Layout] = {"realm_params": REALM_PARAMS, "rec_params": REC_PARAMS, "rec_run": REC_ENTER}
-# How many operands a step has, if it has any.
+# The number of operands of a step, if it has any.
 OPERANDS = {
     "write": (2, 3), "read": (1, 2), "fetch": (1, 1), "host_call": (1, 32), "cpu_on": (3, 3), "affinity_info": (2, 2),
     "sysreg": (2, 2),

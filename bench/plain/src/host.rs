@@ -1,8 +1,8 @@
-//! The host: a monitor, and beside it the books: the history, and of each build what it has open, its pages, its realm
-//! and its RECs. A command is checked, performed and recorded; an undo performs the reverse of the newest open act.
+//! The host: an RMM, and beside it the ledger: the history, and of each build what it has open, its pages, its realm
+//! and its RECs. A command is checked, performed and recorded; an undo performs the reverse of the newest open operation.
 use crate::monitor::{Monitor, NO_REC, Rmi};
 
-/// The auxiliaries of a REC: pages in a step, granules in an act.
+/// The auxiliaries of a REC: pages in a step, granules in an operation.
 #[derive(Clone, Copy, PartialEq)]
 pub struct Auxiliaries {
     numbers: [u16; 16],
@@ -25,7 +25,7 @@ impl Auxiliaries {
     }
 }
 
-/// What one accepted command did.
+/// The operation of one accepted command.
 #[derive(Clone, Copy, PartialEq)]
 pub enum Act {
     Take { order: u8, first: u16 },
@@ -47,7 +47,7 @@ pub enum Act {
 }
 
 impl Act {
-    /// The reverse of an act that has one.
+    /// The reverse of an operation that has one.
     pub fn reverse(self) -> Option<Act> {
         match self {
             Act::Take { order, first } => Some(Act::UnTake { order, first }),
@@ -83,7 +83,7 @@ pub struct Event {
     pub act: Act,
 }
 
-/// What a plan asks of a host.
+/// A step of a plan, as a host is asked for it.
 #[derive(Clone, Copy)]
 pub enum Step {
     Take(u8),
@@ -141,8 +141,8 @@ fn refused(rmi: Rmi) -> Answer {
     Answer::Rmi(rmi)
 }
 
-/// The act that a command asks for, with the granules of its pages. What is picked for it, a VMID or the number of a REC, is
-/// 0 in it.
+/// The operation that a command asks for, with the granules of its pages. The number that is allocated for it, a VMID or
+/// that of a REC, is 0 in it.
 pub fn act_of(pages: &[u16], step: Step) -> Result<Act, Answer> {
     let granule = |page: u16| pages.get(page as usize).copied().ok_or(Answer::No(4, "NotLeased", Some(page)));
     Ok(match step {
@@ -192,7 +192,7 @@ impl Books {
         self.builds[build].recs.iter().find(is_it).map(|rec| rec.1).ok_or(Answer::Rmi(NO_REC))
     }
 
-    // Whether there is room for a forward command; one that has a reverse takes room for that too.
+    // Whether there is capacity for a forward command; one that has a reverse takes capacity for that too.
     fn has_room(&self, build: usize, paired: bool) -> Result<(), Answer> {
         let it = &self.builds[build];
         if paired && it.journal.len() == 512 {
@@ -205,7 +205,7 @@ impl Books {
         Ok(())
     }
 
-    // What is kept beside the history follows an event.
+    // The state beside the history follows an event.
     fn record(&mut self, build: usize, act: Act) {
         self.history.push(Event { build: build as u8, act });
         let it = &mut self.builds[build];
@@ -305,7 +305,7 @@ impl Host {
         })
     }
 
-    // An act on the monitor: the act as it was done.
+    // An operation on the RMM: the operation as it was done.
     fn perform(&mut self, build: usize, act: Act) -> Result<Act, Answer> {
         let monitor = &mut self.monitor;
         let books = &self.books;
@@ -362,7 +362,7 @@ impl Host {
         if it.is_aborting { self.undo(build) } else { Ok(Answer::Ok) }
     }
 
-    /// Applies an event as it stands: nothing is picked.
+    /// Applies an event as it is: nothing is allocated.
     pub fn apply(&mut self, event: Event) -> bool {
         let build = event.build as usize;
         let books = &self.books;
@@ -386,7 +386,7 @@ impl Host {
         true
     }
 
-    // Whether the build leases each granule that an act names.
+    // Whether the build leases each granule that an operation names.
     fn has_granules(&self, build: usize, act: Act) -> bool {
         let has = |granule: u16| self.books.holders[granule as usize] == Some(build as u8);
         match act {

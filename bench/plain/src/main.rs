@@ -100,7 +100,7 @@ fn booted(plan: &Plan) -> Host {
     Host::new(plan.pages, plan.vmids, plan.aux, plan.builds.len(), plan.room)
 }
 
-// A turn of a build: an abort that has begun goes on, one act a turn.
+// A turn of a build: an abort that has begun goes on, one operation a turn.
 fn turn(host: &mut Host, plan: &Plan, next: &mut [usize], build: usize, text: &mut String) {
     if host.is_aborting(build) {
         let answer = host.serve(build, Step::Undo);

@@ -1,4 +1,4 @@
-//! A simulated monitor: pages, free blocks, the state of each granule, and places for realms and RECs by granule.
+//! A simulated RMM: pages, free blocks, the state of each granule, and places for realms and RECs by granule.
 //! Entries of tables are words in the pages of the tables.
 use crate::buddy::Buddy;
 use crate::host::Auxiliaries;
@@ -16,7 +16,7 @@ pub enum State {
     RecAux,
 }
 
-/// What a command is refused with: a status and an index.
+/// The word of a refusal: a status and an index.
 #[derive(Clone, Copy, PartialEq)]
 pub struct Rmi(pub u8, pub u8);
 

@@ -1,4 +1,4 @@
-//! What is printed: the lines of turns, and the map.
+//! The printed text: the lines of turns, and the map.
 use crate::host::{Answer, Host, Step};
 use crate::monitor::State;
 use std::fmt::Write;

@@ -45,7 +45,7 @@ fn work(seat: &mut Seat, steps: &[Step]) -> Report {
     report
 }
 
-// What a build has open, and its pages, after some of its events.
+// The open operations of a build, and its pages, after some of its events.
 #[derive(Default)]
 struct Standing {
     opened: Vec<Act>,
@@ -66,8 +66,8 @@ impl Standing {
         }
     }
 
-    // Whether an accepted line is told of that act: the command's, with the granules of its pages, or the reverse of the
-    // newest open act.
+    // Whether an accepted line reports that operation: the command's, with the granules of its pages, or the reverse of the
+    // newest open one.
     fn fits(&self, step: Step, answer: Answer, act: Act) -> bool {
         match step {
             Step::Undo | Step::Abort => self.is_undone(answer, act),
@@ -95,7 +95,7 @@ impl Standing {
     }
 }
 
-// Whether that is the answer to an act other than a take.
+// Whether that is the answer to an operation other than a take.
 fn is_told_of(answer: Answer, act: Act) -> bool {
     match act {
         Act::Realm { vmid, .. } => matches!(answer, Answer::Told(told) if told == vmid.into()),
@@ -104,7 +104,7 @@ fn is_told_of(answer: Answer, act: Act) -> bool {
     }
 }
 
-// Whether the accepted lines of a report tell the events of its build, one by one.
+// Whether the accepted lines of a report have the events of its build, one by one.
 fn is_told(host: &Host, build: usize, report: &Report) -> bool {
     let mut standing = Standing::default();
     let mut events = host.books.history.iter().filter(|event| event.build as usize == build);

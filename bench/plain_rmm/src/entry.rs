@@ -116,7 +116,7 @@ impl Entry {
         }
     }
 
-    /// How much the word of a child rises from one to the next: only mappings have addresses that do.
+    /// The step from the word of one child to that of the next: only mappings have addresses that rise.
     pub fn stride(self, level: u8) -> u64 {
         if self.is_mapping() { entry_size(level) } else { 0 }
     }

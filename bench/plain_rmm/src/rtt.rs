@@ -195,7 +195,7 @@ impl Granules {
 
     // ---- RIPAS
 
-    /// How many entries of a table, from the one of an address on, can be changed below a top.
+    /// The number of entries of a table, from the one of an address on, that can be changed below a top.
     fn change_count(&self, changeable: Changeable, found: Walk, base: u64, top: u64) -> Checked<usize> {
         let refusal = error_rtt(found.level);
         check(is_aligned(base, found.level), refusal)?;
