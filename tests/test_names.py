@@ -1,12 +1,13 @@
-"""The name of a public definition or type is used for one thing. In the files of crates/*/specs each name means
+"""The name of a public definition, type or function is used for one thing. In the files of crates/*/specs each name means
 one definition, type or theorem that others may cite. Names of fields and of constructors are read with their type, and are not
-meant. In the files of crates/*/src each name means one public type of the repository, with no exception.
+meant. In the files of crates/*/src each name means one public type of the repository, with no exception, and one function that a
+library exports in its lib.rt.
 
 The RMM by registers has a model of its own, with the names that the standard gives, as that of the profile has: the crates of its
 group in crates.txt are compared among themselves.
 
-A name that is used twice on purpose has a line in tests/names.txt: the name, the crates that define it, and the reason. A line
-there fails if its name is no longer used in just these crates, or if it gives no reason.
+A name that is used twice on purpose has a line in tests/names.txt: the name, the crates that define it, and the reason. That of
+a function ends with `()`. A line there fails if its name is no longer used in just these crates, or if it gives no reason.
 
 Each name that is used twice without such a line, and each line that is not right, is shown.
 """
@@ -21,6 +22,8 @@ from programs import TOP
 ALLOWED = TOP / "tests/names.txt"
 DEFINITION = re.compile(r"^(?:abbrev |unfoldable |opaque )*pub (?:record |data )?(?!mod |record |data )([^\s:({.]+)", re.M)
 TYPE = re.compile(r"^\s*pub (?:unsafe )?(?:struct|enum|trait|union|type) (\w+)", re.M)
+FUNCTION = re.compile(r"^pub (?:const |unsafe )*fn (\w+)", re.M)
+EXPORT = re.compile(r"^pub use [^;]+;", re.M)
 
 
 def group(title):
@@ -49,11 +52,22 @@ def types():
     return found
 
 
-def allowed():
-    """Of each name in tests/names.txt, the crates and the reason."""
+def functions():
+    """Of each name, with `()`, the libraries that define a function of that name and export it."""
+    found = collections.defaultdict(list)
+    for head in sorted((TOP / "crates").glob("*/src/lib.rt")):
+        exported = set(re.findall(r"\w+", " ".join(EXPORT.findall(head.read_text()))))
+        own = {name for path in head.parent.glob("**/*.rt") for name in FUNCTION.findall(path.read_text())}
+        for name in exported & own:
+            found[f"{name}()"].append(head.parts[-3])
+    return found
+
+
+def allowed(is_function):
+    """Of each name in tests/names.txt, of a function or of a definition, the crates and the reason."""
     lines = [it for it in ALLOWED.read_text().splitlines() if it and not it.startswith("#")]
     cells = [[cell.strip() for cell in line.split(":", 2)] for line in lines]
-    return {name: (crates.split(), reason) for name, crates, reason in cells}
+    return {name: (crates.split(), reason) for name, crates, reason in cells if name.endswith("()") == is_function}
 
 
 def findings(crates, allowed):
@@ -72,8 +86,8 @@ def findings(crates, allowed):
         yield f"tests/names.txt has {name}, which is not defined"
 
 
-@pytest.mark.parametrize("kind", ["profile", "registers", "types"])
+@pytest.mark.parametrize("kind", ["profile", "registers", "types", "functions"])
 def test_each_name_has_one_meaning(check, kind):
     by_registers, others = definitions()
-    names = {"profile": others, "registers": by_registers, "types": types()}[kind]
-    check.findings(findings(names, allowed() if kind == "profile" else {}))
+    names = {"profile": others, "registers": by_registers, "types": types(), "functions": functions()}[kind]
+    check.findings(findings(names, allowed(kind == "functions") if kind in ("profile", "functions") else {}))
