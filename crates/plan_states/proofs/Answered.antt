@@ -126,13 +126,13 @@ shows_by plan (Waiting build) end host is =
 shows_by plan (Leased granules) end host is = leb-true granules (sum (pages_of_builds host)) is
 
 -- a schedule whose last turn answers the question
-pub answered_by : (plan : Plan) (question : TurnQuestion) (order front : List ℕ) (last : ℕ) (at to : Position) (it : TurnTaken)
-    → order ≡ front ++ last ∷ [] → IsReached plan front at → IsTurnTaken plan at last it to
-    → is_answer (length plan.builds) question (end_taken last it) (pages_of_builds to.host) ≡ true → EndsWithAnswer plan question order
-answered_by plan question order front last at to it is_order reached is answers = record {
+pub answered_by : (plan : Plan) (question : TurnQuestion) (schedule front : List ℕ) (last : ℕ) (at to : Position) (it : TurnTaken)
+    → schedule ≡ front ++ last ∷ [] → IsReached plan front at → IsTurnTaken plan at last it to
+    → is_answer (length plan.builds) question (end_taken last it) (pages_of_builds to.host) ≡ true → EndsWithAnswer plan question schedule
+answered_by plan question schedule front last at to it is_schedule reached is answers = record {
   before = front;
   last = last;
-  is_order = is_order;
+  is_schedule = is_schedule;
   at = at;
   reached = reached;
   taken = record { turn = record { build = last; told = is.told }; before = it.before; after = it.after };

@@ -77,12 +77,12 @@ turn_own gives_up (Some step) from turn to (answer, after, told, is_step, places
       | inr other ↦ subst (λ (p : PlanCursor). IsOwn build p.mark) (sym (get_or-set_other from.places b build (moved_on gives_up answer after) first_place other)) (own build)
     ])
 
-turns_own : (plan : Plan) (order : List ℕ) (from : Position) (turns : List Turn) (to : Position) → AreTurns plan order from turns to → OwnMarks from.places → OwnMarks to.places
+turns_own : (plan : Plan) (schedule : List ℕ) (from : Position) (turns : List Turn) (to : Position) → AreTurns plan schedule from turns to → OwnMarks from.places → OwnMarks to.places
 turns_own plan [] from [] to is own = subst (λ (p : Position). OwnMarks p.places) (sym is) own
 turns_own plan [] from (turn ∷ turns) to is own = absurd is
-turns_own plan (build ∷ order) from [] to is own = absurd is
-turns_own plan (build ∷ order) from (turn ∷ turns) to (of_build, between, is_turn, more) own =
-    turns_own plan order between turns to more
+turns_own plan (build ∷ schedule) from [] to is own = absurd is
+turns_own plan (build ∷ schedule) from (turn ∷ turns) to (of_build, between, is_turn, more) own =
+    turns_own plan schedule between turns to more
     (turn_own plan.gives_up (step_after plan turn.build (place_of from.places turn.build).done) from turn between is_turn own)
 
 at_start : (build n k : ℕ) → IsOwn build (get_or (replicate n first_place) k first_place).mark
@@ -90,5 +90,5 @@ at_start build zero k = tt
 at_start build (suc n) zero = tt
 at_start build (suc n) (suc k) = at_start build n k
 
-pub own_reached : (plan : Plan) (order : List ℕ) (at : Position) → IsReached plan order at → OwnMarks at.places
-own_reached plan order at reached = turns_own plan order (start (opening_host plan)) reached.turns at reached.are_turns (λ build. at_start build 8 build)
+pub own_reached : (plan : Plan) (schedule : List ℕ) (at : Position) → IsReached plan schedule at → OwnMarks at.places
+own_reached plan schedule at reached = turns_own plan schedule (start (opening_host plan)) reached.turns at reached.are_turns (λ build. at_start build 8 build)

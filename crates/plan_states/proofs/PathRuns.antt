@@ -38,7 +38,7 @@ use Rattle.plan_states.proofs.Paths.{of_by_edges}
 
 pub shown_alike : (plan : Plan) (it : Snapshot) (one other : Position) → IsSnapshotOfRun plan it one → IsSnapshotOfRun plan it other → AreOneState one other
 shown_alike plan it one other here there =
-    one_state plan here.order there.order one other here.reached there.reached here.of_host there.of_host
+    one_state plan here.schedule there.schedule one other here.reached there.reached here.of_host there.of_host
     (λ build less. same_Some (seen_at one build) (seen_at other build) (sym (here.builds build less) ∙ there.builds build less))
 
 shown_by_alike : (plan : Plan) (snapshots : List Snapshot) (number : ℕ) (one other : Position)

@@ -13,10 +13,10 @@ use Rattle.plan_states.proofs.Members.{IsIn, in_map, of_map, in_flat_map, of_fla
 
 -- ---- the order of schedules
 
-pub before-self : (order : List ℕ) → is_before order order ≡ false
+pub before-self : (schedule : List ℕ) → is_before schedule schedule ≡ false
 before-self [] = refl
-before-self (build ∷ order) =
-    cond-true (build == build) (is_before order order) (nat_lt build build) (eq-eqb build build refl) ∙ before-self order
+before-self (build ∷ schedule) =
+    cond-true (build == build) (is_before schedule schedule) (nat_lt build build) (eq-eqb build build refl) ∙ before-self schedule
 
 -- the schedule of one path comes before that of the other
 abbrev pub Rises : Path Label → Path Label → Type 0
@@ -34,7 +34,7 @@ rises_here edge higher one other less =
     ∙ lt-ltb edge.label.build higher.label.build less
 
 builds_on : (edge : Edge Label) (ps : List (Path Label))
-    → map builds_of_path (map (λ (path : Path Label). edge ∷ path) ps) ≡ map (λ (order : List ℕ). edge.label.build ∷ order) (map builds_of_path ps)
+    → map builds_of_path (map (λ (path : Path Label). edge ∷ path) ps) ≡ map (λ (schedule : List ℕ). edge.label.build ∷ schedule) (map builds_of_path ps)
 builds_on edge [] = refl
 builds_on edge (path ∷ ps) = λ i. (edge.label.build ∷ builds_of_path path) ∷ builds_on edge ps i
 
@@ -91,10 +91,10 @@ module _ (next : ℕ → List (Path Label)) where
     schedules_by_each : (edges : List (Edge Label))
         → ((edge : Edge Label) → IsIn edge edges → map builds_of_path (next edge.to) ≡ after edge.label.build)
         → map builds_of_path (flat_map by_edge edges)
-        ≡ flat_map (λ (build : ℕ). map (λ (order : List ℕ). build ∷ order) (after build)) (map (λ (edge : Edge Label). edge.label.build) edges)
+        ≡ flat_map (λ (build : ℕ). map (λ (schedule : List ℕ). build ∷ schedule) (after build)) (map (λ (edge : Edge Label). edge.label.build) edges)
     schedules_by_each [] each = refl
     schedules_by_each (edge ∷ edges) each =
-        let first = builds_on edge (next edge.to) ∙ ap (map (λ (order : List ℕ). edge.label.build ∷ order)) (each edge (inl refl)) in
+        let first = builds_on edge (next edge.to) ∙ ap (map (λ (schedule : List ℕ). edge.label.build ∷ schedule)) (each edge (inl refl)) in
         let rest = schedules_by_each edges (λ other is. each other (inr is)) in
         map-append builds_of_path (by_edge edge) (flat_map by_edge edges) ∙ (λ i. first i ++ rest i)
 

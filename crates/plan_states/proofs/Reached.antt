@@ -25,33 +25,33 @@ use Rattle.plan_states.specs.declared.step_end.EndOfStep.{EndOfStep}
 -- ---- one more turn
 
 pub reached_more :
-    (plan : Plan) (order : List ℕ) (i : ℕ) (at to : Position) (told : Option (PlanStep × TurnAnswer))
-    → i < length order → IsReached plan (take i order) at
-    → IsTurn plan at (record { build = get_or order i 0; told = told }) to → IsReached plan (take (i + 1) order) to
-reached_more plan order i at to told inside reached is_turn =
-    let turn : Turn = record { build = get_or order i 0; told = told } in
+    (plan : Plan) (schedule : List ℕ) (i : ℕ) (at to : Position) (told : Option (PlanStep × TurnAnswer))
+    → i < length schedule → IsReached plan (take i schedule) at
+    → IsTurn plan at (record { build = get_or schedule i 0; told = told }) to → IsReached plan (take (i + 1) schedule) to
+reached_more plan schedule i at to told inside reached is_turn =
+    let turn : Turn = record { build = get_or schedule i 0; told = told } in
     record {
       turns = reached.turns ++ turn ∷ [];
-      are_turns = subst (λ o. AreTurns plan o (start (opening_host plan)) (reached.turns ++ turn ∷ []) to) (sym (take_more order i 0 inside))
-          (AreTurns-more plan (take i order) (start (opening_host plan)) reached.turns at (get_or order i 0) turn to reached.are_turns refl is_turn);
+      are_turns = subst (λ o. AreTurns plan o (start (opening_host plan)) (reached.turns ++ turn ∷ []) to) (sym (take_more schedule i 0 inside))
+          (AreTurns-more plan (take i schedule) (start (opening_host plan)) reached.turns at (get_or schedule i 0) turn to reached.are_turns refl is_turn);
     }
 
 -- ---- the settings
 
 -- a plan's turns do not depend on its schedule
-with_order : (plan : Plan) (all order : List ℕ) (from : Position) (turns : List Turn) (to : Position)
-    → AreTurns plan order from turns to → AreTurns (record plan { order = all }) order from turns to
+with_order : (plan : Plan) (all schedule : List ℕ) (from : Position) (turns : List Turn) (to : Position)
+    → AreTurns plan schedule from turns to → AreTurns (record plan { order = all }) schedule from turns to
 with_order plan all [] from [] to are = are
 with_order plan all [] from (turn ∷ turns) to are = elim are [ ]
-with_order plan all (build ∷ order) from [] to are = elim are [ ]
-with_order plan all (build ∷ order) from (turn ∷ turns) to are = (are.0, are.1, are.2, with_order plan all order are.1 turns to are.3)
+with_order plan all (build ∷ schedule) from [] to are = elim are [ ]
+with_order plan all (build ∷ schedule) from (turn ∷ turns) to are = (are.0, are.1, are.2, with_order plan all schedule are.1 turns to are.3)
 
-pub opens_reached : (plan : Plan) (order : List ℕ) (at : Position) → IsReached plan order at → opening_host plan ≡ fresh_like at.host
-opens_reached plan order at reached =
-    fresh_like-run (record plan { order = order }) (opening_host plan) at.host [] (flat_map turn_text reached.turns) (record {
+pub opens_reached : (plan : Plan) (schedule : List ℕ) (at : Position) → IsReached plan schedule at → opening_host plan ≡ fresh_like at.host
+opens_reached plan schedule at reached =
+    fresh_like-run (record plan { order = schedule }) (opening_host plan) at.host [] (flat_map turn_text reached.turns) (record {
       turns = reached.turns;
       end = at;
-      is_run = with_order plan order order (start (opening_host plan)) reached.turns at reached.are_turns;
+      is_run = with_order plan schedule schedule (start (opening_host plan)) reached.turns at reached.are_turns;
       host = refl;
       appended = refl;
     })
@@ -77,13 +77,13 @@ end_is false build step one other free same = ap (λ (r : Option Refusal). Some 
 
 -- the ends after a turn in a run
 pub ends_more :
-    (plan : Plan) (order : List ℕ) (at to : Position) (build : ℕ) (it : TurnTaken) (old new : List EndOfStep)
-    → IsReached plan order at → IsTurnTaken plan at build it to → AreWith old (end_taken build it) new
+    (plan : Plan) (schedule : List ℕ) (at to : Position) (build : ℕ) (it : TurnTaken) (old new : List EndOfStep)
+    → IsReached plan schedule at → IsTurnTaken plan at build it to → AreWith old (end_taken build it) new
     → All (IsEndOfRun plan) old → All (IsEndOfRun plan) new
-ends_more plan order at to build it old new reached is are all =
+ends_more plan schedule at to build it old new reached is are all =
     let end : EndOfStep = record { build = build; step = it.before; refusal = it.refusal } in
     end_by plan (it.before == it.after) end old new are (λ free. record {
-      order = order;
+      schedule = schedule;
       at = at;
       reached = reached;
       taken = record { turn = record { build = build; told = is.told }; before = it.before; after = it.after };

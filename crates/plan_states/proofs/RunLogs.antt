@@ -42,7 +42,7 @@ pub numbered : (plan : Plan) (snapshots : List Snapshot) (number : ℕ) (snapsho
 numbered plan snapshots number snapshot at is shown = record {
   it = is.it;
   is_there = is.is_there;
-  shown = record { order = shown.order; reached = shown.reached; of_host = shown.of_host; builds = λ build less. is.same build less ∙ shown.builds build less };
+  shown = record { schedule = shown.schedule; reached = shown.reached; of_host = shown.of_host; builds = λ build less. is.same build less ∙ shown.builds build less };
 }
 
 module _ (plan : Plan) (old new : List Snapshot) (snapshot : Snapshot) (more : AreWith old (Some snapshot) new) where
@@ -61,11 +61,11 @@ module _ (plan : Plan) (old new : List Snapshot) (snapshot : Snapshot) (more : A
 -- ---- a turn
 
 -- the schedule with one more turn leads on
-pub reached_by : (plan : Plan) (order : List ℕ) (at to : Position) (build : ℕ) (taken : Taken) → IsReached plan order at → IsTurnAt plan at build taken to
-    → IsReached plan (order ++ build ∷ []) to
-reached_by plan order at to build taken reached is = record {
+pub reached_by : (plan : Plan) (schedule : List ℕ) (at to : Position) (build : ℕ) (taken : Taken) → IsReached plan schedule at → IsTurnAt plan at build taken to
+    → IsReached plan (schedule ++ build ∷ []) to
+reached_by plan schedule at to build taken reached is = record {
   turns = reached.turns ++ taken.turn ∷ [];
-  are_turns = AreTurns-more plan order (start (opening_host plan)) reached.turns at build taken.turn to reached.are_turns is.of_build is.is_turn;
+  are_turns = AreTurns-more plan schedule (start (opening_host plan)) reached.turns at build taken.turn to reached.are_turns is.of_build is.is_turn;
 }
 
 module _ (plan : Plan) (ends : List EndOfStep) (held : List (List ℕ)) (maps : List (String Global)) (snapshots more : List Snapshot) (turns : List LoggedTurn) (snapshot : Snapshot)
@@ -76,8 +76,8 @@ module _ (plan : Plan) (ends : List EndOfStep) (held : List (List ℕ)) (maps : 
     (with_it : AreWith snapshots (Some snapshot) more) (is_number : IsSnapshotNumber more to snapshot) where
   pub shown_after : IsShownBy plan more to after
   shown_after = numbered plan more to snapshot after is_number (record {
-    order = before.shown.order ++ label.build ∷ [];
-    reached = reached_by plan before.shown.order at after label.build labelled.taken before.shown.reached labelled.is_taken;
+    schedule = before.shown.schedule ++ label.build ∷ [];
+    reached = reached_by plan before.shown.schedule at after label.build labelled.taken before.shown.reached labelled.is_taken;
     of_host = of_host;
     builds = builds;
   })
@@ -113,7 +113,7 @@ booted_log plan ends held maps log snapshot at reached of_host builds only none 
     it = snapshot;
     is_there = ap (λ l. slice_get l 0) only;
     shown = subst (IsSnapshotOfRun plan snapshot) (no_turn plan at reached.turns reached.are_turns)
-        (record { order = []; reached = reached; of_host = of_host; builds = builds });
+        (record { schedule = []; reached = reached; of_host = of_host; builds = builds });
   };
   turns = subst (All (IsLogged plan ends held maps log.snapshots.items)) (sym none) (All-nil (IsLogged plan ends held maps log.snapshots.items));
 }

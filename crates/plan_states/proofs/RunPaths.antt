@@ -39,14 +39,14 @@ run_of plan graph path run =
     let it = turns_along plan graph.ends.items graph.held.items graph.maps.items None (start (opening_host plan)) path tt run in
     record { at = it.at; reached = record { turns = it.turns; are_turns = it.are_turns }; is_map = it.is_map }
 
-pub run_on_path : (plan : Plan) (graph : Graph) (order : List ℕ) → ArePathsRuns plan graph → Contains (map builds_of_path (paths_of graph)) order
-    → IsRunOnPath plan graph order
-run_on_path plan graph order runs there =
-    let it = of_map builds_of_path order (paths_of graph) (in_contains order (map builds_of_path (paths_of graph)) there) in
+pub run_on_path : (plan : Plan) (graph : Graph) (schedule : List ℕ) → ArePathsRuns plan graph → Contains (map builds_of_path (paths_of graph)) schedule
+    → IsRunOnPath plan graph schedule
+run_on_path plan graph schedule runs there =
+    let it = of_map builds_of_path schedule (paths_of graph) (in_contains schedule (map builds_of_path (paths_of graph)) there) in
     let is_path = contains_in it.one (paths_of graph) it.is_in in
     record {
       path = it.one;
       is_path = is_path;
-      schedule = it.made;
+      is_schedule = it.made;
       is_run = All-contains (IsRunFromBoot plan graph) (paths_of graph) it.one runs is_path;
     }

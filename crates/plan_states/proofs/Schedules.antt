@@ -208,10 +208,10 @@ module _ (plan : Plan) (graph : Graph) (whole : IsWholeGraph plan graph) where
   -- ---- a rule
 
   -- A path with this schedule.
-  record IsFoundIn (ps : List (Path Label)) (order : List ℕ) : Type 0 where
+  record IsFoundIn (ps : List (Path Label)) (schedule : List ℕ) : Type 0 where
     path : Path Label
     is_in : IsIn path ps
-    builds : builds_of_path path ≡ order
+    builds : builds_of_path path ≡ schedule
 
   found_end : (next : ℕ → List (Path Label)) (edges : List (Edge Label)) → ((edge : Edge Label) → IsIn edge edges → ⊥)
       → IsFoundIn (paths_by_edges next edges) []
@@ -234,9 +234,9 @@ module _ (plan : Plan) (graph : Graph) (whole : IsWholeGraph plan graph) where
         ∙ filter_alike (has_step_left plan (done_at depth state)) (left (builds_of_path before)) (range_with_len 0 8) (λ build is.
         sym (rule_here n before depth state sum reached build (of_range 0 8 build is).1))
 
-    found_from : (n : ℕ) (before : Path Label) (depth state : ℕ) (order : List ℕ) → depth + n ≡ length graph.layers.items
-        → IsReachedBy before depth state → IsSchedule left (builds_of_path before) order → IsFoundIn (paths_at depth state) order
-    found_from zero before depth state order sum reached is = absurd (none_past depth state (omega arith) reached.inside)
+    found_from : (n : ℕ) (before : Path Label) (depth state : ℕ) (schedule : List ℕ) → depth + n ≡ length graph.layers.items
+        → IsReachedBy before depth state → IsSchedule left (builds_of_path before) schedule → IsFoundIn (paths_at depth state) schedule
+    found_from zero before depth state schedule sum reached is = absurd (none_past depth state (omega arith) reached.inside)
     found_from (suc n) before depth state [] sum reached is =
         let early : depth < length graph.layers.items = omega arith in
         subst (λ (ps : List (Path Label)). IsFoundIn ps []) (sym (paths_are depth state early reached.inside))
@@ -244,11 +244,11 @@ module _ (plan : Plan) (graph : Graph) (whole : IsWholeGraph plan graph) where
         let it = build_left depth state early reached.inside edge there in
         both_ways (has_step_left plan (done_at depth state) edge.label.build)
         (sym (rule_here (suc n) before depth state sum reached edge.label.build it.0) ∙ is edge.label.build it.0) it.1))
-    found_from (suc n) before depth state (build ∷ order) sum reached is =
+    found_from (suc n) before depth state (build ∷ schedule) sum reached is =
         let early : depth < length graph.layers.items = omega arith in
         let way = edge_of depth state early reached.inside build is.0 (sym (rule_here (suc n) before depth state sum reached build is.0) ∙ is.1) in
-        let later = found_from n (before ++ way.one ∷ []) (depth + 1) way.one.to order (omega arith) (reached_next before depth state early reached way.one way.is_in)
-        (subst (λ (builds : List ℕ). IsSchedule left builds order)
+        let later = found_from n (before ++ way.one ∷ []) (depth + 1) way.one.to schedule (omega arith) (reached_next before depth state early reached way.one way.is_in)
+        (subst (λ (builds : List ℕ). IsSchedule left builds schedule)
         (sym (builds_more before way.one ∙ ap (λ (b : ℕ). builds_of_path before ++ b ∷ []) way.made)) is.2) in
         record {
           path = way.one ∷ later.path;
@@ -281,10 +281,10 @@ module _ (plan : Plan) (graph : Graph) (whole : IsWholeGraph plan graph) where
               )
         ]
 
-    pub schedule_is_found : (order : List ℕ) → IsSchedule left [] order → Contains (map builds_of_path (paths_of graph)) order
-    schedule_is_found order is =
-        let it = found_from (length graph.layers.items) [] 0 0 order (omega arith) reached_first is in
-        contains_in order (map builds_of_path (paths_of graph))
+    pub schedule_is_found : (schedule : List ℕ) → IsSchedule left [] schedule → Contains (map builds_of_path (paths_of graph)) schedule
+    schedule_is_found schedule is =
+        let it = found_from (length graph.layers.items) [] 0 0 schedule (omega arith) reached_first is in
+        contains_in schedule (map builds_of_path (paths_of graph))
         (subst (λ (builds : List ℕ). IsIn builds (map builds_of_path (paths_of graph))) it.builds (in_map builds_of_path it.path (paths_of graph) it.is_in))
 
     abbrev goes_on_by : ℕ → List ℕ → ℕ → List (List ℕ)
@@ -311,15 +311,15 @@ module _ (plan : Plan) (graph : Graph) (whole : IsWholeGraph plan graph) where
     list_of_schedules most within = list_from (length graph.layers.items) most [] 0 0 (omega arith) within reached_first
 
     pub paths_are_schedules : All (IsSchedule left []) (map builds_of_path (paths_of graph))
-    paths_are_schedules = all_in (IsSchedule left []) (map builds_of_path (paths_of graph)) (λ order is.
-        let it = of_map builds_of_path order (paths_of graph) is in
+    paths_are_schedules = all_in (IsSchedule left []) (map builds_of_path (paths_of graph)) (λ schedule is.
+        let it = of_map builds_of_path schedule (paths_of graph) is in
         subst (IsSchedule left []) it.made (schedule_from (length graph.layers.items) [] 0 0 it.one (omega arith) reached_first it.is_in))
 
   -- ---- the graph's own rule
 
   abbrev goes_on_from : ℕ → List ℕ → Option (Edge Label) → Path Label
-  goes_on_from depth order None = []
-  goes_on_from depth order (Some edge) = edge ∷ turns_from (layers_of graph) (depth + 1) edge.to order
+  goes_on_from depth schedule None = []
+  goes_on_from depth schedule (Some edge) = edge ∷ turns_from (layers_of graph) (depth + 1) edge.to schedule
 
   turns_are : (n depth state : ℕ) (front rest : Path Label) → depth + n ≡ length graph.layers.items → state < length (states_at graph depth)
       → IsIn (front ++ rest) (paths_at depth state) → turns_from (layers_of graph) depth state (builds_of_path front) ≡ front

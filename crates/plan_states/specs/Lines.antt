@@ -25,8 +25,8 @@ words_of_end None = codes "ok"
 words_of_end (Some refusal) = codes "no " ++ refusal_text refusal
 
 -- the number of schedules
-abbrev pub orders_line : ℕ → List ℕ
-orders_line schedule_count = codes "orders " ++ (numeral schedule_count ++ 10 ∷ [])
+abbrev pub schedules_line : ℕ → List ℕ
+schedules_line schedule_count = codes "schedules " ++ (numeral schedule_count ++ 10 ∷ [])
 
 -- the schedules with an outcome: ` in all`, or their number and the first of them
 abbrev pub share_text : ℕ → ℕ → List ℕ → List ℕ
@@ -108,5 +108,5 @@ step_outcomes_text plan outcomes =
 -- the outcomes of all schedules
 abbrev pub outcomes_text : Plan → List (String Global) → Outcomes → List ℕ
 outcomes_text plan maps outcomes =
-    orders_line outcomes.steps.schedule_count
+    schedules_line outcomes.steps.schedule_count
     ++ (step_outcomes_text plan outcomes.steps ++ flat_map (map_shown_by outcomes.steps.schedule_count maps) outcomes.maps.items)

@@ -5,9 +5,9 @@ use Rattle.std.specs.Fmt.{decimal}
 
 -- each build after a comma and a space
 abbrev pub turns_after : List ℕ → List ℕ
-turns_after order = flat_map (λ build. codes ", " ++ decimal build) order
+turns_after schedule = flat_map (λ build. codes ", " ++ decimal build) schedule
 
 -- the line of a plan that gives it this schedule
 abbrev pub schedule_text : List ℕ → List ℕ
 schedule_text [] = codes "order = []"
-schedule_text (build ∷ order) = codes "order = [" ++ (decimal build ++ (turns_after order ++ codes "]"))
+schedule_text (build ∷ schedule) = codes "order = [" ++ (decimal build ++ (turns_after schedule ++ codes "]"))

@@ -8,9 +8,9 @@ use Rattle.plan_states.specs.Turned.{Taken, end_of}
 use Rattle.plan_states.specs.declared.step_end.EndOfStep.{EndOfStep}
 
 -- turns of these builds lead from boot to a position
-pub record IsReached (plan : Plan) (order : List ℕ) (at : Position) : Type 0 where
+pub record IsReached (plan : Plan) (schedule : List ℕ) (at : Position) : Type 0 where
   pub turns : List Turn
-  pub are_turns : AreTurns plan order (start (opening_host plan)) turns at
+  pub are_turns : AreTurns plan schedule (start (opening_host plan)) turns at
 
 -- `taken` is a turn of the build between the positions, with the build's progress before and after it
 pub record IsTurnAt (plan : Plan) (at : Position) (build : ℕ) (taken : Taken) (to : Position) : Type 0 where
@@ -21,9 +21,9 @@ pub record IsTurnAt (plan : Plan) (at : Position) (build : ℕ) (taken : Taken) 
 
 -- in a run of the plan, a turn uses up a step with this end
 pub record IsEndOfRun (plan : Plan) (end : EndOfStep) : Type 0 where
-  pub order : List ℕ
+  pub schedule : List ℕ
   pub at : Position
-  pub reached : IsReached plan order at
+  pub reached : IsReached plan schedule at
   pub taken : Taken
   pub to : Position
   pub is_taken : IsTurnAt plan at end.build taken to
@@ -38,8 +38,8 @@ AreOver plan places = (build : ℕ) → build < 8 → is_left plan places build 
 
 -- a run of the plan, after which no build has a step left, ends with this map
 pub record IsMapOfRun (plan : Plan) (map : List ℕ) : Type 0 where
-  pub order : List ℕ
+  pub schedule : List ℕ
   pub at : Position
-  pub reached : IsReached plan order at
+  pub reached : IsReached plan schedule at
   pub over : AreOver plan at.places
   pub is_map : map ≡ map_text at.host

@@ -24,8 +24,8 @@ position_of running = record { host = running.host; places = running.places }
 
 -- a run of the plan leads from boot to a position of which this is a snapshot
 pub record IsSnapshotOfRun (plan : Plan) (it : Snapshot) (at : Position) : Type 0 where
-  pub order : List ℕ
-  pub reached : IsReached plan order at
+  pub schedule : List ℕ
+  pub reached : IsReached plan schedule at
   pub of_host : IsOfHost at
   pub builds : AreBuildsAt at 8 it.builds.items
 

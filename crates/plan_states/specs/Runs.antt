@@ -51,10 +51,10 @@ ArePathsRuns plan graph = All (IsRunFromBoot plan graph) (paths_of graph)
 -- ---- schedules
 
 -- a path has this schedule, and the plan is run along it
-pub record IsRunOnPath (plan : Plan) (graph : Graph) (order : List ℕ) : Type 0 where
+pub record IsRunOnPath (plan : Plan) (graph : Graph) (schedule : List ℕ) : Type 0 where
   pub path : Path Label
   pub is_path : Contains (paths_of graph) path
-  pub schedule : builds_of_path path ≡ order
+  pub is_schedule : builds_of_path path ≡ schedule
   pub is_run : IsRunFromBoot plan graph path
 
 -- the map that the last turn of a path names, or `before` if the path is empty

@@ -15,12 +15,12 @@ use Rattle.plan_states.specs.declared.step_end.EndOfStep.{EndOfStep}
 -- step left, and no build has one in the end.
 abbrev pub IsSchedule : (List ℕ → ℕ → Bool) → List ℕ → List ℕ → Type 0
 IsSchedule left before [] = (build : ℕ) → build < 8 → left before build ≡ false
-IsSchedule left before (build ∷ order) = (build < 8) × (left before build ≡ true) × IsSchedule left (before ++ build ∷ []) order
+IsSchedule left before (build ∷ schedule) = (build < 8) × (left before build ≡ true) × IsSchedule left (before ++ build ∷ []) schedule
 
 -- schedules that begin with each of the builds and go on by `next`; without builds, the empty one
 abbrev pub by_builds : (ℕ → List (List ℕ)) → List ℕ → List (List ℕ)
 by_builds next [] = [] ∷ []
-by_builds next (build ∷ builds) = flat_map (λ b. map (λ order. b ∷ order) (next b)) (build ∷ builds)
+by_builds next (build ∷ builds) = flat_map (λ b. map (λ schedule. b ∷ schedule) (next b)) (build ∷ builds)
 
 -- all schedules under a rule after given turns, with at most `most` further turns; the lowest comes first
 abbrev pub schedules_after : (List ℕ → ℕ → Bool) → ℕ → List ℕ → List (List ℕ)
@@ -48,9 +48,9 @@ IsRuleOf plan graph left =
 -- the path from a state by turns of these builds, up to the first without an edge
 abbrev pub turns_from : List (Layer Label) → ℕ → ℕ → List ℕ → Path Label
 turns_from layers depth state [] = []
-turns_from layers depth state (build ∷ order) =
+turns_from layers depth state (build ∷ schedule) =
     elim (find (λ edge. edge.label.build == build) (slice_index_or (slice_index_or layers depth []) state [])) [
-      | Some edge ↦ edge ∷ turns_from layers (depth + 1) edge.to order
+      | Some edge ↦ edge ∷ turns_from layers (depth + 1) edge.to schedule
       | None ↦ []
     ]
 

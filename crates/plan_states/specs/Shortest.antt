@@ -46,10 +46,10 @@ Shows plan (Waiting build) end host = IsWait plan build end host
 Shows plan (Leased granules) end host = granules ≤ sum (pages_of_builds host)
 
 -- The last turn of the schedule answers the question.
-pub record EndsWithAnswer (plan : Plan) (question : TurnQuestion) (order : List ℕ) : Type 0 where
+pub record EndsWithAnswer (plan : Plan) (question : TurnQuestion) (schedule : List ℕ) : Type 0 where
   pub before : List ℕ
   pub last : ℕ
-  pub is_order : order ≡ before ++ last ∷ []
+  pub is_schedule : schedule ≡ before ++ last ∷ []
   pub at : Position
   pub reached : IsReached plan before at
   pub taken : Taken
@@ -97,11 +97,11 @@ shortest_tally graph builds question =
 -- ---- the witness
 
 -- the schedule answers the question, and is the first of the graph's shortest schedules that do
-pub record IsShortest (plan : Plan) (most : ℕ) (question : TurnQuestion) (order : List ℕ) : Type 0 where
-  pub answers : EndsWithAnswer plan question order
+pub record IsShortest (plan : Plan) (most : ℕ) (question : TurnQuestion) (schedule : List ℕ) : Type 0 where
+  pub answers : EndsWithAnswer plan question schedule
   pub graph : Graph
   pub within : IsGraphWithin plan most graph
-  pub is_first : option_map (λ (tally : PathCount TurnQuestion). tally.first) (shortest_tally graph (length plan.builds) question) ≡ Some order
+  pub is_first : option_map (λ (tally : PathCount TurnQuestion). tally.first) (shortest_tally graph (length plan.builds) question) ≡ Some schedule
 
 -- no turn of the graph answers the question
 pub record IsNever (plan : Plan) (most : ℕ) (question : TurnQuestion) : Type 0 where
@@ -110,6 +110,6 @@ pub record IsNever (plan : Plan) (most : ℕ) (question : TurnQuestion) : Type 0
   pub none : is_answered graph (length plan.builds) question ≡ false
 
 abbrev pub IsWitness : Plan → ℕ → TurnQuestion → Witness → Type 0
-IsWitness plan most question (Found order) = IsShortest plan most question order.items
+IsWitness plan most question (Found schedule) = IsShortest plan most question schedule.items
 IsWitness plan most question Never = IsNever plan most question
 IsWitness plan most question TooMany = Unit {0}

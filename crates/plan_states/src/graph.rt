@@ -128,29 +128,29 @@ fn progress_of(alloc: Global, states: &[State]) -> Result<Vec<StepsDone>, AllocE
 }
 
 // The first schedule that leads to a state of the last layer. `Mismatch`: there is no such state.
-fn order_to(alloc: Global, came: &[Vec<FirstArrival>], place: usize) -> Result<Vec<usize>, Fault>
+fn schedule_to(alloc: Global, came: &[Vec<FirstArrival>], place: usize) -> Result<Vec<usize>, Fault>
     ensures { IfErr result HasNoGraph }
 {
-    let mut order = Vec::new(alloc);
+    let mut schedule = Vec::new(alloc);
     let mut at = place;
     for done in 1..came.len() {
         let Some(way) = came[came.len() - done].get(at) else {
             return Err(Fault::Mismatch);
         };
-        push(&mut order, way.build)?;
+        push(&mut schedule, way.build)?;
         at = way.from;
     }
-    order.reverse();
-    Ok(order)
+    schedule.reverse();
+    Ok(schedule)
 }
 
 // The final map of a schedule after which no build has a step left. `Mismatch`: some turn is of a build without a step
 // left, or a build has a step left after the last turn.
-fn map_after(alloc: Global, plan: &Plan, order: &[usize]) -> Result<String, Fault>
+fn map_after(alloc: Global, plan: &Plan, schedule: &[usize]) -> Result<String, Fault>
     ensures ok { IfOk result (λ map. IsMapOfRun (plan_view plan.now) (string_bytes map)) }
     ensures err { IfErr result HasNoGraph }
 {
-    let running = run_to(alloc, plan, order)?;
+    let running = run_to(alloc, plan, schedule)?;
     let Running { host, places } = running;
     if has_more(plan, &places) {
         return Err(Fault::Mismatch);
@@ -179,12 +179,12 @@ fn number_of_map(maps: &mut Vec<String>, map: String) -> Result<usize, AllocErro
 
 impl Explorer {
     // Runs a schedule after which no build has a step left, and returns the index of its final map.
-    fn map_of(&mut self, alloc: Global, plan: &Plan, order: &[usize]) -> Result<usize, Fault>
+    fn map_of(&mut self, alloc: Global, plan: &Plan, schedule: &[usize]) -> Result<usize, Fault>
         requires { AreOfRuns (plan_view plan.now) self.old.turns.ends.items self.old.maps.items }
         ensures ok { OnOk result (AreOfRuns (plan_view plan.now) self.new.turns.ends.items self.new.maps.items) }
         ensures err { IfErr result HasNoGraph }
     {
-        let map = map_after(alloc, plan, order)?;
+        let map = map_after(alloc, plan, schedule)?;
         Ok(number_of_map(&mut self.maps, map)?)
     }
 
@@ -204,8 +204,8 @@ impl Explorer {
         if let Some(after) = self.turns.known(&before) {
             return Ok(after);
         }
-        let order = order_to(alloc, &self.came, place)?;
-        self.turns.run(alloc, plan, before, &order, build)
+        let schedule = schedule_to(alloc, &self.came, place)?;
+        self.turns.run(alloc, plan, before, &schedule, build)
     }
 
     // Finds or adds a state of the next layer, and returns the state's target.
@@ -228,9 +228,9 @@ impl Explorer {
         if state.has_more(plan) {
             return Ok(next.add(state, came, held, None)?);
         }
-        let mut order = order_to(alloc, &self.came, came.from)?;
-        push(&mut order, came.build)?;
-        let map = self.map_of(alloc, plan, &order)?;
+        let mut schedule = schedule_to(alloc, &self.came, came.from)?;
+        push(&mut schedule, came.build)?;
+        let map = self.map_of(alloc, plan, &schedule)?;
         Ok(next.add(state, came, held, Some(map))?)
     }
 

@@ -16,7 +16,7 @@ ghost use Rattle.plan_states.specs.declared.graph.Graph.{Graph};
 /// whole and the rule agrees with its paths. A rule says which of eight builds have a step left after which turns.
 pub fn every_schedule_is_a_path()
     ensures found { (plan : Plan) (graph : Graph) (left : List ℕ → ℕ → Bool) → IsWholeGraph plan graph → IsRuleOf plan graph left
-        → (order : List ℕ) → IsSchedule left [] order → Contains (map builds_of_path (paths_of graph)) order }
+        → (schedule : List ℕ) → IsSchedule left [] schedule → Contains (map builds_of_path (paths_of graph)) schedule }
     ensures no_others { (plan : Plan) (graph : Graph) (left : List ℕ → ℕ → Bool) → IsWholeGraph plan graph → IsRuleOf plan graph left
         → All (IsSchedule left []) (map builds_of_path (paths_of graph)) }
 {}
@@ -35,7 +35,7 @@ pub fn paths_are_all_schedules()
 pub fn path_schedules_rise()
     ensures rise { (plan : Plan) (graph : Graph) → IsWholeGraph plan graph
         → AllPairs (λ (one other : List ℕ). is_before one other ≡ true) (map builds_of_path (paths_of graph)) }
-    ensures never_twice { (order : List ℕ) → is_before order order ≡ false }
+    ensures never_twice { (schedule : List ℕ) → is_before schedule schedule ≡ false }
 {}
 
 /// Proves that each state graph without missing turns has a matching scheduling rule. The rule agrees with the graph's
@@ -80,7 +80,7 @@ pub fn paths_end_steps_in_sequence()
 /// final map is the path's own.
 pub fn every_schedule_is_run()
     ensures { (plan : Plan) (graph : Graph) (left : List ℕ → ℕ → Bool) → IsWholeGraph plan graph → ArePathsRuns plan graph → IsRuleOf plan graph left
-        → (order : List ℕ) → IsSchedule left [] order → IsRunOnPath plan graph order }
+        → (schedule : List ℕ) → IsSchedule left [] schedule → IsRunOnPath plan graph schedule }
 {}
 
 /// Proves that each run along a state graph's path is a run of the plan. Both runs are from boot and have the path's

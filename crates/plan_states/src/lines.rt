@@ -2,7 +2,7 @@
 ghost use Rattle.std.specs.Prelude.{◌≡◌, ◌++◌, OnOk, string_bytes};
 ghost use Rattle.std.specs.List.{flat_map};
 ghost use Rattle.realm_plan.specs.PlanView.{plan_view};
-ghost use Rattle.plan_states.specs.Lines.{share_text, orders_line, refusal_words, refusals_line, end_shown, ends_of_giving_up, ends_of_step, give_up_shown, never_refused_line, never_refused_lines, map_shown};
+ghost use Rattle.plan_states.specs.Lines.{share_text, schedules_line, refusal_words, refusals_line, end_shown, ends_of_giving_up, ends_of_step, give_up_shown, never_refused_line, never_refused_lines, map_shown};
 
 use crate::schedule_text::ScheduleText;
 use crate::step_end::EndOfStep;
@@ -34,9 +34,9 @@ impl fmt::Display for EndWords {
 
 /// Appends the line with the number of schedules.
 pub(crate) fn push_count(text: &mut String, schedule_count: &Count) -> Result<(), AllocError>
-    ensures { OnOk result (string_bytes text.new ≡ string_bytes text.old ++ orders_line schedule_count.now) }
+    ensures { OnOk result (string_bytes text.new ≡ string_bytes text.old ++ schedules_line schedule_count.now) }
 {
-    text.push_str("orders ")?;
+    text.push_str("schedules ")?;
     schedule_count.push_to(text)?;
     text.push_str("\n")
 }

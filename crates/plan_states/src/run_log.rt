@@ -183,13 +183,13 @@ impl RunLog {
         &self,
         alloc: Global,
         plan: &Plan,
-        order: &[usize],
+        schedule: &[usize],
         at: usize,
     ) -> Result<Running, Fault>
         ensures ok { IfOk result (λ running. IsShownBy (plan_view plan.now) self.now.snapshots.items at (position_of running)) }
         ensures err { IfErr result HasNoGraph }
     {
-        let running = run_to(alloc, plan, order)?;
+        let running = run_to(alloc, plan, schedule)?;
         let snapshot = snapshot_of(alloc, &running.host, &running.places)?;
         if !self.has_snapshot(at, &snapshot) {
             return Err(Fault::Mismatch);

@@ -98,16 +98,16 @@ pub(crate) fn pages_of<S: PageStore>(host: &Host<S>, build: usize) -> u16
     host.page_count(BuildId::new(build as u8).unwrap())
 }
 
-/// Runs a plan on a fresh host in the schedule `order`.
+/// Runs a plan on a fresh host in a given schedule.
 ///
 /// Errors. `Memory`: allocation failed. `Mismatch`: some turn is of a build that has no step left then.
-pub(crate) fn run_to(alloc: Global, plan: &Plan, order: &[usize]) -> Result<Running, Fault>
-    ensures ok { IfOk result (λ run. IsReached (plan_view plan.now) order.now (record { host = run.host; places = run.places })) }
+pub(crate) fn run_to(alloc: Global, plan: &Plan, schedule: &[usize]) -> Result<Running, Fault>
+    ensures ok { IfOk result (λ run. IsReached (plan_view plan.now) schedule.now (record { host = run.host; places = run.places })) }
     ensures err { IfErr result HasNoGraph }
 {
     let mut host = boot::<BuddyArena>(alloc, plan)?;
     let mut places = [PlanCursor::first(); 8];
-    for build in order {
+    for build in schedule {
         if *build >= plan.builds.len() {
             return Err(Fault::Mismatch);
         }

@@ -165,22 +165,22 @@ impl Walk {
     }
 
     // The first schedule that has led to a state.
-    fn order_to(
+    fn schedule_to(
         &self,
         alloc: Global,
         depth: usize,
         state: usize,
     ) -> Result<Vec<usize>, AllocError> {
-        let mut order = Vec::new(alloc);
+        let mut schedule = Vec::new(alloc);
         let mut at = state;
         for turn in 0..depth {
             if let Some(visit) = self.visits_at(depth - turn).get(at) {
-                push(&mut order, visit.build)?;
+                push(&mut schedule, visit.build)?;
                 at = visit.from;
             }
         }
-        order.reverse();
-        Ok(order)
+        schedule.reverse();
+        Ok(schedule)
     }
 
     // Continues a run from a state along edges that no run has taken.
@@ -234,8 +234,8 @@ impl Walk {
         let Some(at) = self.snapshot_at(depth, state) else {
             return Err(Fault::Mismatch);
         };
-        let order = self.order_to(alloc, depth, state)?;
-        let mut running = self.log.run_to(alloc, plan, &order, at)?;
+        let schedule = self.schedule_to(alloc, depth, state)?;
+        let mut running = self.log.run_to(alloc, plan, &schedule, at)?;
         self.go_on(alloc, plan, graph, &mut running, depth, state, at)
     }
 

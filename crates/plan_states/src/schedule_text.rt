@@ -9,7 +9,7 @@ impl fmt::Display for MoreTurns<'_> {
     ghost use Rattle.std.specs.Prelude.{Some};
     ghost use Rattle.plan_states.specs.OrderText.{turns_after};
 
-    ghost output = { λ order. Some (turns_after order.0.now) };
+    ghost output = { λ schedule. Some (turns_after schedule.0.now) };
 
     fn fmt<W: fmt::Write>(&self, f: &mut fmt::Formatter<W>) -> fmt::Result {
         for build in self.0 {
@@ -27,7 +27,7 @@ impl fmt::Display for ScheduleText<'_> {
     ghost use Rattle.std.specs.Prelude.{Some};
     ghost use Rattle.plan_states.specs.OrderText.{schedule_text};
 
-    ghost output = { λ order. Some (schedule_text order.0.now) };
+    ghost output = { λ schedule. Some (schedule_text schedule.0.now) };
 
     fn fmt<W: fmt::Write>(&self, f: &mut fmt::Formatter<W>) -> fmt::Result {
         match self.0.split_first() {

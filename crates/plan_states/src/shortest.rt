@@ -157,13 +157,13 @@ fn end_of(taken: &TurnTaken, build: usize) -> Option<EndOfStep>
 pub fn answers(
     alloc: Global,
     plan: &Plan,
-    order: &[usize],
+    schedule: &[usize],
     question: TurnQuestion,
 ) -> Result<bool, Fault>
-    ensures ok { IfOk result (λ does. does ≡ true → EndsWithAnswer (plan_view plan.now) question order.now) }
+    ensures ok { IfOk result (λ does. does ≡ true → EndsWithAnswer (plan_view plan.now) question schedule.now) }
     ensures err { IfErr result HasNoGraph }
 {
-    let Some((last, before)) = order.split_last() else {
+    let Some((last, before)) = schedule.split_last() else {
         return Ok(false);
     };
     let mut running = run_to(alloc, plan, before)?;

@@ -217,14 +217,14 @@ impl Turns {
         alloc: Global,
         plan: &Plan,
         before: TurnInputs,
-        order: &[usize],
+        schedule: &[usize],
         build: usize,
     ) -> Result<TurnOutcome, Fault>
         requires { All (IsEndOfRun (plan_view plan.now)) self.old.ends.items }
         ensures ok { OnOk result (All (IsEndOfRun (plan_view plan.now)) self.new.ends.items) }
         ensures err { IfErr result HasNoGraph }
     {
-        let mut running = run_to(alloc, plan, order)?;
+        let mut running = run_to(alloc, plan, schedule)?;
         let Some(taken) = take(&mut running.host, plan, &mut running.places, build) else {
             return Err(Fault::Mismatch);
         };

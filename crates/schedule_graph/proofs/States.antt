@@ -319,11 +319,11 @@ module _ (one other : Position) (same : AreOneState one other) where
   pub same_text : map_text other.host ≡ map_text one.host
   same_text = same_map one.host other.host same.hosts.same
 
-pub turns_too : (plan : Plan) (order : List ℕ) (one other : Position) (turns : List Turn) (to : Position) → AreOneState one other → AreTurns plan order one turns to → AreAlsoTaken plan order other turns to
+pub turns_too : (plan : Plan) (schedule : List ℕ) (one other : Position) (turns : List Turn) (to : Position) → AreOneState one other → AreTurns plan schedule one turns to → AreAlsoTaken plan schedule other turns to
 turns_too plan [] one other [] to same stays_there = record { then = other; are_turns = refl; same = subst (λ p. AreOneState p other) (sym stays_there) same }
-turns_too plan (build ∷ order) one other (turn ∷ turns) to same (of_build, between, is_turn, more) =
+turns_too plan (build ∷ schedule) one other (turn ∷ turns) to same (of_build, between, is_turn, more) =
     let first = turn_too one other same plan turn between is_turn in
-    let rest = turns_too plan order between first.then turns to first.same more in
+    let rest = turns_too plan schedule between first.then turns to first.same more in
     record { then = rest.then; are_turns = (of_build, first.then, first.is_turn, rest.are_turns); same = rest.same }
 turns_too plan [] one other (turn ∷ turns) to same are = absurd are
-turns_too plan (build ∷ order) one other [] to same are = absurd are
+turns_too plan (build ∷ schedule) one other [] to same are = absurd are

@@ -41,7 +41,7 @@ pub record IsAlsoTaken (plan : Plan) (other : Position) (turn : Turn) (to : Posi
   pub same : AreOneState to then
 
 -- the turns of a schedule can also be taken at `other`, with the same answers, to the state of `to`
-pub record AreAlsoTaken (plan : Plan) (order : List ℕ) (other : Position) (turns : List Turn) (to : Position) : Type 0 where
+pub record AreAlsoTaken (plan : Plan) (schedule : List ℕ) (other : Position) (turns : List Turn) (to : Position) : Type 0 where
   pub then : Position
-  pub are_turns : AreTurns plan order other turns then
+  pub are_turns : AreTurns plan schedule other turns then
   pub same : AreOneState to then

@@ -20,8 +20,8 @@ pub fn a_state_decides_its_turns()
         → step_after plan build (place_of other.places build).done ≡ step_after plan build (place_of one.places build).done }
     ensures turn { (plan : Plan) (one other : Position) (turn : Turn) (to : Position) → AreOneState one other
         → IsTurn plan one turn to → IsAlsoTaken plan other turn to }
-    ensures turns { (plan : Plan) (order : List ℕ) (one other : Position) (turns : List Turn) (to : Position) → AreOneState one other
-        → AreTurns plan order one turns to → AreAlsoTaken plan order other turns to }
+    ensures turns { (plan : Plan) (schedule : List ℕ) (one other : Position) (turns : List Turn) (to : Position) → AreOneState one other
+        → AreTurns plan schedule one turns to → AreAlsoTaken plan schedule other turns to }
     ensures map { (one other : Position) → AreOneState one other → map_text other.host ≡ map_text one.host }
 {}
 

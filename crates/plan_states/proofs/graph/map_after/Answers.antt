@@ -6,5 +6,5 @@ use Rattle.plan_states.proofs.graph.map_after.Goals as goal
 
 pub leave_nothing-requires-clause-opens : goal.leave_nothing-requires-clause-opens
 leave_nothing-requires-clause-opens c =
-    opens_reached (plan_view c.args.plan.now) c.args.order.now (record { host = c.in_ok-running.running.host; places = c.in_ok-running.running.places })
+    opens_reached (plan_view c.args.plan.now) c.args.schedule.now (record { host = c.in_ok-running.running.host; places = c.in_ok-running.running.places })
     c.in_ok-running.ensures.ok ∙ ap fresh_like (sym c.into_ledger-ledger.ensures)

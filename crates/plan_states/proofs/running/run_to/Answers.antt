@@ -8,11 +8,11 @@ use Rattle.plan_states.proofs.running.run_to.Goals as goal
 
 pub loop-build-preserved : goal.loop-build-preserved
 loop-build-preserved c =
-    reached_more (plan_view c.args.plan.now) c.args.order.now c.loop-build.build-index (record { host = c.loop-build.host; places = c.loop-build.places })
+    reached_more (plan_view c.args.plan.now) c.args.schedule.now c.loop-build.build-index (record { host = c.loop-build.host; places = c.loop-build.places })
     (record { host = c.take_turn.new.host; places = c.take_turn.new.places })
     (option_map (λ told. (told.0.now, told.1)) c.take_turn.result) c.loop-build-test.true c.loop-build.invariant c.take_turn.ensures
 
 pub returns-clause-ok : goal.returns-clause-ok
 returns-clause-ok c =
     subst (λ o. IsReached (plan_view c.args.plan.now) o (record { host = c.loop-build.host; places = c.loop-build.places }))
-    (take_all c.loop-build.build-index c.args.order.now c.loop-build-test.false) c.loop-build.invariant
+    (take_all c.loop-build.build-index c.args.schedule.now c.loop-build-test.false) c.loop-build.invariant

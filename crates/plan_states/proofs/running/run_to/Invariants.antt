@@ -4,4 +4,4 @@ use Rattle.plan_states.specs.Reached.{IsReached}
 use Rattle.plan_states.proofs.running.run_to.Given as goal
 
 abbrev pub invariant-loop-build : goal.invariant-loop-build
-invariant-loop-build l = IsReached (plan_view l.plan) (take l.build-index l.order) (record { host = l.host; places = l.places })
+invariant-loop-build l = IsReached (plan_view l.plan) (take l.build-index l.schedule) (record { host = l.host; places = l.places })

@@ -18,7 +18,7 @@ returns-then-not-is_answered-clause-ok c = record {
 
 pub returns-clause-ok : goal.returns-clause-ok
 returns-clause-ok c = record {
-  answers = subst (λ (order : List ℕ). EndsWithAnswer (plan_view c.args.plan.now) c.args.question order) c.deref.ensures.value
+  answers = subst (λ (schedule : List ℕ). EndsWithAnswer (plan_view c.args.plan.now) c.args.question schedule) c.deref.ensures.value
       (c.in_ok-answers.ensures.ok c.if-not-branch.false);
   graph = c.in-All.graph;
   within = subst (IsExploration (plan_view c.args.plan.now) c.args.most) c.in-All.is c.in_ok-graph.ensures.ok;

@@ -7,7 +7,7 @@ pub returns-clause-ok : goal.returns-clause-ok
 returns-clause-ok c =
     numbered (plan_view c.args.plan.now) c.args.self.now.snapshots.items c.args.at c.in_ok-snapshot.snapshot (position_of c.in_ok-running.running)
     c.if-not-has_snapshot.ensures (record {
-      order = c.args.order.now;
+      schedule = c.args.schedule.now;
       reached = c.in_ok-running.ensures.ok;
       of_host = c.in_ok-snapshot.ensures.of_host;
       builds = c.in_ok-snapshot.ensures.builds;
