@@ -99,28 +99,28 @@ module _ {K : Type 0} (same : K → K → Bool) where
         ]
 
     counted_at : List (Sighting K) → Sighting K → PathCount K
-    counted_at seen s = record { outcome = s.outcome; count = times same seen s.outcome; first = s.order }
+    counted_at seen s = record { outcome = s.outcome; count = times same seen s.outcome; first = s.schedule }
 
     one : (seen : List (Sighting K)) (s : Sighting K) (shown : Bool) → is_shown same seen s.outcome ≡ shown
-        → map (counted_at (seen ++ s ∷ [])) (if shown then [] else s ∷ []) ≡ (if shown then [] else record { outcome = s.outcome; count = 1; first = s.order } ∷ [])
+        → map (counted_at (seen ++ s ∷ [])) (if shown then [] else s ∷ []) ≡ (if shown then [] else record { outcome = s.outcome; count = 1; first = s.schedule } ∷ [])
     unfolding counted_at
     one seen s true is = refl
     one seen s false is =
         let none = unseen_times seen s.outcome is in
         let more = times-push seen s s.outcome ∙ ap (λ b. if b then times same seen s.outcome + 1 else times same seen s.outcome) (equal.refl s.outcome) in
         let once : times same (seen ++ s ∷ []) s.outcome ≡ 1 = omega arith in
-        λ i. record { outcome = s.outcome; count = once i; first = s.order } ∷ []
+        λ i. record { outcome = s.outcome; count = once i; first = s.schedule } ∷ []
 
     pub counted-push :
         (seen : List (Sighting K)) (s : Sighting K)
         → counted same (seen ++ s ∷ []) ≡ map (bump same s.outcome) (counted same seen) ++
-        (if is_shown same seen s.outcome then [] else record { outcome = s.outcome; count = 1; first = s.order } ∷ [])
+        (if is_shown same seen s.outcome then [] else record { outcome = s.outcome; count = 1; first = s.schedule } ∷ [])
     unfolding counted counted_at
     counted-push seen s =
         ap (map (counted_at (seen ++ s ∷ []))) (firsts-push [] seen s)
         ∙ map-append (counted_at (seen ++ s ∷ [])) (firsts same [] seen) (if is_shown same seen s.outcome then [] else s ∷ [])
         ∙ (λ i. (map_alike (counted_at (seen ++ s ∷ [])) (λ t. bump same s.outcome (counted_at seen t))
-        (λ t j. record { outcome = t.outcome; count = times-push seen s t.outcome j; first = t.order }) (firsts same [] seen)
+        (λ t j. record { outcome = t.outcome; count = times-push seen s t.outcome j; first = t.schedule }) (firsts same [] seen)
         ∙ sym (map_twice (bump same s.outcome) (counted_at seen) (firsts same [] seen))) i
         ++ one seen s (is_shown same seen s.outcome) refl i)
 
@@ -135,21 +135,21 @@ module _ {K : Type 0} (same : K → K → Bool) where
 
     module _ (tallies bumped : List (PathTally K)) (seen : List (Sighting K)) (s : Sighting K) (are : map count_of_tally tallies ≡ counted same seen)
         (is_bumped : map count_of_tally bumped ≡ map (bump same s.outcome) (map count_of_tally tallies)) where
-      after : map count_of_tally bumped ++ (if is_known same s.outcome tallies then [] else record { outcome = s.outcome; count = 1; first = s.order } ∷ []) ≡ counted same (seen ++ s ∷ [])
+      after : map count_of_tally bumped ++ (if is_known same s.outcome tallies then [] else record { outcome = s.outcome; count = 1; first = s.schedule } ∷ []) ≡ counted same (seen ++ s ∷ [])
       after =
-          (λ i. (is_bumped ∙ ap (map (bump same s.outcome)) are) i ++ (if known_is tallies seen s.outcome are i then [] else record { outcome = s.outcome; count = 1; first = s.order } ∷ []))
+          (λ i. (is_bumped ∙ ap (map (bump same s.outcome)) are) i ++ (if known_is tallies seen s.outcome are i then [] else record { outcome = s.outcome; count = 1; first = s.schedule } ∷ []))
           ∙ sym (counted-push seen s)
 
       pub shown_again : is_known same s.outcome tallies ≡ true → map count_of_tally bumped ≡ counted same (seen ++ s ∷ [])
       shown_again known =
-          sym (append-nil (map count_of_tally bumped)) ∙ ap (λ b. map count_of_tally bumped ++ (if b then [] else record { outcome = s.outcome; count = 1; first = s.order } ∷ [])) (sym known) ∙ after
+          sym (append-nil (map count_of_tally bumped)) ∙ ap (λ b. map count_of_tally bumped ++ (if b then [] else record { outcome = s.outcome; count = 1; first = s.schedule } ∷ [])) (sym known) ∙ after
 
       pub shown_first :
-          (tally : PathTally K) → is_known same s.outcome tallies ≡ false → count_of_tally tally ≡ record { outcome = s.outcome; count = 1; first = s.order }
+          (tally : PathTally K) → is_known same s.outcome tallies ≡ false → count_of_tally tally ≡ record { outcome = s.outcome; count = 1; first = s.schedule }
           → map count_of_tally (bumped ++ tally ∷ []) ≡ counted same (seen ++ s ∷ [])
       shown_first tally new is =
           map-append count_of_tally bumped (tally ∷ []) ∙ ap (λ c. map count_of_tally bumped ++ c ∷ []) is
-          ∙ ap (λ b. map count_of_tally bumped ++ (if b then [] else record { outcome = s.outcome; count = 1; first = s.order } ∷ [])) (sym new) ∙ after
+          ∙ ap (λ b. map count_of_tally bumped ++ (if b then [] else record { outcome = s.outcome; count = 1; first = s.schedule } ∷ [])) (sym new) ∙ after
 
 -- what was lent whole has come back
 pub written_back : {X : Type 0} (n : ℕ) (old new : List X) → n ≡ length old → length new ≡ length old → take n (new ++ drop (length new) old) ≡ new

@@ -14,11 +14,11 @@ use Rattle.view_program.proofs.TurnsLeft.{steady_after, accepted_where_it_stays,
 use Rattle.view_program.specs.declared.schedules.choice.Choice.{Choice}
 use Rattle.plan_states.specs.declared.step_end.EndOfStep.{EndOfStep}
 
-turns_of : (plan : Plan) (order : List ℕ) (from : Stage) (choices : List Choice) (to : Stage) → AreChosen plan from choices to → (turns : List Turn) × AreTurns
-    (record plan { order = order }) (chosen_schedule choices) from.at turns to.at
-turns_of plan order from [] to are = ([], ap (λ (s : Stage). s.at) are)
-turns_of plan order from (choice ∷ choices) to are =
-    let later = turns_of plan order are.1 choices to are.3 in
+turns_of : (plan : Plan) (schedule : List ℕ) (from : Stage) (choices : List Choice) (to : Stage) → AreChosen plan from choices to → (turns : List Turn) × AreTurns
+    (record plan { order = schedule }) (chosen_schedule choices) from.at turns to.at
+turns_of plan schedule from [] to are = ([], ap (λ (s : Stage). s.at) are)
+turns_of plan schedule from (choice ∷ choices) to are =
+    let later = turns_of plan schedule are.1 choices to are.3 in
     (are.2.turn ∷ later.0, (are.2.of_build, are.1.at, are.2.is_turn, later.1))
 
 pub run_of_plan :
@@ -40,23 +40,23 @@ noted_if : (turn : Turn) (before : ℕ) (stays : Bool)
 noted_if turn before true accepted = inl (refl, accepted refl)
 noted_if turn before false accepted = inr (before, refl)
 
-record Noted (plan : Plan) (order : List ℕ) (from to : Stage) (choices : List Choice) : Type 0 where
+record Noted (plan : Plan) (schedule : List ℕ) (from to : Stage) (choices : List Choice) : Type 0 where
   lines : List Line
-  are_turns : AreTurns (record plan { order = order }) (chosen_schedule choices) from.at (map (λ (line : Line). line.turn) lines) to.at
+  are_turns : AreTurns (record plan { order = schedule }) (chosen_schedule choices) from.at (map (λ (line : Line). line.turn) lines) to.at
   each : All IsEndOfTurn lines
   ends_are : to.ends ≡ from.ends ++ flat_map (λ (line : Line). line.noted) lines
 
-noted : (plan : Plan) (order : List ℕ) (from : Stage) (choices : List Choice) (to : Stage) → AreSteady plan from.at.places → AreChosen plan from choices to → Noted plan order from to choices
-noted plan order from [] to steady are = record {
+noted : (plan : Plan) (schedule : List ℕ) (from : Stage) (choices : List Choice) (to : Stage) → AreSteady plan from.at.places → AreChosen plan from choices to → Noted plan schedule from to choices
+noted plan schedule from [] to steady are = record {
   lines = [];
   are_turns = ap (λ (s : Stage). s.at) are;
   each = All-nil IsEndOfTurn;
   ends_are = ap (λ (s : Stage). s.ends) are ∙ sym (append-nil from.ends);
 }
-noted plan order from (choice ∷ choices) to steady are =
+noted plan schedule from (choice ∷ choices) to steady are =
     let step = are.2 in
     let inside : step.turn.build < 8 = subst (λ b. b < 8) (sym step.of_build) (could_is plan from.at.places choice.left choice.build are.0.left are.0.could).0 in
-    let later = noted plan order are.1 choices to (steady_after plan from.at step.turn are.1.at steady inside step.is_turn) are.3 in
+    let later = noted plan schedule are.1 choices to (steady_after plan from.at step.turn are.1.at steady inside step.is_turn) are.3 in
     let accepted = accepted_where_it_stays plan from.at step.turn are.1.at steady inside step.is_turn in
     let line : Line = record { turn = step.turn; noted = ended step.turn (place_of from.at.places choice.build).done (place_of are.1.at.places choice.build).done } in
     record {

@@ -38,7 +38,7 @@ IsSampling-more plan stream count now after old new so_far is = record {
   so_many = (let so_many = so_far.so_many in omega (arith, length-append so_far.visits (is.visit ∷ [])));
 }
 
--- The run of an order that is drawn, on a fresh host, counted.
+-- The run of a schedule that is drawn, on a fresh host, counted.
 pub IsDrawnAndCounted-run :
     (plan : Plan) (stream after : Stream) (fresh to : HostView) (choices cs : List Choice) (ends es : List EndOfStep) (old new : Totals)
     → fresh ≡ opening_host plan → cs ≡ choices → es ≡ ends

@@ -20,6 +20,6 @@ pub mod Calls
 pub mod Checked
 pub mod Why
 pub mod ToAnswer
-pub mod Orders
+pub mod Schedules
 pub mod Reordered
 pub mod Printed

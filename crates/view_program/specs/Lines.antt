@@ -11,7 +11,7 @@ use Rattle.view_program.specs.declared.schedules.totals.Totals.{Totals}
 
 -- the line that states the number of drawn schedules
 abbrev pub drawn_line : ℕ → List ℕ
-drawn_line schedule_count = codes "orders drawn " ++ (numeral schedule_count ++ 10 ∷ [])
+drawn_line schedule_count = codes "schedules drawn " ++ (numeral schedule_count ++ 10 ∷ [])
 
 -- the lines for a final map: the share of schedules that end in it, and the map
 abbrev pub map_lines : ℕ → PathTally (String Global) → List ℕ

@@ -16,7 +16,7 @@ use Rattle.view_program.specs.Json.{IsJsonText}
 use Rattle.view_program.specs.PageData.{IsPageText}
 use Rattle.view_program.specs.Checked.{AreErrorsOf, IsCheckEnd}
 use Rattle.view_program.specs.Why.{IsWhyText}
-use Rattle.view_program.specs.Orders.{IsExploredText, IsWithoutExplored}
+use Rattle.view_program.specs.Schedules.{IsExploredText, IsWithoutExplored}
 use Rattle.view_program.specs.Reordered.{IsReorderEnd}
 use Rattle.view_program.specs.declared.checking.ViewOutcome.{ViewOutcome}
 use Rattle.view_program.specs.declared.checking.ViewOutcome.TheVariants.{Done, HasErrors}

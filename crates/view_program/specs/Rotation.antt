@@ -30,13 +30,13 @@ AreOneByOne choices = All (λ choice. lowest_of choice.left ≡ Some choice.buil
 
 -- The schedule of a complete run, with choices by the rule. Each turn is of a build that has a step left, and in the
 -- end no build has one.
-pub record IsWholeSchedule (rule : List Choice → Type 0) (plan : Plan) (host : HostView) (order : List ℕ) : Type 0 where
+pub record IsWholeSchedule (rule : List Choice → Type 0) (plan : Plan) (host : HostView) (schedule : List ℕ) : Type 0 where
   pub choices : List Choice
   pub to : HostView
   pub ends : List EndOfStep
   pub is_run : IsChosenRun plan host choices to ends
   pub by_rule : rule choices
-  pub order_is : order ≡ chosen_schedule choices
+  pub schedule_is : schedule ≡ chosen_schedule choices
 
 -- From this stage builds take turns in rotation, from build 0 on, until none has a step left. The choices lead to `to`.
 pub record IsRotatedTo (plan : Plan) (from : Stage) (choices : List Choice) (to : Stage) : Type 0 where

@@ -7,5 +7,5 @@ pub record IsNumberOf (like : List ℕ → Type 0) (count : ℕ) : Type 0 where
   pub schedules : List (List ℕ)
   pub each : All like schedules
   pub rise : AllPairs (λ (one other : List ℕ). is_before one other ≡ true) schedules
-  pub none_missing : (order : List ℕ) → like order → Contains schedules order
+  pub none_missing : (schedule : List ℕ) → like schedule → Contains schedules schedule
   pub so_many : length schedules ≡ count

@@ -7,7 +7,7 @@ use Rattle.plan_states.specs.declared.tally.PathTally.{PathTally}
 -- An outcome, and the schedule that has it.
 pub record Sighting (K : Type 0) : Type 0 where
   pub outcome : K
-  pub order : List ℕ
+  pub schedule : List ℕ
 
 abbrev pub is_shown : {K : Type 0} → (K → K → Bool) → List (Sighting K) → K → Bool
 is_shown same seen outcome = list_any (λ s. same s.outcome outcome) seen
@@ -24,7 +24,7 @@ times same seen outcome = count_by (λ s. same outcome s.outcome) seen
 
 -- Each outcome once, with its count and its first schedule, in the order of first sightings.
 unfoldable pub counted : {K : Type 0} → (K → K → Bool) → List (Sighting K) → List (PathCount K)
-counted same seen = map (λ s. record { outcome = s.outcome; count = times same seen s.outcome; first = s.order }) (firsts same [] seen)
+counted same seen = map (λ s. record { outcome = s.outcome; count = times same seen s.outcome; first = s.schedule }) (firsts same [] seen)
 
 -- an outcome's count, raised by one if the outcome is the same as `outcome`
 abbrev pub bump : {K : Type 0} → (K → K → Bool) → K → PathCount K → PathCount K

@@ -34,17 +34,17 @@ never_line (Leased granules) = never_leased_line granules
 -- ---- texts
 
 -- The text is a plan with this schedule, whose last turn answers the question.
-pub record IsPlanTo (question : TurnQuestion) (order text : List ℕ) : Type 0 where
+pub record IsPlanTo (question : TurnQuestion) (schedule text : List ℕ) : Type 0 where
   pub read : Plan
   pub is_plan : plan_of text ≡ Ok read
-  pub has_order : read.order ≡ order
-  pub answers : EndsWithAnswer read question order
+  pub has_order : read.order ≡ schedule
+  pub answers : EndsWithAnswer read question schedule
 
 -- the text is a plan with the first of the shortest schedules that answer the question
 pub record IsShortestPlan (most : ℕ) (question : TurnQuestion) (plan : Plan) (text : List ℕ) : Type 0 where
-  pub order : List ℕ
-  pub shortest : IsShortest plan most question order
-  pub is_plan : IsPlanTo question order text
+  pub schedule : List ℕ
+  pub shortest : IsShortest plan most question schedule
+  pub is_plan : IsPlanTo question schedule text
 
 -- The text is a plan with the first of the shortest schedules that answer the question. Or it is a line: no schedule
 -- does, or there are more than `most` states.

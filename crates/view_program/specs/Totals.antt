@@ -22,7 +22,7 @@ abbrev pub chosen_schedule : List Choice → List ℕ
 chosen_schedule choices = map (λ choice. choice.build) choices
 
 abbrev pub sighting_in : {K : Type 0} → List Choice → K → Sighting K
-sighting_in choices outcome = record { outcome = outcome; order = chosen_schedule choices }
+sighting_in choices outcome = record { outcome = outcome; schedule = chosen_schedule choices }
 
 abbrev pub ends_seen : Visit → List (Sighting EndOfStep)
 ends_seen visit = map (sighting_in visit.choices) visit.ends

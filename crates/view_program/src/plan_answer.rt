@@ -38,15 +38,15 @@ fn question_of_options(asked: ScheduleQuestion) -> TurnQuestion
     }
 }
 
-// Whether `order` is the plan's own schedule and the last turn of that schedule answers the question.
+// Whether `schedule` is the plan's own schedule and the last turn of that schedule answers the question.
 fn ends_with_answer(
     alloc: Global,
     plan: &Plan,
-    order: &[usize],
+    schedule: &[usize],
     question: TurnQuestion,
 ) -> Result<bool, Fault>
     ensures ok { IfOk result (λ goes. goes ≡ true
-        → ((plan_view plan.now).order ≡ order.now) × EndsWithAnswer (plan_view plan.now) question order.now) }
+        → ((plan_view plan.now).order ≡ schedule.now) × EndsWithAnswer (plan_view plan.now) question schedule.now) }
     ensures err { IfErr result HasNoGraph }
 {
     let own: Vec<usize> = plan
@@ -54,26 +54,26 @@ fn ends_with_answer(
         .iter()
         .map(|build| build.number() as usize)
         .collect(alloc)?;
-    if own.as_slice() != order {
+    if own.as_slice() != schedule {
         return Ok(false);
     }
-    answers(alloc, plan, order, question)
+    answers(alloc, plan, schedule, question)
 }
 
-// The text of a plan with the schedule `order` in place of its own. Read back, the text has to be a plan whose last
-// turn answers the question.
+// The text of a plan with `schedule` in place of its own. Read back, the text has to be a plan whose last turn answers
+// the question.
 fn plan_to(
     alloc: Global,
     source: &[u8],
-    order: &[usize],
+    schedule: &[usize],
     question: TurnQuestion,
 ) -> Result<Vec<u8>, Fault>
-    ensures ok { IfOk result (λ text. IsPlanTo question order.now text.items) }
+    ensures ok { IfOk result (λ text. IsPlanTo question schedule.now text.items) }
     ensures err { IfErr result HasNoGraph }
 {
-    let text = with_order(alloc, source, order)?;
+    let text = with_order(alloc, source, schedule)?;
     match Plan::from_bytes(alloc, &text) {
-        Ok(plan) if ends_with_answer(alloc, &plan, order, question)? => Ok(text),
+        Ok(plan) if ends_with_answer(alloc, &plan, schedule, question)? => Ok(text),
         Err(PlanError::Memory) => Err(Fault::Memory),
         _ => Err(Fault::Mismatch),
     }
@@ -137,7 +137,7 @@ pub(crate) fn answer_text(
 {
     let question = question_of_options(asked);
     match shortest_answer(alloc, plan, most as usize, question)? {
-        Witness::Found(order) => plan_to(alloc, source, &order, question),
+        Witness::Found(schedule) => plan_to(alloc, source, &schedule, question),
         Witness::Never => Ok(never_text(alloc, asked)?.into_bytes()),
         Witness::TooMany => Ok(too_many_text(alloc, most as usize)?.into_bytes()),
     }

@@ -2,7 +2,7 @@
 ghost use Rattle.std.specs.Prelude.{◌≡◌, IfOk, IfErr, string_bytes};
 ghost use Rattle.realm_plan.specs.PlanView.{plan_view};
 ghost use Rattle.view_program.specs.Lines.{drawn_text};
-ghost use Rattle.view_program.specs.Orders.{plan_after, IsDrawnText, IsExploredText, IsSchedulesText, IsWithoutExplored, IsWithoutSchedules};
+ghost use Rattle.view_program.specs.Schedules.{plan_after, IsDrawnText, IsExploredText, IsSchedulesText, IsWithoutExplored, IsWithoutSchedules};
 
 use crate::plan_answer::answer_text;
 use crate::plan_text::ViewText;
@@ -40,7 +40,7 @@ fn run_drawn_of<P: Progress>(
 }
 
 // The text for the requested schedules: their outcomes, or the answer to a question about them.
-fn orders_text_of<P: Progress>(
+fn schedules_text_of<P: Progress>(
     alloc: Global,
     plan: &Plan,
     source: &[u8],
@@ -93,6 +93,6 @@ impl<P: Progress> ViewText for Exploring<'_, P> {
 
     fn text_of(&self, alloc: Global, plan: Plan, source: &[u8]) -> Result<Vec<u8>, Fault> {
         let plan = plan_after(self.after, plan);
-        orders_text_of(alloc, &plan, source, self.schedules, self.progress)
+        schedules_text_of(alloc, &plan, source, self.schedules, self.progress)
     }
 }

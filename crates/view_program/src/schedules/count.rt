@@ -9,10 +9,10 @@ use schedule_graph::Count;
 use std::alloc::{AllocError, Global};
 
 /// Returns the build that was chosen for each turn of a schedule, in sequence. At an `Err` allocation failed.
-pub(crate) fn builds_of(alloc: Global, order: &[Choice]) -> Result<Vec<usize>, AllocError>
-    ensures { IfOk result (λ builds. builds.items ≡ map (λ choice. choice.build) order.now) }
+pub(crate) fn builds_of(alloc: Global, schedule: &[Choice]) -> Result<Vec<usize>, AllocError>
+    ensures { IfOk result (λ builds. builds.items ≡ map (λ choice. choice.build) schedule.now) }
 {
-    order.iter().map(|choice| choice.build).collect(alloc)
+    schedule.iter().map(|choice| choice.build).collect(alloc)
 }
 
 // Adds 1 to the tally of an outcome if it has one, and returns whether it has one.
@@ -35,16 +35,16 @@ pub(crate) fn count<K: Eq + Drop>(
     alloc: Global,
     tallies: &mut Vec<PathTally<K>>,
     outcome: K,
-    order: &[Choice],
+    schedule: &[Choice],
 ) -> Result<(), AllocError>
     ensures { OnOk result ((seen : List (Sighting _)) → map count_of_tally tallies.old.items ≡ counted K.eq seen
-        → map count_of_tally tallies.new.items ≡ counted K.eq (seen ++ record { outcome = outcome; order = map (λ choice. choice.build) order.now } ∷ [])) }
+        → map count_of_tally tallies.new.items ≡ counted K.eq (seen ++ record { outcome = outcome; schedule = map (λ choice. choice.build) schedule.now } ∷ [])) }
 {
     let is_known = bump(tallies, &outcome)?;
     if is_known {
         return Ok(());
     }
-    let first = builds_of(alloc, order)?;
+    let first = builds_of(alloc, schedule)?;
     let count = Count::one(alloc)?;
     tallies.push(PathTally {
         outcome,

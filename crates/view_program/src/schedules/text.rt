@@ -14,7 +14,7 @@ use std::alloc::AllocError;
 fn push_drawn_count(text: &mut String, schedule_count: &Count) -> Result<(), AllocError>
     ensures { OnOk result (string_bytes text.new ≡ string_bytes text.old ++ drawn_line schedule_count.now) }
 {
-    text.push_str("orders drawn ")?;
+    text.push_str("schedules drawn ")?;
     schedule_count.push_to(text)?;
     text.push_str("\n")?;
     Ok(())

@@ -16,8 +16,8 @@ use std::alloc::{AllocError, Global};
 /// the index of each turn's build. It is the schedule of a run on a fresh host. The plan's own schedule is not used. At
 /// an `Err` allocation failed.
 pub fn schedule_in_rotation(alloc: Global, plan: &Plan) -> Result<Vec<usize>, AllocError>
-    ensures { IfOk result (λ order. IsWholeSchedule (AreInRotation 0) (plan_view plan.now)
-        (opening_host (plan_view plan.now)) order.items) }
+    ensures { IfOk result (λ schedule. IsWholeSchedule (AreInRotation 0) (plan_view plan.now)
+        (opening_host (plan_view plan.now)) schedule.items) }
 {
     let mut host = boot::<BuddyArena>(alloc, plan)?;
     let mut choices = Vec::new(alloc);
@@ -30,8 +30,8 @@ pub fn schedule_in_rotation(alloc: Global, plan: &Plan) -> Result<Vec<usize>, Al
 /// one. The schedule has the index of each turn's build. It is the schedule of a run on a fresh host. The plan's own
 /// schedule is not used. At an `Err` allocation failed.
 pub fn schedule_one_by_one(alloc: Global, plan: &Plan) -> Result<Vec<usize>, AllocError>
-    ensures { IfOk result (λ order. IsWholeSchedule AreOneByOne (plan_view plan.now)
-        (opening_host (plan_view plan.now)) order.items) }
+    ensures { IfOk result (λ schedule. IsWholeSchedule AreOneByOne (plan_view plan.now)
+        (opening_host (plan_view plan.now)) schedule.items) }
 {
     let mut host = boot::<BuddyArena>(alloc, plan)?;
     let mut choices = Vec::new(alloc);

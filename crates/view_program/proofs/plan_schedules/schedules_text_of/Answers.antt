@@ -1,7 +1,7 @@
 use Rattle.std.proofs.Common.{ℕ, Vec, Global, sym, subst}
 use Rattle.realm_plan.specs.PlanView.{plan_view}
 use Rattle.plan_states.specs.StatesText.{IsStatesText}
-use Rattle.view_program.proofs.plan_schedules.orders_text_of.Goals as goal
+use Rattle.view_program.proofs.plan_schedules.schedules_text_of.Goals as goal
 
 pub returns-in_ok-states_text-in-All-clause-ok : goal.returns-in_ok-states_text-in-All-clause-ok
 returns-in_ok-states_text-in-All-clause-ok g c =

@@ -23,12 +23,12 @@ returns-then-is_known g c = λ seen are.
     let at = (goal.at.returns-then-is_known g c).In_ok-is_known in
     ap (map count_of_tally) (back g at)
     ∙ shown_again g.K.PartialEq.eq g.met.K.Eq.laws c.args.tallies.now.items c.bump.new.tallies seen
-    (record { outcome = c.args.outcome; order = map (λ (choice : Choice). choice.build) c.args.order.now }) are (bumped g at) (sym (known g at) ∙ c.if-is_known.true)
+    (record { outcome = c.args.outcome; schedule = map (λ (choice : Choice). choice.build) c.args.schedule.now }) are (bumped g at) (sym (known g at) ∙ c.if-is_known.true)
 
 pub returns : goal.returns
 returns g c = λ seen are.
     let at = (goal.at.returns g c).In_ok-is_known in
-    let s : Sighting _ = record { outcome = c.args.outcome; order = map (λ (choice : Choice). choice.build) c.args.order.now } in
+    let s : Sighting _ = record { outcome = c.args.outcome; schedule = map (λ (choice : Choice). choice.build) c.args.schedule.now } in
     let tally : PathTally _ = record { outcome = c.args.outcome; count = c.in_ok-count.count; first = c.in_ok-first.first } in
     ap (map count_of_tally) (c.in_ok-push.ensures.items ∙ ap (λ ts. ts ++ tally ∷ []) (back g at))
     ∙ shown_first g.K.PartialEq.eq g.met.K.Eq.laws c.args.tallies.now.items c.bump.new.tallies seen s are (bumped g at) tally (sym (known g at) ∙ c.if-is_known.false)

@@ -9,5 +9,5 @@ returns c =
     let one = string_bytes c.push_str.new.self in
     let two = string_bytes c.push_to.new.text in
     let three = string_bytes c.push_str-2.new.self in
-    joined (string_bytes c.args.text.now) (codes "orders drawn ") (number ++ 10 ∷ []) one three c.in_ok-push_str.ensures.bytes
+    joined (string_bytes c.args.text.now) (codes "schedules drawn ") (number ++ 10 ∷ []) one three c.in_ok-push_str.ensures.bytes
     (joined one number (10 ∷ []) two three c.in_ok-push_to.ensures c.in_ok-push_str-2.ensures.bytes)
