@@ -24,7 +24,7 @@ schedules_asked most (Some sample) seed = schedules_drawn sample (unwrap_or seed
 -- What builds do after a refusal, by whether they are to give up. They do so only in schedules whose outcomes are printed:
 -- a plan does not say it.
 abbrev pub after_refusal : Bool → Schedules → Result AfterRefusal BadOption
-after_refusal false orders = Ok GoOn
+after_refusal false schedules = Ok GoOn
 after_refusal true (All most) = Ok GiveUp
 after_refusal true (Drawn count seed) = Ok GiveUp
 after_refusal true _ = Err GiveUpInPlan

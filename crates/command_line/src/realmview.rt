@@ -149,10 +149,10 @@ fn schedules_asked(
 
 // Returns the behaviour of builds after a refusal, or an error if it does not fit the schedules. A plan that is printed
 // cannot say that its builds give up.
-fn after_refusal(gives_up: bool, orders: &Schedules) -> Result<AfterRefusal, BadOption>
-    ensures { result ≡ after_refusal gives_up orders.now }
+fn after_refusal(gives_up: bool, schedules: &Schedules) -> Result<AfterRefusal, BadOption>
+    ensures { result ≡ after_refusal gives_up schedules.now }
 {
-    match (gives_up, orders) {
+    match (gives_up, schedules) {
         (false, _) => Ok(AfterRefusal::GoOn),
         (true, Schedules::All(_) | Schedules::Drawn(..)) => Ok(AfterRefusal::GiveUp),
         (true, _) => Err(BadOption::GiveUpInPlan),
@@ -193,7 +193,7 @@ fn question_asked(
 }
 
 const ABOUT: &str =
-    "Shows what plans of realmhost do: why a step is refused, what an undo leaves, what other orders come to.";
+    "Shows what plans of realmhost do: why a step is refused, what an undo leaves, what other schedules come to.";
 
 const EXAMPLES: &str = "Examples:
   realmview check plans/first.toml
@@ -238,7 +238,7 @@ const WHY_EXAMPLES: &str = "Examples:
 
 const ALL_HELP: &str = "List the checks that passed, too";
 
-const EXPLORE: &str = "Explore every order of a plan's turns, and print what differs";
+const EXPLORE: &str = "Explore every schedule of a plan, and print what differs";
 
 const EXPLORE_EXAMPLES: &str = "Examples:
   realmview explore plans/some-orders.toml
@@ -248,21 +248,21 @@ const EXPLORE_EXAMPLES: &str = "Examples:
   realmview explore --leased 8 plans/some-orders.toml | realmhost replay";
 
 const MOST_STATES_HELP: &str =
-    "Explore all orders if they have at most N states [default: 1000000]";
+    "Explore all schedules if they have at most N states [default: 1000000]";
 
 const SAMPLE_HELP: &str =
-    "Draw K orders at random, K up to 1000000 [default: 1000, if a seed is given]";
+    "Draw K schedules at random, K up to 1000000 [default: 1000, if a seed is given]";
 
-const SEED_HELP: &str = "Draw orders by the random numbers of the seed S [default: 0]";
+const SEED_HELP: &str = "Draw schedules by the random numbers of the seed S [default: 0]";
 
 const REFUSED_HELP: &str =
-    "Print the plan with the shortest order that ends with a refusal of step S of build B";
+    "Print the plan with the shortest schedule that ends with a refusal of step S of build B";
 
 const WAITING_HELP: &str =
-    "Print the plan with the shortest order after which build B waits while another holds nothing";
+    "Print the plan with the shortest schedule after which build B waits while another holds nothing";
 
 const LEASED_HELP: &str =
-    "Print the plan with the shortest order after which N granules are leased, N from 1 to 4096";
+    "Print the plan with the shortest schedule after which N granules are leased, N from 1 to 4096";
 
 const TWO_QUESTIONS: &str = "of --refused, --waiting and --leased only one may be given";
 
@@ -274,7 +274,7 @@ const GIVE_UP_IN_PLAN: &str =
     "--give-up is not for --refused, --waiting and --leased: a replay of the plan that they print does not give up";
 
 const ORDER: &str =
-    "Print a plan with an order that gives each build all the turns that it needs, in rotation";
+    "Print a plan with a schedule that gives each build all the turns that it needs, in rotation";
 
 const ORDER_EXAMPLES: &str = "Examples:
   realmview order plans/first.toml > mine.toml
@@ -416,9 +416,9 @@ fn schedules_by(explore: &ArgMatches) -> Result<Schedules, BadOption> {
 
 // Returns the exploration that the matched words ask for, or an error.
 fn explore_by(explore: &ArgMatches) -> Result<ViewSubcommand, BadOption> {
-    let orders = schedules_by(explore)?;
-    let after = after_refusal(explore.get_flag("give-up"), &orders)?;
-    Ok(ViewSubcommand::Explore(orders, after))
+    let schedules = schedules_by(explore)?;
+    let after = after_refusal(explore.get_flag("give-up"), &schedules)?;
+    Ok(ViewSubcommand::Explore(schedules, after))
 }
 
 // Returns the address that the matched words give the first granule, or an error.

@@ -46,13 +46,13 @@ impl Meter<'_> {
 }
 
 impl Progress for Meter<'_> {
-    fn told(&self, orders: u32, most: u32) {
+    fn told(&self, schedules: u32, most: u32) {
         let Some(passed) = self.passed() else {
             return;
         };
         if passed > self.pauses.get() {
             self.pauses.set(passed);
-            let _lost = eprint!(self.rt; "\r\x1b[K{orders} of {most} orders run");
+            let _lost = eprint!(self.rt; "\r\x1b[K{schedules} of {most} schedules run");
         }
     }
 }
