@@ -65,7 +65,7 @@ def with_a_step(plan, draw):
 
 
 def with_other_turns(plan, draw):
-    """The same turns in another order."""
+    """The same turns in another schedule."""
     shuffled = lambda at: b"order = [" + b", ".join(draw(st.permutations(re.findall(rb"\d+", at.group())))) + b"]"
     return TURNS.sub(shuffled, plan)
 

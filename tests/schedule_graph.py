@@ -91,7 +91,7 @@ class Graph:
         self.turns: dict = {}
         self.layers = self.forward()
         self.backward()
-        self.orders = sum(state.ways for layer in self.layers for state in layer if not state.edges)
+        self.schedules = sum(state.ways for layer in self.layers for state in layer if not state.edges)
 
     # ---- the graph
 
@@ -258,8 +258,8 @@ class Graph:
                     counts[edge.end] = counts.get(edge.end, 0) + ways
                     if edge.end not in met:
                         met.add(edge.end)
-                        order = self.through(depth, place, edge)
-                        firsts[edge.end] = min(order, firsts.get(edge.end, order))
+                        schedule = self.through(depth, place, edge)
+                        firsts[edge.end] = min(schedule, firsts.get(edge.end, schedule))
         return {end: (counts[end], firsts[end]) for end in counts}
 
     def maps(self) -> dict[str, tuple[int, list[int]]]:
@@ -274,8 +274,8 @@ class Graph:
                 counts[text] = counts.get(text, 0) + state.ways
                 if text not in met:
                     met.add(text)
-                    order = self.prefix(depth, place)
-                    firsts[text] = min(order, firsts.get(text, order))
+                    schedule = self.prefix(depth, place)
+                    firsts[text] = min(schedule, firsts.get(text, schedule))
         return {text: (counts[text], firsts[text]) for text in counts}
 
     def map(self, state: State) -> str:
@@ -287,14 +287,14 @@ class Graph:
         return (count, self.least_smooth(it)) if count else None
 
     def lines(self) -> Iterator[str]:
-        shown = lambda count, first: " in all\n" if count == self.orders else f" in {count}, order = {first}\n"
-        yield f"orders {self.orders}\n"
+        shown = lambda count, first: " in all\n" if count == self.schedules else f" in {count}, order = {first}\n"
+        yield f"schedules {self.schedules}\n"
         ends, wholes = self.ends(), []
         if whole := self.smooth(self.count):
             wholes.append((whole[1], "no step refused", whole[0]))
         refused = [first for end, (_, first) in ends.items() if end[2] != "ok"]
         if refused:
-            wholes.append((min(refused), "some step refused", self.orders - (whole[0] if whole else 0)))
+            wholes.append((min(refused), "some step refused", self.schedules - (whole[0] if whole else 0)))
         for first, words, count in sorted(wholes):
             yield words + shown(count, first)
         for end in sorted(ends, key=lambda end: (end[0], end[1], ends[end][1])):

@@ -92,7 +92,7 @@ def plan_of(path):
 
 
 def run_of(name, plan, text):
-    """A plan in threads. Its text is stored where it is the same whatever the order of the builds."""
+    """A plan in threads. Its text is stored where it is the same whatever the schedule of the builds."""
     stored = TOP / f"{'tests/' * name.startswith('runs/')}{name}.run.txt"
     fits = printed(stored.read_bytes()) if stored.exists() else lambda outcome: not fault_of_threads((0, text, b""), outcome)
     return Case(f"{name} run", HOST, [b"run"], plan, fits)

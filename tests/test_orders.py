@@ -43,20 +43,20 @@ BEYOND = 1 << 16
 LINES_A_SECOND = 5
 
 
-def with_order(plan, order):
-    """The plan with another order."""
-    text, count = re.subn(r"(?ms)^order *= *\[.*?\]", f"order = {order}", plan)
-    return text if count else f"order = {order}\n{plan}"
+def with_order(plan, schedule):
+    """The plan with another schedule."""
+    text, count = re.subn(r"(?ms)^order *= *\[.*?\]", f"order = {schedule}", plan)
+    return text if count else f"order = {schedule}\n{plan}"
 
 
 class Replay:
-    """A replay of a plan in an order: the turns' lines, and the map."""
+    """A replay of a plan in a schedule: the turns' lines, and the map."""
 
-    def __init__(self, plan, order):
-        status, out, err = run(HOST, ["replay"], with_order(plan, order))
-        assert (status, err) == (0, ""), (status, err, order)
+    def __init__(self, plan, schedule):
+        status, out, err = run(HOST, ["replay"], with_order(plan, schedule))
+        assert (status, err) == (0, ""), (status, err, schedule)
         lines = out.splitlines(keepends=True)
-        self.turns, self.map = lines[: len(order)], "".join(lines[len(order) :])
+        self.turns, self.map = lines[: len(schedule)], "".join(lines[len(schedule) :])
 
     def ends(self):
         """Each step that is used up: its build, its place, its text, and the refusal or `ok`."""
@@ -80,10 +80,10 @@ class GivingUp(Replay):
     is put in their place. The plan is replayed again, the earliest refusal first: the abort decides what others get after it.
     """
 
-    def __init__(self, plan, order):
+    def __init__(self, plan, schedule):
         self.cuts = {}
         while True:
-            super().__init__(self.cut(plan), order)
+            super().__init__(self.cut(plan), schedule)
             refused = [end for end in super().ends() if end[3] != "ok" and end[0] not in self.cuts]
             if not refused:
                 return
@@ -116,13 +116,13 @@ def left_behind(plan, builds, prefix, replay):
     return [build for build in range(builds) if not replay(plan, [*prefix, build]).turns[-1].endswith(" - idle\n")]
 
 
-def orders_of(plan, builds, replay, prefix=()):
+def schedules_of(plan, builds, replay, prefix=()):
     """Each schedule of the plan that begins so, the lowest first, with its replay."""
     left = left_behind(plan, builds, prefix, replay)
     if not left:
         yield list(prefix), replay(plan, list(prefix))
     for build in left:
-        yield from orders_of(plan, builds, replay, (*prefix, build))
+        yield from schedules_of(plan, builds, replay, (*prefix, build))
 
 
 # The options of `explore` for what builds do after a refusal, and the replays that do so.
@@ -132,54 +132,54 @@ WAYS = (((), Replay), (("--give-up",), GivingUp))
 class Shown(dict):
     """The number of schedules that show a thing, and the first of them."""
 
-    def add(self, thing, order):
-        count, first = self.get(thing, (0, order))
+    def add(self, thing, schedule):
+        count, first = self.get(thing, (0, schedule))
         self[thing] = (count + 1, first)
 
-    def text(self, thing, orders):
+    def text(self, thing, schedules):
         count, first = self[thing]
-        return " in all\n" if count == orders else f" in {count}, order = {first}\n"
+        return " in all\n" if count == schedules else f" in {count}, order = {first}\n"
 
 
 class Totals:
     """The outcomes of schedules."""
 
     def __init__(self, builds):
-        self.builds, self.orders = builds, 0
+        self.builds, self.schedules = builds, 0
         self.wholes, self.ends, self.smooth, self.maps = Shown(), Shown(), Shown(), Shown()
 
-    def add(self, order, replay):
-        self.orders += 1
+    def add(self, schedule, replay):
+        self.schedules += 1
         refused = set()
         for build, place, text, answer in replay.ends():
-            self.ends.add((build, place, text, answer), order)
+            self.ends.add((build, place, text, answer), schedule)
             if answer != "ok":
                 refused.add(build)
-        self.wholes.add("some step refused" if refused else "no step refused", order)
+        self.wholes.add("some step refused" if refused else "no step refused", schedule)
         for build in set(range(self.builds)) - refused:
-            self.smooth.add(build, order)
-        self.maps.add(replay.map, order)
+            self.smooth.add(build, schedule)
+        self.maps.add(replay.map, schedule)
 
     def lines(self):
         for words in self.wholes:
-            yield words + self.wholes.text(words, self.orders)
+            yield words + self.wholes.text(words, self.schedules)
         # of one step the ends come in the sequence in which schedules first show them
         for end in sorted(self.ends, key=lambda end: end[:2]):
-            yield words_of(end) + self.ends.text(end, self.orders)
+            yield words_of(end) + self.ends.text(end, self.schedules)
         for build in range(self.builds):
-            yield f"never refused {build}" + (self.smooth.text(build, self.orders) if build in self.smooth else " in 0\n")
+            yield f"never refused {build}" + (self.smooth.text(build, self.schedules) if build in self.smooth else " in 0\n")
         for map_text in self.maps:
-            yield "map" + self.maps.text(map_text, self.orders) + map_text
+            yield "map" + self.maps.text(map_text, self.schedules) + map_text
 
 
 def text_of(plan, builds, most, replay):
     """The text that `explore` has to write; none if there are more schedules."""
     totals = Totals(builds)
-    for order, replayed in orders_of(plan, builds, replay):
-        if totals.orders == most:
+    for schedule, replayed in schedules_of(plan, builds, replay):
+        if totals.schedules == most:
             return None
-        totals.add(order, replayed)
-    return f"orders {totals.orders}\n" + "".join(totals.lines())
+        totals.add(schedule, replayed)
+    return f"schedules {totals.schedules}\n" + "".join(totals.lines())
 
 
 def numbers_of(seed):
@@ -207,21 +207,21 @@ def text_of_sample(plan, builds, count, seed, replay):
     """The text that `explore --sample --seed` has to write."""
     numbers, totals = numbers_of(seed), Totals(builds)
     for _ in range(count):
-        order = []
-        while left := left_behind(plan, builds, order, replay):
-            order.append(left[next(numbers) % len(left)])
-        totals.add(order, replay(plan, order))
-    return f"orders drawn {count}\n" + "".join(totals.lines())
+        schedule = []
+        while left := left_behind(plan, builds, schedule, replay):
+            schedule.append(left[next(numbers) % len(left)])
+        totals.add(schedule, replay(plan, schedule))
+    return f"schedules drawn {count}\n" + "".join(totals.lines())
 
 
 def plan_of(builds, **settings):
-    """A plan of these builds' steps, with any order."""
+    """A plan of these builds' steps, with any schedule."""
     head = "".join(f"{name} = {value}\n" for name, value in {"pages": 16, "vmids": 2, **settings}.items())
     return head + "order = [0]\n" + "".join(f"[[build]]\nsteps = {list(steps)}\n".replace("'", '"') for steps in builds)
 
 
 def shows(replay, words, rest):
-    """Whether a replay shows what a line says of its order. `rest` is the text below the line."""
+    """Whether a replay shows what a line says of its schedule. `rest` is the text below the line."""
     ends = list(replay.ends())
     refused = {build for build, _, _, answer in ends if answer != "ok"}
     match words.split(" ", 2):
@@ -236,8 +236,8 @@ def shows(replay, words, rest):
     return words in map(words_of, ends)
 
 
-def of_first_orders(name, plan, words, replay):
-    """The first order of each line, replayed: it shows what the line says."""
+def of_first_schedules(name, plan, words, replay):
+    """The first schedule of each line, replayed: it shows what the line says."""
     status, out, err = run(VIEW, words, plan)
     yield f"{name}, status", (status, err), (0, "")
     for line in re.finditer(r"(?m)^(.*) in \d+, order = (\[.*\])\n", out):
@@ -247,7 +247,7 @@ def of_first_orders(name, plan, words, replay):
 def of_plan(name, plan, builds, most=MOST):
     for words, replay in WAYS:
         name, words = f"{name} {words}", ["explore", *words]
-        yield from of_first_orders(name, plan, words, replay)
+        yield from of_first_schedules(name, plan, words, replay)
         if wanted := text_of(plan, builds, most, replay):
             yield name, run(VIEW, words, plan), (0, wanted, "")
 
@@ -264,14 +264,14 @@ def of_counts():
         plan = plan_of([["take 0"] + ["fill 0 7"] * (length - 1) for length in lengths], pages=64)
         count = math.factorial(sum(lengths)) // math.prod(map(math.factorial, lengths))
         status, out, err = run(VIEW, ["explore"], plan)
-        yield f"steps {lengths}", (status, out.split("\n", 1)[0], err), (0, f"orders {count}", "")
+        yield f"steps {lengths}", (status, out.split("\n", 1)[0], err), (0, f"schedules {count}", "")
     # (a build's take is the only step that what another did has to do with: which of two granules it gets)
     plan = plan_of([["take 0", "fill 0 7"], ["take 0", "fill 0 7"]])
     states = 1 + 2 + 4 + 4 + 2
-    for most, first in ((states, "orders 6"), (states - 1, f"states more than {states - 1}"), (0, "states more than 0")):
+    for most, first in ((states, "schedules 6"), (states - 1, f"states more than {states - 1}"), (0, "states more than 0")):
         status, out, err = run(VIEW, ["explore", "--most-states", str(most)], plan)
         yield f"{most} states", (status, out.split("\n", 1)[0], err), (0, first, "")
-        yield f"{most} states, lines", out.count("\n") > 1, first == "orders 6"
+        yield f"{most} states, lines", out.count("\n") > 1, first == "schedules 6"
 
 
 def random_steps(source, length):
@@ -286,18 +286,18 @@ def of_random_plan(number):
     source = random.Random(number)
     builds = [random_steps(source, source.randrange(1, 7)) for _ in range(source.randrange(1, 4))]
     plan = plan_of(builds, pages=source.choice([4, 8, 16]), vmids=source.choice([1, 2]))
-    yield from of_plan("all orders", plan, len(builds))
+    yield from of_plan("all schedules", plan, len(builds))
     if number < 5:
-        yield from of_sample("some orders", plan, len(builds), 12, number * 1000003)
+        yield from of_sample("some schedules", plan, len(builds), 12, number * 1000003)
 
 
 def of_options():
     """Calls with one option alone, and with more to be drawn than may be."""
     plan = plan_of([["take 0"], ["take 1"]])
     for words, first in (
-        (["--seed", "4294967295"], "orders drawn 1000"),
-        (["--sample", "7"], "orders drawn 7"),
-        (["--sample", "7", "--most-states", "1"], "orders drawn 7"),
+        (["--seed", "4294967295"], "schedules drawn 1000"),
+        (["--sample", "7"], "schedules drawn 7"),
+        (["--sample", "7", "--most-states", "1"], "schedules drawn 7"),
         (["--most-states", "1"], "states more than 1"),
     ):
         status, out, err = run(VIEW, ["explore", *words], plan)
@@ -354,14 +354,14 @@ def of_progress():
     status, out, told, took = on_a_terminal(words, plan)
     yield f"{words}, on a terminal", (status, out, ""), run(VIEW, words, plan)
     first, *lines, last = told.split(CLEARED)
-    behind = f" of {count} orders run"
+    behind = f" of {count} schedules run"
     numbers = [int(line.removesuffix(behind)) for line in lines]
     yield f"{words}, before and after", (first, last), ("", "")
     yield f"{words}, lines", [f"{number}{behind}" for number in numbers], lines
     yield f"{words}, numbers rise", [*numbers, count], sorted({*numbers, count})
     yield f"{words}, how many lines", 2 <= len(lines) <= LINES_A_SECOND * took, True
     plan = plan_of([["take 0"]] * 2, pages=64)
-    yield "all orders, on a terminal", on_a_terminal(["explore"], plan)[2], ""
+    yield "all schedules, on a terminal", on_a_terminal(["explore"], plan)[2], ""
 
 
 # ---- order
@@ -376,9 +376,9 @@ def without_order(plan):
     return re.sub(r"(?ms)^order = \[.*?\]", "order", plan)
 
 
-def in_rotation(order):
+def in_rotation(schedule):
     """The same turns in rotation, as each build has as many."""
-    left, at = Counter(order), 0
+    left, at = Counter(schedule), 0
     while +left:
         build = min(+left, key=lambda build: (build < at, build))
         left[build] -= 1
@@ -406,7 +406,7 @@ def of_whole_order(name, plan, words):
     yield f"{name}, once more", run(VIEW, ["order", *words], text), (0, text, "")
 
 
-def of_stored_orders():
+def of_stored_schedules():
     for path in sorted((TOP / "tests/reordered").glob("*.toml")):
         for words, suffix in ([], ".txt"), (["--one-by-one"], ".one-by-one.txt"):
             if path.with_suffix(suffix).exists():
@@ -428,11 +428,11 @@ def of_no_order():
 # ---- tests
 
 
-ALONE = (of_counts, of_progress, of_options, of_alike_refusals, of_stored_orders, of_no_order)
+ALONE = (of_counts, of_progress, of_options, of_alike_refusals, of_stored_schedules, of_no_order)
 
 
 @pytest.mark.parametrize("cases", ALONE, ids=lambda it: it.__name__[3:])
-def test_orders(check, cases):
+def test_schedules(check, cases):
     check.all(cases())
 
 

@@ -76,32 +76,32 @@ def each_schedule(run: Run, turns: tuple[int, ...] = ()):
 class Shown(dict):
     """In how many schedules a thing is, and the first of them."""
 
-    def add(self, thing, order: list[int]) -> None:
-        count, first = self.get(thing, (0, order))
+    def add(self, thing, schedule: list[int]) -> None:
+        count, first = self.get(thing, (0, schedule))
         self[thing] = (count + 1, first)
 
 
 def one_by_one(text: str, gives_up: bool = False) -> str | None:
     """The text that `explore` has to print of a plan, by a run of each schedule; none if there are too many."""
     steps = [build["steps"] for build in tomllib.loads(text)["build"]]
-    orders, wholes, ends, smooth, maps = 0, Shown(), Shown(), Shown(), Shown()
-    for order, ended in each_schedule(Run(text, [], gives_up)):
-        orders += 1
-        if orders > MOST:
+    schedules, wholes, ends, smooth, maps = 0, Shown(), Shown(), Shown(), Shown()
+    for schedule, ended in each_schedule(Run(text, [], gives_up)):
+        schedules += 1
+        if schedules > MOST:
             return None
         refused = {end[0] for end in ended.ends if end[2] != "ok"}
-        wholes.add("some step refused" if refused else "no step refused", order)
+        wholes.add("some step refused" if refused else "no step refused", schedule)
         for end in ended.ends:
-            ends.add(end, order)
+            ends.add(end, schedule)
         for build in set(range(len(steps))) - refused:
-            smooth.add(build, order)
-        maps.add(ended.map(), order)
+            smooth.add(build, schedule)
+        maps.add(ended.map(), schedule)
 
     def shown(thing) -> str:
         count, first = thing
-        return " in all\n" if count == orders else f" in {count}, order = {first}\n"
+        return " in all\n" if count == schedules else f" in {count}, order = {first}\n"
 
-    rows = [f"orders {orders}\n"]
+    rows = [f"schedules {schedules}\n"]
     rows += [words + shown(wholes[words]) for words in wholes]
     # (a stable sort: of one step the ends stay in the sequence in which schedules first show them)
     for build in range(len(steps)):
@@ -181,7 +181,7 @@ def of_plan(name: str, text: str):
         yield f"{name}, giving up, each schedule", graph.text(), wanted
         yield f"{name}, giving up, exactly", Graph(text, gives_up=True, exact=True).text(), wanted
     graph = Graph(text)
-    if graph.orders <= FEW:
+    if graph.schedules <= FEW:
         build, last = 0, len(graph.steps[0]) - 1
         yield f"{name}, a witness", graph.refused(build, last), shortest(text, refuses(build, last))
         for build in range(len(graph.steps)):
@@ -196,9 +196,9 @@ def of_refusals(name: str, text: str):
     refused = sorted({end[:2] for end in graph.ends() if end[2] != "ok"})
     for build, step in refused:
         status, out, err = run(VIEW, ["explore", "--refused", f"{build}:{step}"], text)
-        order = graph.refused(build, step)
-        yield f"{name}, to {build}:{step}", (status, err, tomllib.loads(out)), (0, "", tomllib.loads(text) | {"order": order})
-        last = run(HOST, ["replay"], out)[1].splitlines()[len(order) - 1]
+        schedule = graph.refused(build, step)
+        yield f"{name}, to {build}:{step}", (status, err, tomllib.loads(out)), (0, "", tomllib.loads(text) | {"order": schedule})
+        last = run(HOST, ["replay"], out)[1].splitlines()[len(schedule) - 1]
         yield f"{name}, {build}:{step} is refused", last.startswith(f"{build} {graph.steps[build][step]} = no "), True
     others = ((build, step) for build, steps in enumerate(graph.steps) for step in range(len(steps) + 1))
     build, step = next(it for it in others if it not in refused)
@@ -212,7 +212,7 @@ def of_running_rec():
     yield from of_plan("a REC that runs", text)
     told = run(VIEW, ["explore", "--give-up"], text)[1].splitlines()
     # (ten turns of build 0, the last but one refused, and one of build 1 before, between or after them)
-    for line in ("orders 11", "step 0 8 take 4 = no 11 NoBlock 4 in all", "give up 0 = no 8 RecRunning in all", "0 page 2 REC", "free 11"):
+    for line in ("schedules 11", "step 0 8 take 4 = no 11 NoBlock 4 in all", "give up 0 = no 8 RecRunning in all", "0 page 2 REC", "free 11"):
         yield f"a REC that runs, {line}", line in told, True
     yield "a REC that runs, the step that is left out", [line for line in told if line.startswith("step 0 9")], []
 
@@ -221,12 +221,12 @@ def test_running_rec(check):
     check.all(of_running_rec())
 
 
-def with_answer(text: str, words: list[str], order: list[int] | None, never: str):
+def with_answer(text: str, words: list[str], schedule: list[int] | None, never: str):
     """The printed and the expected output: the plan with this schedule, or the line that there is none; and its replay."""
     status, out, err = run(VIEW, ["explore", *words], text)
-    if order is None:
+    if schedule is None:
         return (status, out, err), (0, never, ""), []
-    wanted = (0, "", tomllib.loads(text) | {"order": order})
+    wanted = (0, "", tomllib.loads(text) | {"order": schedule})
     return (status, err, tomllib.loads(out)), wanted, run(HOST, ["replay"], out)[1].splitlines()
 
 
@@ -234,11 +234,11 @@ def of_waits(name: str, text: str):
     """The plan with the shortest schedule after which each build waits, and a build that the plan lacks."""
     graph = Graph(text)
     for build in range(len(graph.steps) + 1):
-        order = graph.waiting(build)
-        printed, wanted, lines = with_answer(text, ["--waiting", str(build)], order, f"build {build} waiting in 0\n")
+        schedule = graph.waiting(build)
+        printed, wanted, lines = with_answer(text, ["--waiting", str(build)], schedule, f"build {build} waiting in 0\n")
         yield f"{name}, build {build} waits", printed, wanted
-        if order is not None:
-            turn, after = lines[len(order) - 1], lines[len(order) :]
+        if schedule is not None:
+            turn, after = lines[len(schedule) - 1], lines[len(schedule) :]
             yield f"{name}, build {build} is refused", turn.split(" = ")[1].split()[:2] in (["no", "11"], ["no", "12"]), True
             yield f"{name}, build {build} has the turn", turn.split()[0], str(build)
             idle = [it for it in range(len(graph.steps)) if it != build and not any(row.startswith(f"{it} page ") for row in after)]
@@ -250,11 +250,11 @@ def of_leases(name: str, text: str):
     graph = Graph(text)
     most = graph.most_leased()
     for granules in sorted({1, max(1, most // 2), max(1, most), most + 1}):
-        order = graph.leased(granules)
-        printed, wanted, lines = with_answer(text, ["--leased", str(granules)], order, f"leased {granules} in 0\n")
+        schedule = graph.leased(granules)
+        printed, wanted, lines = with_answer(text, ["--leased", str(granules)], schedule, f"leased {granules} in 0\n")
         yield f"{name}, {granules} leased", printed, wanted
-        if order is not None:
-            leased = sum(" page " in row for row in lines[len(order) :])
+        if schedule is not None:
+            leased = sum(" page " in row for row in lines[len(schedule) :])
             yield f"{name}, at least {granules} are leased", leased >= granules, True
             free = int(lines[-1].removeprefix("free "))
             yield f"{name}, {granules} leased, the others are free", leased + free, graph.machine.pages
@@ -286,8 +286,8 @@ ONE_VMID = plan_of([REALM, REALM, ["take 0"]], vmids=1)
 
 def test_a_build_waits_for_a_vmid(check):
     # By hand: four turns each of builds 0 and 1, so that the second realm finds no VMID. Build 2 holds nothing.
-    order = [0, 0, 0, 0, 1, 1, 1, 1]
-    plan = tomllib.loads(ONE_VMID) | {"order": order}
+    schedule = [0, 0, 0, 0, 1, 1, 1, 1]
+    plan = tomllib.loads(ONE_VMID) | {"order": schedule}
     check("for a VMID", tomllib.loads(run(VIEW, ["explore", "--waiting", "1"], ONE_VMID)[1]), plan)
     check("build 2 never", run(VIEW, ["explore", "--waiting", "2"], ONE_VMID), (0, "build 2 waiting in 0\n", ""))
 

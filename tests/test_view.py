@@ -397,8 +397,8 @@ def test_files(check):
     status, wanted, _ = run(VIEW, ["check"], plan)
     check("check FILE", run(VIEW, ["check", path], b"", cwd=TOP), (status, wanted.replace(b"plan:", path.encode() + b":"), b""))
     check("check -", run(VIEW, ["check", "-"], plan), (status, wanted, b""))
-    orders = "plans/some-orders.toml"
-    check("explore FILE", run(VIEW, ["explore", orders], cwd=TOP), run(VIEW, ["explore"], (TOP / orders).read_bytes()))
+    explored = "plans/some-orders.toml"
+    check("explore FILE", run(VIEW, ["explore", explored], cwd=TOP), run(VIEW, ["explore"], (TOP / explored).read_bytes()))
     _, history, _ = run(VIEW, ["history"], plan)
     with tempfile.NamedTemporaryFile(suffix=".history") as file:
         file.write(history)
