@@ -10,6 +10,7 @@ use rmm_granules::{Granules, granule_named};
 use rmm_model::{RmmGranule, aux_address};
 
 // Replaces the attributes of a granule, and zeros its page.
+#[inline(always)]
 fn wipe<S: PageStore>(granules: &mut Granules<S>, granule: Gran, kept: &RmmGranule)
     requires inside { granule < granule_count granules.old }
     requires plain { realm_of kept.now.state ≡ None }
@@ -26,6 +27,7 @@ fn wipe<S: PageStore>(granules: &mut Granules<S>, granule: Gran, kept: &RmmGranu
 }
 
 // Auxiliary granule k of a REC, if the address for it in the REC's page lies in the machine.
+#[inline(always)]
 fn aux_granule<S: PageStore>(granules: &Granules<S>, rec: Gran, k: u8) -> Option<Gran>
     requires inside { rec < granule_count granules.now }
     requires below { k < 16 }
@@ -36,6 +38,7 @@ fn aux_granule<S: PageStore>(granules: &Granules<S>, rec: Gran, k: u8) -> Option
 }
 
 // Replaces the attributes of auxiliary granule k of a REC, and zeros its page.
+#[inline(always)]
 fn set_aux_granule<S: PageStore>(granules: &mut Granules<S>, rec: Gran, kept: &RmmGranule, k: u8)
     requires inside { rec < granule_count granules.old }
     requires plain { realm_of kept.now.state ≡ None }
@@ -50,6 +53,7 @@ fn set_aux_granule<S: PageStore>(granules: &mut Granules<S>, rec: Gran, kept: &R
 }
 
 // Replaces the attributes of the first `count` auxiliary granules of a REC, and zeros their pages.
+#[inline(always)]
 pub fn set_aux<S: PageStore>(granules: &mut Granules<S>, rec: Gran, kept: &RmmGranule, count: u8)
     requires inside { rec < granule_count granules.old }
     requires plain { realm_of kept.now.state ≡ None }

@@ -29,6 +29,7 @@ pub fn error_rec(condition: Condition) -> FailedCondition
 }
 
 // Returns the REC that an address names, or the failed condition.
+#[inline(always)]
 pub fn rec_of<S: PageStore>(
     granules: &Granules<S>,
     address: u64,

@@ -24,6 +24,7 @@ fn leave_realm<S: PageStore>(granules: &mut Granules<S>, owner: Option<Gran>)
 }
 
 // Returns the granule of the REC that RMI_REC_DESTROY destroys, or the failed condition.
+#[inline(always)]
 #[tactic(auto, unfolding(rmm_model::specs::Command::RecDestroy::rec_destroy))]
 fn find_ready<S: PageStore>(granules: &Granules<S>, rec: u64) -> Result<Gran, FailedCondition>
     ensures refusal { refusal_in result ≡ first_failing (command.rec_destroy rec granules.now).checks }
