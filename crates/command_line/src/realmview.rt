@@ -5,10 +5,10 @@ ghost use Rattle.command_line.specs.Realmview.{after_refusal, question_asked, qu
 use crate::options::build_of;
 use crate::table::{Opt, Program, Subcommand, given_file};
 use crate::{BaseAddress, Invocation};
-use clap::error::ErrorKind;
 use clap::{ArgMatches, Error};
 use granule_addr::BuildId;
 use std::alloc::{AllocError, Global};
+use std::fmt;
 
 /// The request that a command line of `realmview` makes.
 #[derive(Clone, Copy)]
@@ -382,6 +382,12 @@ const REALMVIEW: Program = Program {
     ],
 };
 
+// The description of `realmview`. Only this function names the table, since a check reads the whole table in each
+// function that does.
+fn realmview() -> Program {
+    REALMVIEW
+}
+
 // The build that the matched words ask to leave out, if they name one.
 fn erased(matches: &ArgMatches) -> Option<BuildId> {
     build_of(matches.get_one("erase"))
@@ -464,23 +470,34 @@ fn asked_by(name: &str, matches: &ArgMatches) -> Result<ViewSubcommand, BadOptio
     }
 }
 
+// Returns the request of the matched words, or an error.
+fn asked_of(matches: &ArgMatches) -> Result<ViewSubcommand, BadOption> {
+    match matches.subcommand() {
+        Some((name, found)) => asked_by(name, found),
+        None => Ok(ViewSubcommand::Check),
+    }
+}
+
+impl fmt::Display for BadOption {
+    fn fmt<W: fmt::Write>(&self, f: &mut fmt::Formatter<W>) -> fmt::Result {
+        match self {
+            BadOption::SampleAboveMost { sample } => {
+                write!(f, "--sample {sample} is above {MOST_DRAWN}")
+            }
+            BadOption::NoBase => f.write_str(NO_BASE),
+            BadOption::NoStep => f.write_str(NO_STEP),
+            BadOption::GiveUpInPlan => f.write_str(GIVE_UP_IN_PLAN),
+            BadOption::GranulesOutOfRange { granules } => {
+                write!(f, "--leased {granules} is not from 1 to {MOST_GRANULES}")
+            }
+            BadOption::TwoQuestions => f.write_str(TWO_QUESTIONS),
+        }
+    }
+}
+
 // Returns the error that explains why options are refused.
 fn bad_option(alloc: Global, reason: BadOption) -> Result<Error, AllocError> {
-    let message = match reason {
-        BadOption::SampleAboveMost { sample } => {
-            format!(in alloc; "--sample {sample} is above {MOST_DRAWN}")?
-        }
-        BadOption::NoBase => String::from_str(alloc, NO_BASE)?,
-        BadOption::NoStep => String::from_str(alloc, NO_STEP)?,
-        BadOption::GiveUpInPlan => String::from_str(alloc, GIVE_UP_IN_PLAN)?,
-        BadOption::GranulesOutOfRange { granules } => {
-            format!(in alloc; "--leased {granules} is not from 1 to {MOST_GRANULES}")?
-        }
-        BadOption::TwoQuestions => String::from_str(alloc, TWO_QUESTIONS)?,
-    };
-    REALMVIEW
-        .command(alloc)?
-        .error(ErrorKind::ValueValidation, &message)
+    realmview().error(alloc, &format!(in alloc; "{reason}")?)
 }
 
 impl ViewSubcommand {
@@ -490,12 +507,8 @@ impl ViewSubcommand {
         alloc: Global,
         words: &'a [String],
     ) -> Result<Invocation<'a, ViewSubcommand>, Error> {
-        let matches = REALMVIEW.matched(alloc, words)?;
-        let asked = match matches.subcommand() {
-            Some((name, found)) => asked_by(name, found),
-            None => Ok(ViewSubcommand::Check),
-        };
-        match asked {
+        let matches = realmview().matched(alloc, words)?;
+        match asked_of(&matches) {
             Ok(asked) => Ok(Invocation {
                 asked,
                 file: given_file(&matches),

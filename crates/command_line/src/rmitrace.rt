@@ -4,7 +4,6 @@ ghost use Rattle.command_line.specs.Rmitrace.{is_name_in};
 
 use crate::Invocation;
 use crate::table::{Opt, Program, Subcommand, given_file};
-use clap::error::ErrorKind;
 use clap::{ArgMatches, Error};
 use rmm_trace::place::{FIRST_CHECK, WRITE};
 use rmm_trace::{find_name, name_text};
@@ -129,6 +128,12 @@ const RMITRACE: Program = Program {
     ],
 };
 
+// The description of `rmitrace`. Only this function names the table, since a check reads the whole table in each
+// function that does.
+fn rmitrace() -> Program {
+    RMITRACE
+}
+
 // ---- names
 
 impl NameSet {
@@ -186,9 +191,7 @@ fn unknown(alloc: Global, name: &str) -> Result<Error, AllocError> {
         }
         None => format!(in alloc; "no command or check is named '{name}'")?,
     };
-    RMITRACE
-        .command(alloc)?
-        .error(ErrorKind::ValueValidation, &message)
+    rmitrace().error(alloc, &message)
 }
 
 // Returns the set of the given names, or an error if any of them is a name that no line can have.
@@ -242,7 +245,7 @@ impl TraceSubcommand {
         alloc: Global,
         words: &'a [String],
     ) -> Result<Invocation<'a, TraceSubcommand>, Error> {
-        let matches = RMITRACE.matched(alloc, words)?;
+        let matches = rmitrace().matched(alloc, words)?;
         Ok(Invocation {
             asked: asked_by(alloc, &matches)?,
             file: given_file(&matches),

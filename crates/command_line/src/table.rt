@@ -1,6 +1,7 @@
 //! The command line of a program, described by a table of subcommands and options. A program has subcommands, and each
 //! subcommand reads a FILE and has options.
 use crate::options::{erase, named_file, program, subcommand};
+use clap::error::ErrorKind;
 use clap::{Arg, ArgAction, ArgMatches, Command, Error, value_parser};
 use std::alloc::{AllocError, Global};
 
@@ -94,13 +95,19 @@ impl Subcommand {
 }
 
 impl Program {
-    /// Returns the program's `clap` definition.
-    pub(crate) fn command<'a>(&self, alloc: Global) -> Result<Command<'a>, AllocError> {
+    // Returns the program's `clap` definition.
+    fn command<'a>(&self, alloc: Global) -> Result<Command<'a>, AllocError> {
         let mut command = program(alloc, self.name, self.about).after_help(self.examples);
         for row in self.subcommands {
             command = command.subcommand(row.command(alloc)?)?;
         }
         Ok(command)
+    }
+
+    /// Returns the error for options with a value that the program refuses. `clap` accepts it.
+    pub(crate) fn error(&self, alloc: Global, message: &str) -> Result<Error, AllocError> {
+        self.command(alloc)?
+            .error(ErrorKind::ValueValidation, message)
     }
 
     /// Parses a command line by the program's `clap` definition. The first word is the program's name. Returns the

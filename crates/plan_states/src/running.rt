@@ -1,5 +1,5 @@
 //! Runs of a plan from boot, in a given schedule. Single turns can follow a run.
-ghost use Rattle.std.specs.Prelude.{◌≡◌, ◌<◌, IfOk, IfErr, IfSome, length, option_map};
+ghost use Rattle.std.specs.Prelude.{◌≡◌, ◌<◌, [], IfOk, IfErr, IfSome, OnOk, length, option_map};
 ghost use Rattle.std.specs.Bool.{OnFalse};
 ghost use Rattle.host_ledger.specs.View.{world_of, pages_of_build};
 ghost use Rattle.realm_host.specs.Readings.{realm_at};
@@ -7,7 +7,7 @@ ghost use Rattle.realm_plan.specs.PlanView.{plan_view};
 ghost use Rattle.plan_states.specs.Exploration.{HasNoGraph};
 ghost use Rattle.plan_states.specs.Reached.{AreOver, IsReached};
 ghost use Rattle.plan_states.specs.Turned.{moved_after, moved_by, told_refusal};
-ghost use Rattle.plan_states.specs.TurnTaken.{IsTurnTaken};
+ghost use Rattle.plan_states.specs.TurnTaken.{IsTurnAfter, IsTurnTaken};
 
 use crate::turns::Moved;
 use buddy::BuddyArena;
@@ -98,6 +98,28 @@ pub(crate) fn pages_of<S: PageStore>(host: &Host<S>, build: usize) -> u16
     host.page_count(BuildId::new(build as u8).unwrap())
 }
 
+// Runs a plan in a given schedule, from boot on. `Mismatch`: some turn is of a build that has no step left then.
+fn follow(
+    host: &mut Host<BuddyArena>,
+    plan: &Plan,
+    places: &mut [PlanCursor; 8],
+    schedule: &[usize],
+) -> Result<(), Fault>
+    requires { IsReached (plan_view plan.now) [] (record { host = host.old; places = places.old }) }
+    ensures ok { OnOk result (IsReached (plan_view plan.now) schedule.now (record { host = host.new; places = places.new })) }
+    ensures err { IfErr result HasNoGraph }
+{
+    for build in schedule {
+        if *build >= plan.builds.len() {
+            return Err(Fault::Mismatch);
+        }
+        if take_turn(host, plan, places, *build).is_none() {
+            return Err(Fault::Mismatch);
+        }
+    }
+    Ok(())
+}
+
 /// Runs a plan on a fresh host in a given schedule.
 ///
 /// Errors. `Memory`: allocation failed. `Mismatch`: some turn is of a build that has no step left then.
@@ -107,15 +129,27 @@ pub(crate) fn run_to(alloc: Global, plan: &Plan, schedule: &[usize]) -> Result<R
 {
     let mut host = boot::<BuddyArena>(alloc, plan)?;
     let mut places = [PlanCursor::first(); 8];
-    for build in schedule {
-        if *build >= plan.builds.len() {
-            return Err(Fault::Mismatch);
-        }
-        if take_turn(&mut host, plan, &mut places, *build).is_none() {
-            return Err(Fault::Mismatch);
-        }
-    }
+    follow(&mut host, plan, &mut places, schedule)?;
     Ok(Running { host, places })
+}
+
+/// Runs a plan on a fresh host in a given schedule, and then runs the next turn of a build. Returns that turn's result.
+///
+/// Errors. `Memory`: allocation failed. `Mismatch`: some turn is of a build that has no step left then.
+pub(crate) fn turn_after(
+    alloc: Global,
+    plan: &Plan,
+    schedule: &[usize],
+    build: usize,
+) -> Result<TurnTaken, Fault>
+    ensures ok { IfOk result (IsTurnAfter (plan_view plan.now) schedule.now build) }
+    ensures err { IfErr result HasNoGraph }
+{
+    let mut running = run_to(alloc, plan, schedule)?;
+    match take(&mut running.host, plan, &mut running.places, build) {
+        Some(taken) => Ok(taken),
+        None => Err(Fault::Mismatch),
+    }
 }
 
 /// Whether any build of a plan has a step left to run.

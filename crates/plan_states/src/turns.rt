@@ -5,7 +5,7 @@ ghost use Rattle.plan_states.specs.Exploration.{HasNoGraph};
 ghost use Rattle.plan_states.specs.Reached.{IsEndOfRun};
 ghost use Rattle.plan_states.specs.Turned.{AreWith, end_taken};
 
-use crate::running::{TurnTaken, run_to, take};
+use crate::running::{TurnTaken, turn_after};
 use crate::state::{BuildState, State};
 use crate::step_end::EndOfStep;
 use host_commands::{Cmd, Step};
@@ -224,9 +224,9 @@ impl Turns {
         ensures ok { OnOk result (All (IsEndOfRun (plan_view plan.now)) self.new.ends.items) }
         ensures err { IfErr result HasNoGraph }
     {
-        let mut running = run_to(alloc, plan, schedule)?;
-        let Some(taken) = take(&mut running.host, plan, &mut running.places, build) else {
-            return Err(Fault::Mismatch);
+        let taken = match turn_after(alloc, plan, schedule, build) {
+            Ok(taken) => taken,
+            Err(fault) => return Err(fault),
         };
         let end = self.place_for(build, &taken)?;
         let first = first_of(taken.moved);

@@ -67,3 +67,19 @@ pub fn two(first: u32, second: u32) -> ArrayVec<u32, MOST_NUMBERS>
     numbers.push(second);
     numbers
 }
+
+pub fn three(first: u32, second: u32, third: u32) -> ArrayVec<u32, MOST_NUMBERS>
+    ensures { result.items ≡ first ∷ second ∷ third ∷ [] }
+{
+    let mut numbers = two(first, second);
+    numbers.push(third);
+    numbers
+}
+
+pub fn four(first: u32, second: u32, third: u32, fourth: u32) -> ArrayVec<u32, MOST_NUMBERS>
+    ensures { result.items ≡ first ∷ second ∷ third ∷ fourth ∷ [] }
+{
+    let mut numbers = three(first, second, third);
+    numbers.push(fourth);
+    numbers
+}

@@ -1,7 +1,8 @@
 //! The text of a step, in plans and in the output lines of turns.
 ghost use Rattle.std.specs.Prelude.{◌≡◌, ◌∷◌, ◌≤◌, length};
+ghost use Rattle.realm_plan.specs.StepsWritten.{written_cmd};
 
-use crate::operands::{MOST_NUMBERS, one};
+use crate::operands::{MOST_NUMBERS, four, one, three, two};
 use crate::step::PlanStep;
 use arrayvec::ArrayVec;
 use decimal_text::SpelledText;
@@ -20,6 +21,47 @@ fn rec_numbers(page: u16, auxiliaries: &[u16]) -> ArrayVec<u32, MOST_NUMBERS>
     numbers
 }
 
+// The word of a command in plans, and its numbers.
+fn word_and_numbers(cmd: &Cmd) -> (&'static str, ArrayVec<u32, MOST_NUMBERS>)
+    ensures word { result.0.now ≡ (written_cmd cmd.now).word }
+    ensures numbers { result.1.items ≡ (written_cmd cmd.now).numbers }
+{
+    match cmd {
+        Cmd::Take { order } => ("take", one(u32::from(*order))),
+        Cmd::Fill { page, value } => ("fill", two(u32::from(*page), u32::from(*value))),
+        Cmd::Peek { page, offset } => ("peek", two(u32::from(*page), u32::from(offset.number()))),
+        Cmd::Delegate { page } => ("delegate", one(u32::from(*page))),
+        Cmd::Realm { rd, root, width } => (
+            "realm",
+            three(u32::from(*rd), u32::from(*root), u32::from(*width)),
+        ),
+        Cmd::Rtt { page, ipa, level } => ("rtt", three(u32::from(*page), *ipa, u32::from(*level))),
+        Cmd::Ripas { ipa, count } => ("ripas", two(*ipa, u32::from(*count))),
+        Cmd::Data { page, ipa, source } => {
+            ("data", three(u32::from(*page), *ipa, u32::from(*source)))
+        }
+        Cmd::Unknown { page, ipa } => ("unknown", two(u32::from(*page), *ipa)),
+        Cmd::Rec { page, auxiliaries } => ("rec", rec_numbers(*page, auxiliaries.as_slice())),
+        Cmd::Activate => ("activate", ArrayVec::new()),
+        Cmd::Enter { number } => ("enter", one(u32::from(number.number()))),
+        Cmd::Exit { number } => ("exit", one(u32::from(number.number()))),
+        Cmd::Poke {
+            number,
+            ipa,
+            offset,
+            value,
+        } => (
+            "poke",
+            four(
+                u32::from(number.number()),
+                *ipa,
+                u32::from(offset.number()),
+                u32::from(*value),
+            ),
+        ),
+    }
+}
+
 // A command as plans spell it.
 #[derive(Clone, Copy)]
 struct CmdText<'a>(&'a Cmd);
@@ -31,33 +73,8 @@ impl fmt::Display for CmdText<'_> {
     ghost output = { λ c. Some (spelling_of (written_cmd c.0.now)) };
 
     fn fmt<W: fmt::Write>(&self, f: &mut fmt::Formatter<W>) -> fmt::Result {
-        match self.0 {
-            Cmd::Take { order } => write!(f, "take {order}"),
-            Cmd::Fill { page, value } => write!(f, "fill {page} {value}"),
-            Cmd::Peek { page, offset } => write!(f, "peek {page} {}", offset.number()),
-            Cmd::Delegate { page } => write!(f, "delegate {page}"),
-            Cmd::Realm { rd, root, width } => write!(f, "realm {rd} {root} {width}"),
-            Cmd::Rtt { page, ipa, level } => write!(f, "rtt {page} {ipa} {level}"),
-            Cmd::Ripas { ipa, count } => write!(f, "ripas {ipa} {count}"),
-            Cmd::Data { page, ipa, source } => write!(f, "data {page} {ipa} {source}"),
-            Cmd::Unknown { page, ipa } => write!(f, "unknown {page} {ipa}"),
-            Cmd::Rec { page, auxiliaries } => {
-                let numbers = rec_numbers(*page, auxiliaries.as_slice());
-                fmt::Display::fmt(&SpelledText("rec", numbers.as_slice()), f)
-            }
-            Cmd::Activate => f.write_str("activate"),
-            Cmd::Enter { number } => write!(f, "enter {}", number.number()),
-            Cmd::Exit { number } => write!(f, "exit {}", number.number()),
-            Cmd::Poke {
-                number,
-                ipa,
-                offset,
-                value,
-            } => {
-                let (number, offset) = (number.number(), offset.number());
-                write!(f, "poke {number} {ipa} {offset} {value}")
-            }
-        }
+        let (word, numbers) = word_and_numbers(self.0);
+        fmt::Display::fmt(&SpelledText(word, numbers.as_slice()), f)
     }
 }
 

@@ -4,7 +4,7 @@ use Rattle.std.proofs.lemmas.List.{take_all}
 use Rattle.realm_plan.specs.PlanView.{plan_view}
 use Rattle.plan_states.specs.Reached.{IsReached}
 use Rattle.plan_states.proofs.Reached.{reached_more}
-use Rattle.plan_states.proofs.running.run_to.Goals as goal
+use Rattle.plan_states.proofs.running.follow.Goals as goal
 
 pub loop-build-preserved : goal.loop-build-preserved
 loop-build-preserved c =
