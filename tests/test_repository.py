@@ -4,6 +4,7 @@ import configparser
 import io
 import os
 import shutil
+import types
 from typing import NamedTuple
 
 import pytest
@@ -25,6 +26,7 @@ if __name__ == "__main__":
 TOOLS = {
     "build": ["tools/build"],
     "check": ["tools/check", "realmhost"],
+    "costs": ["tools/costs", "realmhost"],
     "gate": ["tools/gate"],
     "library": ["tools/rmm-library"],
     "mutants": ["tests/mutants.py"],
@@ -142,6 +144,20 @@ def test_minutes_that_are_left(monkeypatch):
     it.say("two", "proved")
     assert out.getvalue().splitlines() == [
         "[ 5:00]  1 of 3  one: is kept, about 21 min left", "[15:00]  2 of 3  two: proved, about 11 min left",
+    ]
+
+
+def test_costs_by_function(capsys):
+    """A module takes the time since the one before it. Its parts count with it."""
+    costs = module_of(TOP / "tools/costs")
+    modules = {1: "specs.one.Line", 2: "proofs.read.line.Lts-2", 5: "proofs.read.line.Lts.View", 6: "proofs.read.line.Proof", 8: "proofs.ViewLine.TheLaws"}
+    log = ["7 1.5 openat(AT_FDCWD, \"/etc/hosts\", O_RDONLY) = 3"]
+    log += [f'7 {moment}.0 openat(AT_FDCWD, "/tmp/built/Rattle-one-{it}.oantt.tmp.7.1", O_WRONLY) = 3' for moment, it in modules.items()]
+    costs.tell(costs.modules_in(log, types.SimpleNamespace(at=lambda moment: 10 * moment)))
+    assert capsys.readouterr().out.splitlines() == [
+        "kinds: Lts 40.0, other 20.0, Proof 10.0",
+        "    50.0  read.line: Lts 40.0, Proof 10.0",
+        "    20.0  ViewLine.TheLaws: other 20.0",
     ]
 
 
