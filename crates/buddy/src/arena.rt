@@ -17,12 +17,17 @@ use std::alloc::Global;
 
 /// A buddy allocator whose pages are in one allocation. It has a list of free blocks for each order. The lists have the
 /// maximal free blocks, and no call searches a list.
-#[derive(Drop)]
 pub struct BuddyArena {
     pages: RawPages,
     index: FreeIndex,
     visits: u8,
     ghost sized: { IsSized pages index.flags },
+}
+
+impl Drop for BuddyArena {
+    fn drop(self) {
+        let BuddyArena { pages: _, index: _, visits: _ } = self;
+    }
 }
 
 impl BuddyArena {

@@ -27,10 +27,15 @@ use std::alloc::{AllocError, Global};
 use std::marker::Model;
 
 /// A shared host, with the number of events of each build in the history. No build is in abort.
-#[derive(Drop)]
 pub struct Kept<S: PageStore, L: Ledgers> {
     host: Host<S>,
     books: Books<L>,
+}
+
+impl<S: PageStore + Drop, L: Ledgers> Drop for Kept<S, L> {
+    fn drop(self) {
+        let Kept { host: _, books: _ } = self;
+    }
 }
 
 impl<S: PageStore, L: Ledgers> Model for Kept<S, L> {

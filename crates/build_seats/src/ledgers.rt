@@ -37,7 +37,6 @@ impl<L: Ledgers, const BUILD: u8> Ledger for LedgerOf<L, BUILD> {
 }
 
 /// The number of events of each build, kept under the lock of a shared host. The view is the list of these numbers.
-#[derive(Drop)]
 pub struct Books<L: Ledgers> {
     book0: Book<LedgerOf<L, 0>>,
     book1: Book<LedgerOf<L, 1>>,
@@ -47,6 +46,12 @@ pub struct Books<L: Ledgers> {
     book5: Book<LedgerOf<L, 5>>,
     book6: Book<LedgerOf<L, 6>>,
     book7: Book<LedgerOf<L, 7>>,
+}
+
+impl<L: Ledgers> Drop for Books<L> {
+    fn drop(self) {
+        let Books { book0: _, book1: _, book2: _, book3: _, book4: _, book5: _, book6: _, book7: _ } = self;
+    }
 }
 
 impl<L: Ledgers> Model for Books<L> {
@@ -97,7 +102,6 @@ impl<L: Ledgers> Books<L> {
 }
 
 // The sole share of the ledger of one build.
-#[derive(Drop)]
 enum Whole<L: Ledgers> {
     Build0(Share<LedgerOf<L, 0>>),
     Build1(Share<LedgerOf<L, 1>>),
@@ -107,6 +111,12 @@ enum Whole<L: Ledgers> {
     Build5(Share<LedgerOf<L, 5>>),
     Build6(Share<LedgerOf<L, 6>>),
     Build7(Share<LedgerOf<L, 7>>),
+}
+
+impl<L: Ledgers> Drop for Whole<L> {
+    fn drop(self) {
+        let (Whole::Build0(_) | Whole::Build1(_) | Whole::Build2(_) | Whole::Build3(_) | Whole::Build4(_) | Whole::Build5(_) | Whole::Build6(_) | Whole::Build7(_)) = self;
+    }
 }
 
 /// The only share of a build's ghost ledger, which counts the build's events. The view is the build and the count.

@@ -76,10 +76,15 @@ pub(crate) fn new_trails<L: Ledgers>(
 
 /// A build's session handle for a shared host. It has the build's pass, which counts the build's events in the history,
 /// and the list of these events.
-#[derive(Drop)]
 pub struct Seat<L: Ledgers> {
     pub(crate) pass: Pass<L>,
     pub(crate) trail: Trail<L>,
+}
+
+impl<L: Ledgers> Drop for Seat<L> {
+    fn drop(self) {
+        let Seat { pass: _, trail: _ } = self;
+    }
 }
 
 impl<L: Ledgers> Model for Seat<L> {

@@ -14,12 +14,17 @@ use std::sync::Wait;
 
 /// A worker that performs the steps of one build on a shared host. It has the build's seat and steps, and the answers
 /// that the worker got.
-#[derive(Drop)]
 pub struct Worker<L: Ledgers> {
     seat: Seat<L>,
     steps: Vec<Step>,
     report: Report,
     ended: bool,
+}
+
+impl<L: Ledgers> Drop for Worker<L> {
+    fn drop(self) {
+        let Worker { seat: _, steps: _, report: _, ended: _ } = self;
+    }
 }
 
 impl<L: Ledgers> Model for Worker<L> {

@@ -8,7 +8,6 @@ use granule_addr::{PageOff, RecNo};
 ///
 /// Pages are named by the build's own numbers, from 0 in the order of taking. IPA granules and levels are numbers as
 /// they were written: the RMM refuses one that no realm has.
-#[derive(Drop)]
 pub enum Cmd {
     /// Leases a block of 2^order pages.
     Take {
@@ -80,6 +79,27 @@ pub enum Cmd {
         offset: PageOff,
         value: u8,
     },
+}
+
+impl Drop for Cmd {
+    fn drop(self) {
+        match self {
+            Cmd::Take { order: _ }
+            | Cmd::Fill { page: _, value: _ }
+            | Cmd::Peek { page: _, offset: _ }
+            | Cmd::Delegate { page: _ }
+            | Cmd::Realm { rd: _, root: _, width: _ }
+            | Cmd::Rtt { page: _, ipa: _, level: _ }
+            | Cmd::Ripas { ipa: _, count: _ }
+            | Cmd::Data { page: _, ipa: _, source: _ }
+            | Cmd::Unknown { page: _, ipa: _ }
+            | Cmd::Rec { page: _, auxiliaries: _ }
+            | Cmd::Activate
+            | Cmd::Enter { number: _ }
+            | Cmd::Exit { number: _ }
+            | Cmd::Poke { number: _, ipa: _, offset: _, value: _ } => {}
+        }
+    }
 }
 
 /// A step of a build: a command, undo, abort, mark or rollback to a mark.

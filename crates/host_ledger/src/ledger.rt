@@ -25,7 +25,6 @@ use std::marker::Model;
 
 /// The ledger in which a host keeps its history and a record of each build. The history has the events of the builds in
 /// sequence.
-#[derive(Drop)]
 pub struct HostLedger {
     history: Vec<Event>,
     pub(crate) builds: Vec<Build>,
@@ -34,6 +33,12 @@ pub struct HostLedger {
     vmids: VmidPool,
     aux: u8,
     capacity: u16,
+}
+
+impl Drop for HostLedger {
+    fn drop(self) {
+        let HostLedger { history: _, builds: _, leases: _, holders: _, vmids: _, aux: _, capacity: _ } = self;
+    }
 }
 
 impl Model for HostLedger {

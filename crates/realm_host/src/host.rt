@@ -22,10 +22,15 @@ use std::marker::Model;
 
 /// A host for realm builds, with its RMM and its ledger. The host keeps all pages in a store of type `S`. All its
 /// memory is taken when it is booted.
-#[derive(Drop)]
 pub struct Host<S: PageStore> {
     pub(crate) monitor: Monitor<S>,
     pub(crate) ledger: HostLedger,
+}
+
+impl<S: PageStore + Drop> Drop for Host<S> {
+    fn drop(self) {
+        let Host { monitor: _, ledger: _ } = self;
+    }
 }
 
 impl<S: PageStore> Model for Host<S> {

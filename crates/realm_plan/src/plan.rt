@@ -17,7 +17,6 @@ use toml::Table;
 pub const MOST_BYTES: usize = 1_048_576;
 
 /// A plan: the sizes of a machine, the steps of its builds, and a schedule.
-#[derive(Drop)]
 pub struct Plan {
     pub pages: u16,
     pub vmids: u8,
@@ -42,6 +41,12 @@ pub struct Plan {
     pub ghost order_in_limits: { vec_len order ≤ 16384 },
     pub ghost turns_of_builds: { All (λ build. build < vec_len builds) order.items },
     pub ghost is_abort: { abort ≡ Whole Abort },
+}
+
+impl Drop for Plan {
+    fn drop(self) {
+        let Plan { pages: _, vmids: _, aux: _, history: _, builds: _, order: _, gives_up: _, abort: _ } = self;
+    }
 }
 
 impl Plan {

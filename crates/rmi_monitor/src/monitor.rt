@@ -18,7 +18,6 @@ use std::alloc::{AllocError, Global};
 use std::marker::Model;
 
 /// A Realm Management Monitor over a store of pages. All its memory is taken when it is built.
-#[derive(Drop)]
 pub struct Monitor<S: PageStore> {
     pub(crate) store: S,
     pub(crate) granules: GranuleTable,
@@ -31,6 +30,12 @@ pub struct Monitor<S: PageStore> {
     pub(crate) used: VmidSet,
     pub(crate) vmids: u8,
     pub(crate) aux: u8,
+}
+
+impl<S: PageStore + Drop> Drop for Monitor<S> {
+    fn drop(self) {
+        let Monitor { store: _, granules: _, realms: _, rec_counts: _, recs: _, used: _, vmids: _, aux: _ } = self;
+    }
 }
 
 impl<S: PageStore> Model for Monitor<S> {
