@@ -204,16 +204,16 @@ fn highest_page(step: &PlanStep) -> Option<u16> {
     let Step::Ask(cmd) = step.asked() else {
         return None;
     };
-    match cmd {
+    match &cmd {
         Cmd::Fill { page, .. }
         | Cmd::Peek { page, .. }
         | Cmd::Delegate { page }
         | Cmd::Rtt { page, .. }
-        | Cmd::Unknown { page, .. } => Some(page),
-        Cmd::Realm { rd, root, .. } => Some(rd.max(root)),
-        Cmd::Data { page, source, .. } => Some(page.max(source)),
+        | Cmd::Unknown { page, .. } => Some(*page),
+        Cmd::Realm { rd, root, .. } => Some((*rd).max(*root)),
+        Cmd::Data { page, source, .. } => Some((*page).max(*source)),
         Cmd::Rec { page, auxiliaries } => {
-            let mut highest = page;
+            let mut highest = *page;
             for auxiliary in auxiliaries.as_slice() {
                 highest = highest.max(*auxiliary);
             }

@@ -44,8 +44,8 @@ impl KnownState {
         for steps in &plan.builds {
             for step in steps {
                 match step.asked() {
-                    Step::Ask(Cmd::Take { order }) if order > MOST_ORDER => pages = usize::MAX,
-                    Step::Ask(Cmd::Take { order }) => {
+                    Step::Ask(Cmd::Take { order, .. }) if order > MOST_ORDER => pages = usize::MAX,
+                    Step::Ask(Cmd::Take { order, .. }) => {
                         pages = pages.saturating_add(block_len(order));
                     }
                     Step::Ask(Cmd::Realm { .. }) => realms = realms.saturating_add(1),
@@ -99,11 +99,11 @@ impl KnownState {
                 self.is_plain = false;
             }
             _ if !self.is_plain => {}
-            Cmd::Take { order } => {
+            Cmd::Take { order, .. } => {
                 self.pages = self.pages.saturating_add(block_len(order));
                 self.open();
             }
-            Cmd::Delegate { page } if (page as usize) < self.pages && !self.is_delegated(page) => {
+            Cmd::Delegate { page, .. } if (page as usize) < self.pages && !self.is_delegated(page) => {
                 self.delegated.push(page)?;
                 self.open();
             }
