@@ -62,7 +62,40 @@ impl<L: Ledgers> Model for Books<L> {
     ghost view = { λ b. b.book0.total ∷ b.book1.total ∷ b.book2.total ∷ b.book3.total ∷ b.book4.total ∷ b.book5.total ∷ b.book6.total ∷ b.book7.total ∷ [] };
 }
 
+// Adds to the amount of a ledger's only share. Both totals are the same before.
+fn add_whole<L: Ledger>(book: &mut Book<L>, share: &mut Share<L>, amount: u64)
+    requires parts { share.old.parts ≡ L.parts }
+    requires some { 0 < share.old.parts }
+    ensures same { book.old.total ≡ share.old.amount }
+    ensures total { book.new.total ≡ book.old.total + amount }
+    ensures amount { share.new.amount ≡ share.old.amount + amount }
+    ensures parts { share.new.parts ≡ share.old.parts }
+{
+    book.audit(share);
+    book.add(share, amount);
+}
+
 impl<L: Ledgers> Books<L> {
+    // Adds to a build's event count, both in its `Pass` and in `Books`. Both are the same before.
+    fn add(&mut self, pass: &mut Pass<L>, more: u64)
+        ensures book { self.new ≡ slice_set self.old pass.old.build (pass.old.count + more) }
+        ensures pass { pass.new ≡ record pass.old { count = pass.old.count + more } }
+        ensures build { pass.old.build < 8 }
+        ensures count { slice_index self.old pass.old.build ≡ pass.old.count }
+        ensures length { length self.old ≡ 8 }
+    {
+        match &mut pass.whole {
+            Whole::Build0(share) => add_whole(&mut self.book0, share, more),
+            Whole::Build1(share) => add_whole(&mut self.book1, share, more),
+            Whole::Build2(share) => add_whole(&mut self.book2, share, more),
+            Whole::Build3(share) => add_whole(&mut self.book3, share, more),
+            Whole::Build4(share) => add_whole(&mut self.book4, share, more),
+            Whole::Build5(share) => add_whole(&mut self.book5, share, more),
+            Whole::Build6(share) => add_whole(&mut self.book6, share, more),
+            Whole::Build7(share) => add_whole(&mut self.book7, share, more),
+        }
+    }
+
     /// Proves that a build's event count in `Books` equals the count of its `Pass`. Nothing changes.
     pub fn audit(&mut self, pass: &mut Pass<L>)
         ensures same { (self.new ≡ self.old) × (pass.new ≡ pass.old) }
@@ -70,16 +103,7 @@ impl<L: Ledgers> Books<L> {
         ensures count { slice_index self.old pass.old.build ≡ pass.old.count }
         ensures length { length self.old ≡ 8 }
     {
-        match &mut pass.whole {
-            Whole::Build0(share) => self.book0.audit(share),
-            Whole::Build1(share) => self.book1.audit(share),
-            Whole::Build2(share) => self.book2.audit(share),
-            Whole::Build3(share) => self.book3.audit(share),
-            Whole::Build4(share) => self.book4.audit(share),
-            Whole::Build5(share) => self.book5.audit(share),
-            Whole::Build6(share) => self.book6.audit(share),
-            Whole::Build7(share) => self.book7.audit(share),
-        }
+        self.add(pass, 0);
     }
 
     /// Adds one to a build's event count, both in its `Pass` and in `Books`.
@@ -87,17 +111,7 @@ impl<L: Ledgers> Books<L> {
         ensures book { self.new ≡ slice_set self.old pass.old.build (pass.old.count + 1) }
         ensures pass { pass.new ≡ record pass.old { count = pass.old.count + 1 } }
     {
-        self.audit(pass);
-        match &mut pass.whole {
-            Whole::Build0(share) => self.book0.add(share, 1),
-            Whole::Build1(share) => self.book1.add(share, 1),
-            Whole::Build2(share) => self.book2.add(share, 1),
-            Whole::Build3(share) => self.book3.add(share, 1),
-            Whole::Build4(share) => self.book4.add(share, 1),
-            Whole::Build5(share) => self.book5.add(share, 1),
-            Whole::Build6(share) => self.book6.add(share, 1),
-            Whole::Build7(share) => self.book7.add(share, 1),
-        }
+        self.add(pass, 1);
     }
 }
 
