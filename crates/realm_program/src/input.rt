@@ -1,5 +1,5 @@
 //! A function that reads a whole input into memory. At most one byte more than a plan may have is read.
-ghost use Rattle.std.specs.Prelude.{◌≡◌, ◌+◌, ◌≤◌, ◌↔◌, [], false, true, IfOk, IfSome, Err};
+ghost use Rattle.std.specs.Prelude.{◌≡◌, ◌+◌, ◌≤◌, ◌↔◌, [], false, true, IfOk, IfSome, OnOk, Err};
 ghost use Rattle.realm_program.specs.Whole.{kept_of};
 ghost use Rattle.checked_io.specs.declared.told.ReadError.TheVariants.{Device};
 
@@ -24,6 +24,33 @@ fn room(alloc: Global) -> Vec<u8>
     }
 }
 
+// Reads an input to its end, or up to `KEPT` bytes, into a list that is empty.
+fn read_into<R: Read>(bytes: &mut Vec<u8>, input: &mut Told<R>) -> Result<(), ReadError>
+    requires readable { input.old.failed ≡ false }
+    requires empty { bytes.old.items ≡ [] }
+    ensures told { (input.new.failed ≡ true) ↔ (result ≡ Err Device) }
+    ensures asked { input.new.reads ≤ input.old.reads + 1048578 }
+    ensures not_lowered { input.old.reads ≤ input.new.reads }
+    ensures bytes { OnOk result (IfSome (R.remaining input.old.device) (λ xs. bytes.new.items ≡ kept_of xs)) }
+{
+    let mut buf = [0u8; 4096];
+    for _ in 0..MOST_READS {
+        let room = (KEPT - bytes.len()).min(buf.len());
+        let part = &mut buf[..room];
+        let n = input.read(part)?;
+        if n == 0 {
+            return Ok(());
+        }
+        let Ok(()) = bytes.extend_from_slice(&part[..n]) else {
+            return Err(ReadError::Memory);
+        };
+        if bytes.len() >= KEPT {
+            return Ok(());
+        }
+    }
+    unreachable!()
+}
+
 /// Reads an input to its end, or up to 1,048,577 bytes. Returns the bytes.
 ///
 /// `Device` comes if a read failed, and `Memory` only if allocation failed.
@@ -35,20 +62,6 @@ pub fn read_whole<R: Read>(alloc: Global, input: &mut Told<R>) -> Result<Vec<u8>
     ensures bytes { IfOk result (λ v. IfSome (R.remaining input.old.device) (λ xs. v.items ≡ kept_of xs)) }
 {
     let mut bytes = room(alloc);
-    let mut buf = [0u8; 4096];
-    for _ in 0..MOST_READS {
-        let room = (KEPT - bytes.len()).min(buf.len());
-        let part = &mut buf[..room];
-        let n = input.read(part)?;
-        if n == 0 {
-            return Ok(bytes);
-        }
-        let Ok(()) = bytes.extend_from_slice(&part[..n]) else {
-            return Err(ReadError::Memory);
-        };
-        if bytes.len() >= KEPT {
-            return Ok(bytes);
-        }
-    }
-    unreachable!()
+    read_into(&mut bytes, input)?;
+    Ok(bytes)
 }

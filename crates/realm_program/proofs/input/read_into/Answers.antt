@@ -1,6 +1,6 @@
 use Rattle.std.proofs.Common.{◌≡◌, ◌<◌, ◌≤◌, length, length-take-le, take, [], arith}
 use Rattle.realm_program.proofs.Kept.{kept_at_limit, kept_at_end}
-use Rattle.realm_program.proofs.input.read_whole.Goals as goal
+use Rattle.realm_program.proofs.input.read_into.Goals as goal
 use Rattle.checked_io.proofs.Read.{consumes_more}
 
 pub returns-then-len-ge-KEPT-clause-bytes : goal.returns-then-len-ge-KEPT-clause-bytes
