@@ -26,7 +26,11 @@ pub struct BuddyArena {
 
 impl Drop for BuddyArena {
     fn drop(self) {
-        let BuddyArena { pages: _, index: _, visits: _ } = self;
+        let BuddyArena {
+            pages: _,
+            index: _,
+            visits: _,
+        } = self;
     }
 }
 

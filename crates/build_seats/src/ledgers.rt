@@ -50,7 +50,16 @@ pub struct Books<L: Ledgers> {
 
 impl<L: Ledgers> Drop for Books<L> {
     fn drop(self) {
-        let Books { book0: _, book1: _, book2: _, book3: _, book4: _, book5: _, book6: _, book7: _ } = self;
+        let Books {
+            book0: _,
+            book1: _,
+            book2: _,
+            book3: _,
+            book4: _,
+            book5: _,
+            book6: _,
+            book7: _,
+        } = self;
     }
 }
 
@@ -129,7 +138,16 @@ enum Whole<L: Ledgers> {
 
 impl<L: Ledgers> Drop for Whole<L> {
     fn drop(self) {
-        let (Whole::Build0(_) | Whole::Build1(_) | Whole::Build2(_) | Whole::Build3(_) | Whole::Build4(_) | Whole::Build5(_) | Whole::Build6(_) | Whole::Build7(_)) = self;
+        match self {
+            Whole::Build0(_)
+            | Whole::Build1(_)
+            | Whole::Build2(_)
+            | Whole::Build3(_)
+            | Whole::Build4(_)
+            | Whole::Build5(_)
+            | Whole::Build6(_)
+            | Whole::Build7(_) => {}
+        }
     }
 }
 

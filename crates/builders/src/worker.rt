@@ -23,7 +23,12 @@ pub struct Worker<L: Ledgers> {
 
 impl<L: Ledgers> Drop for Worker<L> {
     fn drop(self) {
-        let Worker { seat: _, steps: _, report: _, ended: _ } = self;
+        let Worker {
+            seat: _,
+            steps: _,
+            report: _,
+            ended: _,
+        } = self;
     }
 }
 

@@ -88,16 +88,36 @@ impl Drop for Cmd {
             | Cmd::Fill { page: _, value: _ }
             | Cmd::Peek { page: _, offset: _ }
             | Cmd::Delegate { page: _ }
-            | Cmd::Realm { rd: _, root: _, width: _ }
-            | Cmd::Rtt { page: _, ipa: _, level: _ }
+            | Cmd::Realm {
+                rd: _,
+                root: _,
+                width: _,
+            }
+            | Cmd::Rtt {
+                page: _,
+                ipa: _,
+                level: _,
+            }
             | Cmd::Ripas { ipa: _, count: _ }
-            | Cmd::Data { page: _, ipa: _, source: _ }
+            | Cmd::Data {
+                page: _,
+                ipa: _,
+                source: _,
+            }
             | Cmd::Unknown { page: _, ipa: _ }
-            | Cmd::Rec { page: _, auxiliaries: _ }
+            | Cmd::Rec {
+                page: _,
+                auxiliaries: _,
+            }
             | Cmd::Activate
             | Cmd::Enter { number: _ }
             | Cmd::Exit { number: _ }
-            | Cmd::Poke { number: _, ipa: _, offset: _, value: _ } => {}
+            | Cmd::Poke {
+                number: _,
+                ipa: _,
+                offset: _,
+                value: _,
+            } => {}
         }
     }
 }

@@ -37,7 +37,15 @@ pub struct HostLedger {
 
 impl Drop for HostLedger {
     fn drop(self) {
-        let HostLedger { history: _, builds: _, leases: _, holders: _, vmids: _, aux: _, capacity: _ } = self;
+        let HostLedger {
+            history: _,
+            builds: _,
+            leases: _,
+            holders: _,
+            vmids: _,
+            aux: _,
+            capacity: _,
+        } = self;
     }
 }
 

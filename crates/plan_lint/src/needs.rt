@@ -103,7 +103,8 @@ impl KnownState {
                 self.pages = self.pages.saturating_add(block_len(order));
                 self.open();
             }
-            Cmd::Delegate { page, .. } if (page as usize) < self.pages && !self.is_delegated(page) => {
+            Cmd::Delegate { page, .. }
+                if (page as usize) < self.pages && !self.is_delegated(page) => {
                 self.delegated.push(page)?;
                 self.open();
             }

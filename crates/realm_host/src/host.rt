@@ -29,7 +29,10 @@ pub struct Host<S: PageStore> {
 
 impl<S: PageStore + Drop> Drop for Host<S> {
     fn drop(self) {
-        let Host { monitor: _, ledger: _ } = self;
+        let Host {
+            monitor: _,
+            ledger: _,
+        } = self;
     }
 }
 

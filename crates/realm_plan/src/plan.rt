@@ -45,7 +45,16 @@ pub struct Plan {
 
 impl Drop for Plan {
     fn drop(self) {
-        let Plan { pages: _, vmids: _, aux: _, history: _, builds: _, order: _, gives_up: _, abort: _ } = self;
+        let Plan {
+            pages: _,
+            vmids: _,
+            aux: _,
+            history: _,
+            builds: _,
+            order: _,
+            gives_up: _,
+            abort: _,
+        } = self;
     }
 }
 

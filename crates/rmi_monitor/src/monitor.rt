@@ -34,7 +34,16 @@ pub struct Monitor<S: PageStore> {
 
 impl<S: PageStore + Drop> Drop for Monitor<S> {
     fn drop(self) {
-        let Monitor { store: _, granules: _, realms: _, rec_counts: _, recs: _, used: _, vmids: _, aux: _ } = self;
+        let Monitor {
+            store: _,
+            granules: _,
+            realms: _,
+            rec_counts: _,
+            recs: _,
+            used: _,
+            vmids: _,
+            aux: _,
+        } = self;
     }
 }
 

@@ -25,12 +25,23 @@ pub struct MachineSettings {
 
 /// The JSON document of a plan's run: machine settings, turns, and final machine state. `realmview` is the version of
 /// the format.
-#[derive(Drop, Serialize)]
+#[derive(Serialize)]
 pub struct Document {
     pub realmview: u8,
     pub settings: MachineSettings,
     pub turns: Vec<TurnItem>,
     pub world: WorldItem,
+}
+
+impl Drop for Document {
+    fn drop(self) {
+        let Document {
+            realmview: _,
+            settings: _,
+            turns: _,
+            world: _,
+        } = self;
+    }
 }
 
 // The settings of a plan.

@@ -30,7 +30,6 @@ pub struct StepItem {
 
 /// A history event, with the RMM objects that it changed. The objects are as the host has them after the turn. A list
 /// is empty if the event changes no such object.
-#[derive(Drop)]
 pub struct EventItem {
     pub event: Event,
     pub granules: Vec<Option<GranuleItem>>,
@@ -39,15 +38,38 @@ pub struct EventItem {
     pub realm: Option<Option<RealmItem>>,
 }
 
+impl Drop for EventItem {
+    fn drop(self) {
+        let EventItem {
+            event: _,
+            granules: _,
+            rows: _,
+            rec: _,
+            realm: _,
+        } = self;
+    }
+}
+
 /// The JSON object of a build's turn: step, event, and build state afterwards. A step or an event is there only if the
 /// turn has one.
-#[derive(Drop)]
 pub struct TurnItem {
     pub build: BuildId,
     pub step: Option<StepItem>,
     pub event: Option<EventItem>,
     pub open: usize,
     pub kept: BuildKept,
+}
+
+impl Drop for TurnItem {
+    fn drop(self) {
+        let TurnItem {
+            build: _,
+            step: _,
+            event: _,
+            open: _,
+            kept: _,
+        } = self;
+    }
 }
 
 // ---- in JSON

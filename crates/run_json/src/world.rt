@@ -31,11 +31,20 @@ impl Serialize for EventLine {
 }
 
 /// The JSON object of a realm, with its translation table rows and its RECs. Each REC is at the index of its number.
-#[derive(Drop)]
 pub struct RealmContents {
     pub realm: RealmItem,
     pub rows: Vec<RowItem>,
     pub recs: Vec<RecItem>,
+}
+
+impl Drop for RealmContents {
+    fn drop(self) {
+        let RealmContents {
+            realm: _,
+            rows: _,
+            recs: _,
+        } = self;
+    }
 }
 
 impl Described for RealmContents {}
@@ -52,13 +61,24 @@ impl Serialize for RealmContents {
 
 /// The JSON object that describes a build's state on the host. It has the mark, the abort flag, the open operations,
 /// the pages and the realm. The open operations are events, from the oldest on.
-#[derive(Drop)]
 pub struct BuildItem {
     pub build: BuildId,
     pub kept: BuildKept,
     pub open: Vec<EventLine>,
     pub pages: Vec<Option<PageItem>>,
     pub realm: Option<RealmContents>,
+}
+
+impl Drop for BuildItem {
+    fn drop(self) {
+        let BuildItem {
+            build: _,
+            kept: _,
+            open: _,
+            pages: _,
+            realm: _,
+        } = self;
+    }
 }
 
 impl Described for BuildItem {}
@@ -77,11 +97,21 @@ impl Serialize for BuildItem {
 
 /// The JSON object of a host's state: its granules and its builds. It also has the number of granules that nobody
 /// leases.
-#[derive(Drop, Serialize)]
+#[derive(Serialize)]
 pub struct WorldItem {
     pub free: u16,
     pub granules: Vec<Option<GranuleItem>>,
     pub builds: Vec<BuildItem>,
+}
+
+impl Drop for WorldItem {
+    fn drop(self) {
+        let WorldItem {
+            free: _,
+            granules: _,
+            builds: _,
+        } = self;
+    }
 }
 
 // The granules of the machine.
