@@ -63,7 +63,6 @@ impl Value {
 }
 
 /// A TOML key with its span and its value.
-#[derive(Drop)]
 pub struct KeyValue {
     /// The name of the key. Of a dotted key it is only the first part.
     pub name: String,
@@ -71,14 +70,33 @@ pub struct KeyValue {
     pub value: Value,
 }
 
+impl Drop for KeyValue {
+    fn drop(self) {
+        let KeyValue {
+            name: _,
+            key: _,
+            value: _,
+        } = self;
+    }
+}
+
 /// A build in the text of a plan: its value, its keys, and its steps.
-#[derive(Drop)]
 pub struct Build {
     /// The build's header `[[build]]`, or the build's element of the array `build`.
     pub value: Value,
     pub keys: Vec<KeyValue>,
     /// The elements of the build's array `steps`.
     pub steps: Vec<Value>,
+}
+
+impl Drop for Build {
+    fn drop(self) {
+        let Build {
+            value: _,
+            keys: _,
+            steps: _,
+        } = self;
+    }
 }
 
 impl Build {
@@ -89,7 +107,6 @@ impl Build {
 }
 
 /// The parts that were found in the text of a plan.
-#[derive(Drop)]
 pub struct Outline {
     pub keys: Vec<KeyValue>,
     pub builds: Vec<Build>,
@@ -100,6 +117,18 @@ pub struct Outline {
     /// Whether a key `pages` was found in an unknown table. Keys in an unknown inline table, and dotted keys in an
     /// unknown table, are not noted.
     pub has_deeper_pages: bool,
+}
+
+impl Drop for Outline {
+    fn drop(self) {
+        let Outline {
+            keys: _,
+            builds: _,
+            turns: _,
+            missing: _,
+            has_deeper_pages: _,
+        } = self;
+    }
 }
 
 impl Outline {

@@ -8,10 +8,15 @@ use std::collections::HashMap;
 
 /// An indexed table of the numbers of pages that builds hold at boot and after turns. Each entry has the page counts of
 /// all builds at one of these points.
-#[derive(Drop)]
 pub(crate) struct Holdings {
     numbers: HashMap<PagesHeld, usize>,
     all: Vec<PagesHeld>,
+}
+
+impl Drop for Holdings {
+    fn drop(self) {
+        let Holdings { numbers: _, all: _ } = self;
+    }
 }
 
 impl Holdings {

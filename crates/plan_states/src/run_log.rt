@@ -33,10 +33,18 @@ pub(crate) struct LoggedTurn {
 
 /// The log of the turns that were run to check a state graph's paths. It also has the snapshots before and after the
 /// turns. The first snapshot is that at boot.
-#[derive(Drop)]
 pub(crate) struct RunLog {
     pub(crate) snapshots: Vec<Snapshot>,
     pub(crate) turns: Vec<LoggedTurn>,
+}
+
+impl Drop for RunLog {
+    fn drop(self) {
+        let RunLog {
+            snapshots: _,
+            turns: _,
+        } = self;
+    }
 }
 
 // Whether two outcomes of steps are the same.

@@ -28,10 +28,15 @@ struct Visit {
 }
 
 // The runs along a graph so far.
-#[derive(Drop)]
 struct Walk {
     log: RunLog,
     visits: Vec<Vec<Visit>>,
+}
+
+impl Drop for Walk {
+    fn drop(self) {
+        let Walk { log: _, visits: _ } = self;
+    }
 }
 
 // Whether two optional numbers are the same.

@@ -11,7 +11,6 @@ pub struct PathTally<K> {
 }
 
 /// The outcomes of steps, counted over all schedules of a plan.
-#[derive(Drop)]
 pub struct StepOutcomes {
     /// The number of all schedules of the plan.
     pub schedule_count: Count,
@@ -24,10 +23,26 @@ pub struct StepOutcomes {
     pub never_refused: Vec<PathTally<usize>>,
 }
 
+impl Drop for StepOutcomes {
+    fn drop(self) {
+        let StepOutcomes {
+            schedule_count: _,
+            by_refusal: _,
+            ends: _,
+            never_refused: _,
+        } = self;
+    }
+}
+
 /// The outcomes of all schedules of a plan.
-#[derive(Drop)]
 pub struct Outcomes {
     pub steps: StepOutcomes,
     /// For each page map, the number of schedules that end with it. Each map is given by its index.
     pub maps: Vec<PathTally<usize>>,
+}
+
+impl Drop for Outcomes {
+    fn drop(self) {
+        let Outcomes { steps: _, maps: _ } = self;
+    }
 }

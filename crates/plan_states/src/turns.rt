@@ -68,12 +68,22 @@ pub(crate) struct TurnOutcome {
 
 /// A cache that maps the inputs of a turn to the turn's outcome. It has tables of builds' past turns, of sequences of
 /// blocks, and of the outcomes of turns and steps.
-#[derive(Drop)]
 pub(crate) struct Turns {
     builds: HashMap<PastTurns, usize>,
     blocks: HashMap<Moves, usize>,
     known: HashMap<TurnInputs, TurnOutcome>,
     pub(crate) ends: Vec<EndOfStep>,
+}
+
+impl Drop for Turns {
+    fn drop(self) {
+        let Turns {
+            builds: _,
+            blocks: _,
+            known: _,
+            ends: _,
+        } = self;
+    }
 }
 
 // The shared resources that a step needs.

@@ -36,12 +36,22 @@ struct RunParameters<'a> {
 
 // A trace that is being read: the session of its lines, the kept bytes of the next line, and the text not yet written.
 // The words of a line are kept for the next one.
-#[derive(Drop)]
 struct Reading {
     session: Session,
     line: Vec<u8>,
     words: LineWords,
     text: LineTexts,
+}
+
+impl Drop for Reading {
+    fn drop(self) {
+        let Reading {
+            session: _,
+            line: _,
+            words: _,
+            text: _,
+        } = self;
+    }
 }
 
 impl Reading {
