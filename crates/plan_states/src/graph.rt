@@ -67,21 +67,40 @@ struct Target {
 }
 
 // The states of a layer, with the turn by which each was first reached.
-#[derive(Drop)]
 struct Front {
     states: Vec<State>,
     came: Vec<FirstArrival>,
     targets: HashMap<State, Target>,
 }
 
+impl Drop for Front {
+    fn drop(self) {
+        let Front {
+            states: _,
+            came: _,
+            targets: _,
+        } = self;
+    }
+}
+
 // The exploration of a graph so far. `came` has, for each state of each layer, the turn by which the state was first
 // reached.
-#[derive(Drop)]
 struct Explorer {
     turns: Turns,
     came: Vec<Vec<FirstArrival>>,
     held: Holdings,
     maps: Vec<String>,
+}
+
+impl Drop for Explorer {
+    fn drop(self) {
+        let Explorer {
+            turns: _,
+            came: _,
+            held: _,
+            maps: _,
+        } = self;
+    }
 }
 
 // Adds an item at the end.
@@ -93,6 +112,19 @@ pub(crate) fn push<T: Drop>(items: &mut Vec<T>, item: T) -> Result<(), AllocErro
 }
 
 impl Front {
+    // Returns the states, and for each the turn by which it was first reached.
+    fn into_states(self) -> (Vec<State>, Vec<FirstArrival>)
+        ensures states { result.0 ≡ self.states }
+        ensures came { result.1 ≡ self.came }
+    {
+        let Front {
+            states,
+            came,
+            targets: _,
+        } = self;
+        (states, came)
+    }
+
     fn new(alloc: Global) -> Front
         ensures { result.states.items ≡ [] }
     {
@@ -292,6 +324,29 @@ impl Explorer {
         }
         Ok(Some((layer, next)))
     }
+
+    // Returns the graph of these layers, with all ends, numbers of pages and maps that were found.
+    fn into_graph(self, layers: Vec<Layer>, progress: Vec<Vec<StepsDone>>) -> Graph
+        ensures layers { result.layers ≡ layers }
+        ensures progress { result.progress ≡ progress }
+        ensures ends { result.ends ≡ self.turns.ends }
+        ensures held { result.held ≡ self.held.all }
+        ensures maps { result.maps ≡ self.maps }
+    {
+        let Explorer {
+            turns,
+            came: _,
+            held,
+            maps,
+        } = self;
+        Graph {
+            layers,
+            progress,
+            ends: turns.into_ends(),
+            held: held.into_all(),
+            maps,
+        }
+    }
 }
 
 // The graph of all schedules of a plan; None if it has more than `most` states.
@@ -316,11 +371,7 @@ fn search(alloc: Global, plan: &Plan, most: usize) -> Result<Option<Graph>, Faul
     let mut progress = Vec::new(alloc);
     let mut room = most;
     'layers: while !front.states.is_empty() {
-        let Front {
-            states,
-            came,
-            targets: _,
-        } = front;
+        let (states, came) = front.into_states();
         if states.len() > room {
             return Ok(None);
         }
@@ -333,21 +384,7 @@ fn search(alloc: Global, plan: &Plan, most: usize) -> Result<Option<Graph>, Faul
         push(&mut layers, layer)?;
         front = next;
     }
-    let Explorer {
-        turns,
-        came: _,
-        held,
-        maps,
-    } = it;
-    let ends = turns.into_ends();
-    let held = held.into_all();
-    Ok(Some(Graph {
-        layers,
-        progress,
-        ends,
-        held,
-        maps,
-    }))
+    Ok(Some(it.into_graph(layers, progress)))
 }
 
 /// Creates and checks the state graph of a plan's schedules. Returns the whole graph, or `TooMany` if it has more than
