@@ -1,9 +1,10 @@
 //! Types that describe the turns of a plan's run, and explain the refused steps.
+ghost use Rattle.std.specs.Prelude.{◌≡◌};
+
 use crate::check::Check;
 use host_commands::Step;
 
 /// The reason why a host refuses a step of a plan.
-#[derive(Drop)]
 pub struct Explanation {
     /// The refused step of the plan.
     pub step: Step,
@@ -15,11 +16,53 @@ pub struct Explanation {
     pub help: String,
 }
 
+impl Drop for Explanation {
+    fn drop(self) {
+        let Explanation {
+            step: _,
+            checks: _,
+            error: _,
+            help: _,
+        } = self;
+    }
+}
+
+impl Explanation {
+    /// The error message and the help message.
+    pub fn into_messages(self) -> (String, String)
+        ensures error { result.0 ≡ self.error }
+        ensures help { result.1 ≡ self.help }
+    {
+        let Explanation {
+            step: _,
+            checks: _,
+            error,
+            help,
+        } = self;
+        (error, help)
+    }
+}
+
 /// The printed line of one turn in a plan's schedule, with the reason for any refusal.
-#[derive(Drop)]
 pub struct ExplainedTurn {
     /// The line of the turn, as a replay prints it.
     pub line: String,
     /// The reason for the refusal, if the host refuses the step.
     pub reason: Option<Explanation>,
+}
+
+impl Drop for ExplainedTurn {
+    fn drop(self) {
+        let ExplainedTurn { line: _, reason: _ } = self;
+    }
+}
+
+impl ExplainedTurn {
+    /// The reason for the refusal, if the host refuses the step.
+    pub fn into_reason(self) -> Option<Explanation>
+        ensures { result ≡ self.reason }
+    {
+        let ExplainedTurn { line: _, reason } = self;
+        reason
+    }
 }

@@ -42,7 +42,7 @@ pub(crate) fn builds(text: &str, outline: &Outline, meant: MeantKeys, found: &mu
 fn no_builds(text: &str, value: &Value, found: &mut Findings) {
     let span = value.span;
     match text.get(span.start..span.end) {
-        Some(header) if matches!(value.content, Content::Headed) => {
+        Some(header) if matches!(&value.content, Content::Headed) => {
             let words = "expected `[[build]]`, found {}";
             found.error(PlanFault::Key, span, words, &[Quoted(header)]);
         }
@@ -69,7 +69,7 @@ fn report_empty_build_array(outline: &Outline, value: &Value, found: &mut Findin
 
 // Finds the mistakes in a build, which should be a table with `steps` as its only key.
 fn of_build(text: &str, number: usize, build: &Build, found: &mut Findings) {
-    if !matches!(build.value.content, Content::Table | Content::Tables) {
+    if !matches!(&build.value.content, Content::Table | Content::Tables) {
         return report_wrong_kind(&build.value, "a table", found);
     }
     match build.steps_value() {

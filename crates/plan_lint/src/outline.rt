@@ -6,7 +6,6 @@ use toml_parser::Scalar;
 pub const PLAN_KEYS: [&str; 6] = ["pages", "vmids", "aux", "history", "order", "build"];
 
 /// The kind of a TOML value, with its content if it is a string or scalar.
-#[derive(Drop)]
 pub enum Content {
     Text(String),
     Scalar(Scalar),
@@ -17,6 +16,15 @@ pub enum Content {
     Headed,
     /// An array of tables written with headers `[[KEY]]`.
     Tables,
+}
+
+impl Drop for Content {
+    fn drop(self) {
+        match self {
+            Content::Text(_) | Content::Scalar(_) | Content::Array => {}
+            Content::Table | Content::Headed | Content::Tables => {}
+        }
+    }
 }
 
 impl Content {
@@ -58,7 +66,7 @@ impl Value {
     }
 
     pub(crate) fn is_array(&self) -> bool {
-        matches!(self.content, Content::Array)
+        matches!(&self.content, Content::Array)
     }
 }
 

@@ -223,8 +223,8 @@ impl<'a> Walk<'a> {
         let start = self.at();
         let content = self.content()?;
         let part = owner.below(name.as_str(), &content);
-        let is_table = matches!(content, Content::Table);
-        if is_table || matches!(content, Content::Array) {
+        let is_table = matches!(&content, Content::Table);
+        if is_table || matches!(&content, Content::Array) {
             self.open.push(Open {
                 owner,
                 part,

@@ -8,12 +8,22 @@ use std::alloc::{AllocError, Global};
 
 /// A refused turn, with its failed check and a step proposed as help. Turns are counted from 0 as in the document of
 /// the run, and the proposed step is empty if there is none.
-#[derive(Drop, Serialize)]
+#[derive(Serialize)]
 pub(crate) struct RefusedTurn {
     turn: usize,
     error: String,
     #[serde(skip_serializing_if = "String::is_empty")]
     help: String,
+}
+
+impl Drop for RefusedTurn {
+    fn drop(self) {
+        let RefusedTurn {
+            turn: _,
+            error: _,
+            help: _,
+        } = self;
+    }
 }
 
 /// Returns the turns of a plan's run in which a step is refused.
@@ -24,13 +34,9 @@ pub(crate) fn refused_turns(alloc: Global, plan: &Plan) -> Result<Vec<RefusedTur
         .into_iter()
         .enumerate()
     {
-        let reason = explained.reason;
-        if let Some(reason) = reason {
-            refused.push(RefusedTurn {
-                turn,
-                error: reason.error,
-                help: reason.help,
-            })?;
+        if let Some(reason) = explained.into_reason() {
+            let (error, help) = reason.into_messages();
+            refused.push(RefusedTurn { turn, error, help })?;
         }
     }
     Ok(refused)

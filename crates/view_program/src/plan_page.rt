@@ -20,13 +20,24 @@ use std::alloc::{AllocError, Global};
 
 /// The data of a browser page that shows a plan's run and its refused turns. For each build, they also have the machine
 /// as it would be without that build's events. The title of the plan is empty if it has none.
-#[derive(Drop, Serialize)]
+#[derive(Serialize)]
 struct PageData {
     run: Document,
     without: Vec<WorldItem>,
     refused: Vec<RefusedTurn>,
     #[serde(skip_serializing_if = "String::is_empty")]
     title: String,
+}
+
+impl Drop for PageData {
+    fn drop(self) {
+        let PageData {
+            run: _,
+            without: _,
+            refused: _,
+            title: _,
+        } = self;
+    }
 }
 
 // The build with the given index in the plan.
