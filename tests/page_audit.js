@@ -52,8 +52,9 @@ const audit = (() => {
     }
     return [...new Set(faint)];
   }
+  // (one range for all: the browser moves each that is left at each later change of the page, which took it 20 seconds)
+  const range = document.createRange();
   const boxOfText = (element) => {
-    const range = document.createRange();
     range.selectNodeContents(element);
     return range.getBoundingClientRect();
   };
