@@ -4,6 +4,8 @@
  * build that fails gives everything back while others go on. Each exported function is proved to do what its definition
  * says.
  *
+ * The library is for x86-64 with the GNU C library, so no hypervisor of a CCA machine can link it.
+ *
  * The host has a model of an RMM. A command of a build is performed on the model at once by rhm_ask. In front of an RMM
  * it takes two steps: rhm_prepare gives the operations that the hypervisor performs there, and changes nothing;
  * rhm_commit is given the answer, and performs the command here if it agrees with the model's. rhm_run does both,
@@ -62,7 +64,8 @@ RHM_STATIC_ASSERT(sizeof(rhm_handle) == 16 && offsetof(rhm_handle, host) == 8, "
 typedef struct rhm_settings {
     uint64_t pages;   /* granules for the builds, 1 to 4096 */
     uint64_t vmids;   /* VMIDs from 1 on, 1 to 255, the host's alone: one handle in front of an RMM */
-    uint64_t aux;     /* auxiliary granules of a REC, at most 16: what RMI_REC_AUX_COUNT says of a realm, made before */
+    uint64_t aux;     /* auxiliary granules of a REC, at most 16: the number that RMI_REC_AUX_COUNT gives. It needs an
+                         RD: make a realm for it, and destroy it, before rhm_open */
     uint64_t builds;  /* 1 to 8 */
     uint64_t history; /* room for the events of each build, 16 to 16384. No undo gives any back */
     uint64_t base;    /* the address of granule 0: a multiple of 4096 below 2^46 */
@@ -178,12 +181,13 @@ enum {
     RHM_CALL = 5,         /* an SMC with x0 to x6. X1 after it has to be `output` if `has_output` is 1 */
     RHM_CALL_ENTER = 6,   /* RMI_REC_ENTER of the REC at `address`, an SMC with x0 to x6 */
     RHM_INTERRUPT = 7,    /* the run of the REC at `address` ends; RMI_REC_ENTER has come back */
-    RHM_GUEST_WRITE = 8,  /* for simulations: the guest of the REC at `address` writes the byte `value` at `ipa` */
+    RHM_GUEST_WRITE = 8,  /* for simulations: the guest of the REC at `address` writes the byte `value` at the address
+                             `ipa`, in bytes */
     RHM_GUEST_SPIN = 9,   /* for simulations: it runs on until it is interrupted */
     RHM_GUEST_SAW = 10    /* for simulations: it has done the write before */
 };
 
-/* An operation. What its kind has not is 0. */
+/* An operation. `ipa` is an address in bytes, and no number of a page. What its kind has not is 0. */
 typedef struct rhm_action {
     uint64_t kind;
     uint64_t x0;
@@ -220,10 +224,10 @@ typedef struct rhm_answer {
 } rhm_answer;
 
 /* Prepares a command, and changes nothing. RHM_DONE, with the operations for the RMM in `actions`; or the refusal that
- * the host gives before it calls an RMM, which is also that of rhm_ask. RHM_RMI is an operand that no call has: a level 4,
- * or the number of a REC that there is not. It is also an access to a page that is not UNDELEGATED, and the exit of a REC
- * that does not run. RHM_NO_BLOCK comes of a RHM_TAKE, which makes no call. A call that the model refuses is prepared:
- * `expected` has its word.
+ * the host gives before it calls an RMM, which is also that of rhm_ask; or RHM_HANDLE_CLOSED or RHM_NO_COMMAND.
+ * RHM_RMI is an operand that no call has: a level 4, or the number of a REC that there is not. It is also an access to
+ * a page that is not UNDELEGATED, and the exit of a REC that does not run. RHM_NO_BLOCK comes of a RHM_TAKE, which
+ * makes no call. A call that the model refuses is prepared: `expected` has its word.
  * Required: handle; `command` is not NULL, and each of its fields is written; `actions` is not NULL, and may be written
  * to. */
 uint64_t rhm_prepare(rhm_handle *handle, uint64_t build, const rhm_command *command, rhm_actions *actions) RHM_NO_NULL;
@@ -242,7 +246,7 @@ uint64_t rhm_prepare(rhm_handle *handle, uint64_t build, const rhm_command *comm
  * both refuse. A call that the RMM refuses has changed nothing there. RHM_DIVERGED comes neither of a command that makes no
  * call, as RHM_EXIT, nor of an undo that the RMM performs.
  * If the host now refuses before the call, since something came between, that is the status, whatever the answer is.
- * The RMM may have performed the call.
+ * The RMM may have performed the call. RHM_HANDLE_CLOSED and RHM_NO_COMMAND come as of rhm_prepare.
  *
  * What is recorded is what was performed if no other call came for the build since rhm_prepare; for a RHM_REALM, none that
  * creates or removes another realm; and for a RHM_REALM or a RHM_REC, no operation of another one, since they share the
@@ -254,9 +258,12 @@ uint64_t rhm_prepare(rhm_handle *handle, uint64_t build, const rhm_command *comm
 uint64_t rhm_commit(rhm_handle *handle, uint64_t build, const rhm_command *command, const rhm_answer *answer,
                     uint64_t *value) RHM_NO_NULL;
 
-/* The same of an undo. The model performs each that is prepared. An RMM that refuses it leaves the operation open:
- * RHM_DIVERGED, and it can be tried again.
- * After RHM_OTHER_OUTPUT it is open here, and performed there: rhm_settle_undo commits it.
+/* The same of an undo. The model performs each that is prepared. rhm_prepare_undo refuses as rhm_undo does:
+ * RHM_NO_BUILD, RHM_NOTHING_TO_UNDO, RHM_REC_RUNNING or RHM_HANDLE_CLOSED.
+ *
+ * rhm_commit_undo has these statuses too, and RHM_DONE with the `value` of rhm_undo. An RMM that refuses the undo
+ * leaves the operation open: RHM_DIVERGED, and it can be tried again. After RHM_OTHER_OUTPUT it is open here, and
+ * performed there: rhm_settle_undo commits it.
  * Required: handle; `actions`, `answer` and `value` as above. */
 uint64_t rhm_prepare_undo(rhm_handle *handle, uint64_t build, rhm_actions *actions) RHM_NO_NULL;
 uint64_t rhm_commit_undo(rhm_handle *handle, uint64_t build, const rhm_answer *answer, uint64_t *value) RHM_NO_NULL;
@@ -264,17 +271,20 @@ uint64_t rhm_commit_undo(rhm_handle *handle, uint64_t build, const rhm_answer *a
 /* ---- aborts and marks. `value` is a number of operations.   Required: handle; `value` is not NULL, and may be written to */
 
 /* Begins the abort of a build, with the number of its open operations in `value`. Until none is left, its commands are
- * refused, and its undos are performed, whatever others do. RHM_NO_BUILD, RHM_ABORTING, RHM_REC_RUNNING. */
+ * refused, and its undos are performed, whatever others do. RHM_NO_BUILD, RHM_ABORTING, RHM_REC_RUNNING,
+ * RHM_HANDLE_CLOSED. */
 uint64_t rhm_begin_abort(rhm_handle *handle, uint64_t build, uint64_t *value) RHM_NO_NULL;
 
-/* Undoes all that a build has open on the model at once, with their number in `value`. RHM_NO_BUILD, RHM_REC_RUNNING. */
+/* Undoes all that a build has open on the model at once, with their number in `value`. RHM_NO_BUILD, RHM_REC_RUNNING,
+ * RHM_HANDLE_CLOSED. */
 uint64_t rhm_abort(rhm_handle *handle, uint64_t build, uint64_t *value) RHM_NO_NULL;
 
-/* Keeps the point of a build as its mark, with the number of its open operations in `value`. RHM_NO_BUILD, RHM_ABORTING. */
+/* Keeps the point of a build as its mark, with the number of its open operations in `value`. RHM_NO_BUILD,
+ * RHM_ABORTING, RHM_HANDLE_CLOSED. */
 uint64_t rhm_mark(rhm_handle *handle, uint64_t build, uint64_t *value) RHM_NO_NULL;
 
 /* Undoes what a build has opened since its mark on the model at once, with their number in `value`. RHM_NO_BUILD,
- * RHM_ABORTING, RHM_NOTHING_TO_UNDO if it has no mark, RHM_REC_RUNNING. */
+ * RHM_ABORTING, RHM_NOTHING_TO_UNDO if it has no mark, RHM_REC_RUNNING, RHM_HANDLE_CLOSED. */
 uint64_t rhm_roll_back(rhm_handle *handle, uint64_t build, uint64_t *value) RHM_NO_NULL;
 
 /* ---- readings. False, and nothing is written, if there is nothing to read. None changes the host.
@@ -293,10 +303,10 @@ typedef struct rhm_build {
 
 bool rhm_read_build(rhm_handle *handle, uint64_t build, rhm_build *reading) RHM_NO_NULL;
 
-/* The states of a granule, of a realm and of a REC. RMM 1.0. */
+/* The states of a granule, of a realm and of a REC. RMM 1.0. The numbers are this library's. */
 enum {
-    RHM_UNDELEGATED = 0,
-    RHM_DELEGATED = 1,
+    RHM_STATE_UNDELEGATED = 0,
+    RHM_STATE_DELEGATED = 1,
     RHM_STATE_RD = 2,
     RHM_STATE_REC = 3,
     RHM_STATE_REC_AUX = 4,
@@ -304,7 +314,13 @@ enum {
     RHM_STATE_RTT = 6
 };
 enum { RHM_NEW = 0, RHM_ACTIVE = 1 };
-enum { RHM_READY = 0, RHM_RUNNING = 1 };
+enum { RHM_REC_STATE_READY = 0, RHM_REC_STATE_RUNNING = 1 };
+
+/* Old names, which go with librhm.so.1. */
+#define RHM_UNDELEGATED RHM_STATE_UNDELEGATED
+#define RHM_DELEGATED RHM_STATE_DELEGATED
+#define RHM_READY RHM_REC_STATE_READY
+#define RHM_RUNNING RHM_REC_STATE_RUNNING
 
 /* A page of a build: its granule. */
 typedef struct rhm_page {
@@ -320,7 +336,7 @@ typedef struct rhm_realm {
     uint64_t tables; /* that of its first starting table */
     uint64_t state;
     uint64_t vmid;
-    uint64_t width;
+    uint64_t width; /* of its IPAs, in bits */
     uint64_t next_rec;
 } rhm_realm;
 
@@ -358,7 +374,8 @@ enum {
     RHM_EVENT_POKE = 19 /* rec, ipa, offset, value */
 };
 
-/* An event of the history. `granule`, `second` and `aux` are addresses. What its kind has not is 0. */
+/* An event of the history. `granule`, `second` and `aux` are addresses. `ipa` is a page number, as in rhm_command;
+ * `count` is of granules or of pages; `width` in bits. What its kind has not is 0. */
 typedef struct rhm_event {
     uint64_t build;
     uint64_t kind;

@@ -4,6 +4,8 @@
  * addresses, parameter pages and run pages. Its guests are simulated: each REC has a list of steps. Each function is
  * proved to do what the definition of its command says, whatever the registers are.
  *
+ * The library is for x86-64 with the GNU C library, so no hypervisor of a CCA machine can link it.
+ *
  * Commands by name, parameter pages and names of values are in `rmm_commands.h`, which can be left out. Each name here
  * begins with `rmm_` or `RMM_`, so a host's own headers can be included too.
  *
@@ -119,12 +121,13 @@ RMM_STATIC_ASSERT(sizeof(rmm_registers) == 56, "rmm_registers has 56 bytes");
 /* An SMC: X0 to X6 before the call; after it X0 is the result word, X1 to X4 are the outputs, 0 if there is none.
  *
  * X0 is RMM_NOT_SUPPORTED, and no other register changes, for a function that is no command, and on a closed handle.
- * X0 is RMM_RUNNING if the guest that was entered spins: RMI_REC_ENTER would not have come back. The REC is RUNNING,
+ * X0 is RMM_RUNS_ON if the guest that was entered spins: RMI_REC_ENTER would not have come back. The REC is RUNNING,
  * and rmm_interrupt ends that.   Required: handle; `registers` is not NULL, and each of its fields is written. */
 void rmm_smc(rmm_handle *handle, rmm_registers *registers) RMM_NO_NULL;
 
 #define RMM_NOT_SUPPORTED 0xffffffffffffffff
-#define RMM_RUNNING 0xfffffffffffffffe
+#define RMM_RUNS_ON 0xfffffffffffffffe
+#define RMM_RUNNING RMM_RUNS_ON /* old name, which goes with librmm.so.1 */
 
 /* Result words. RMM 1.0, RmiCommandReturnCode: the status in bits 7:0, the index in bits 15:8. */
 enum { RMM_SUCCESS = 0, RMM_ERROR_INPUT = 1, RMM_ERROR_REALM = 2, RMM_ERROR_REC = 3, RMM_ERROR_RTT = 4 };
@@ -143,7 +146,7 @@ static inline unsigned rmm_index(uint64_t word) { return (unsigned)(word >> 8 & 
 uint64_t rmm_deciding_check(rmm_handle *handle, const rmm_registers *registers) RMM_NO_NULL;
 
 /* Whether an RMM may answer this X0: the word of a check that is made and fails; RMM_SUCCESS if none does. For a function
- * that is no command, and on a closed handle, RMM_NOT_SUPPORTED alone. RMM_RUNNING is the answer of no RMM.
+ * that is no command, and on a closed handle, RMM_NOT_SUPPORTED alone. RMM_RUNS_ON is the answer of no RMM.
  * Required: handle; `registers` is not NULL, and each of its fields is written. */
 bool rmm_is_allowed(rmm_handle *handle, const rmm_registers *registers, uint64_t x0) RMM_NO_NULL;
 
@@ -231,7 +234,7 @@ bool rmm_result(rmm_handle *handle, uint64_t rec, uint64_t number, rmm_step_resu
 /* ---- readings, which no host has. False, and nothing is written, if there is nothing to read. None changes the
  * machine. An address is that of a whole granule. */
 
-/* RMM 1.0, RmmGranuleState. */
+/* RMM 1.0, RmmGranuleState. The numbers are this library's. */
 enum {
     RMM_UNDELEGATED = 0,
     RMM_DELEGATED = 1,
@@ -249,7 +252,7 @@ bool rmm_read_state(rmm_handle *handle, uint64_t address, uint64_t *state) RMM_N
  * 0 to 30 are its gprs, and word 31 is its pc.   Required: handle; `word` is not NULL, and may be written to. */
 bool rmm_read_word(rmm_handle *handle, uint64_t address, uint64_t index, uint64_t *word) RMM_NO_NULL;
 
-/* RMM 1.0, RmmRealmState. */
+/* RMM 1.0, RmmRealmState. The numbers are this library's. */
 enum { RMM_NEW = 0, RMM_ACTIVE = 1, RMM_SYSTEM_OFF = 2 };
 
 /* RMM 1.0, RmiHashAlgorithm. */
@@ -274,7 +277,7 @@ RMM_STATIC_ASSERT(sizeof(rmm_realm) == 136 && offsetof(rmm_realm, rim) == 72, "r
 /* The realm whose RD is at an address.   Required: handle; `realm` is not NULL, and may be written to. */
 bool rmm_read_realm(rmm_handle *handle, uint64_t rd, rmm_realm *realm) RMM_NO_NULL;
 
-/* RMM 1.0, RmmRecState. */
+/* RMM 1.0, RmmRecState. The numbers are this library's. */
 enum { RMM_READY = 0, RMM_REC_RUNNING = 1 };
 
 /* RMM 1.0, RmiRipas. */

@@ -146,7 +146,7 @@ static inline uint64_t rmm_rec_destroy(rmm_handle *handle, uint64_t rec)
     return rmm_call(handle, rmm_registers_of(RMM_FID_REC_DESTROY, rec, 0, 0, 0, 0, 0)).x0;
 }
 
-/* RMI_REC_ENTER: `run` is the address of an rmm_rec_run; RMM_RUNNING if the guest spins. */
+/* RMI_REC_ENTER: `run` is the address of an rmm_rec_run; RMM_RUNS_ON if the guest spins. */
 static inline uint64_t rmm_rec_enter(rmm_handle *handle, uint64_t rec, uint64_t run)
 {
     return rmm_call(handle, rmm_registers_of(RMM_FID_REC_ENTER, rec, run, 0, 0, 0, 0)).x0;
@@ -497,18 +497,20 @@ enum {
 #define RMM_PSCI_ALREADY_ON 0xfffffffffffffffc
 #define RMM_PSCI_INVALID_ADDRESS 0xfffffffffffffff7
 
-/* ---- names, as the standard writes them; "?" for a number that has none */
+/* ---- names of RMM 1.0; "?" for a number that has none. Those of checks that CHECKS.md marks `no` are this project's,
+ * or unsure */
 
 static inline const char *rmm_name_of(uint64_t number, const char *const *names, uint64_t count)
 {
     return number < count ? names[number] : "?";
 }
 
+/* The name of a status. That of RMM_RUNS_ON is RUNNING, as traces write it. */
 static inline const char *rmm_status_name(uint64_t word)
 {
     static const char *const names[] = {"RMI_SUCCESS", "RMI_ERROR_INPUT", "RMI_ERROR_REALM", "RMI_ERROR_REC",
                                         "RMI_ERROR_RTT"};
-    if (word == RMM_RUNNING)
+    if (word == RMM_RUNS_ON)
         return "RUNNING";
     return word == RMM_NOT_SUPPORTED ? "NOT_SUPPORTED" : rmm_name_of(rmm_status(word), names, 5);
 }

@@ -228,6 +228,7 @@ _FUNCTIONS = {
 }
 
 
+# (rmm.py has _places and load too: each of the modules is one file, which needs no other one beside it)
 def _places():
     here = Path(__file__).resolve().parent
     named = os.environ.get("RHM_LIBRARY")

@@ -13,7 +13,8 @@
 
 A method has the name of a function of include/rmm.h or include/rmm_commands.h; `results` is rmm_result. A command returns
 its Answer. With `raises=True` a command that is refused is raised as `Refused`, and a load or store that faults as
-`Fault`; what `smc` and `interrupt` return is not. A number that no register holds, below 0 or from 2^64 on, is an OverflowError. An RMM that is closed is a ValueError.
+`Fault`; what `smc` and `interrupt` return is not. A number that no register holds, below 0 or from 2^64 on, is an
+OverflowError. An RMM that is closed is a ValueError.
 
 This needs librmm.so.0 (`make c-library`). It is looked for at the path of $RMM_LIBRARY, beside this file, in the
 folder build/ of the repository, and where the system has its libraries. Where it is not found, there is an OSError.
@@ -30,7 +31,8 @@ __all__ = [
 
 GRANULE = 4096
 MOST = 2**64 - 1
-NOT_SUPPORTED, RUNNING = MOST, MOST - 1
+NOT_SUPPORTED, RUNS_ON = MOST, MOST - 1
+RUNNING = RUNS_ON  # old name, which goes with librmm.so.1
 STATUSES = ("RMI_SUCCESS", "RMI_ERROR_INPUT", "RMI_ERROR_REALM", "RMI_ERROR_REC", "RMI_ERROR_RTT")
 GRANULE_STATES = ("UNDELEGATED", "DELEGATED", "RD", "REC", "REC_AUX", "DATA", "RTT")
 REALM_STATES = ("NEW", "ACTIVE", "SYSTEM_OFF")
@@ -112,7 +114,7 @@ class Answer:
     """The answer of a command: its result word, and its outputs by name, which are attributes too.
 
     `check` is the name of the check that decided, None if no check failed. `allowed` has the words that an RMM may answer,
-    of which this is one; RUNNING is the answer of no RMM. `exit` is what an entry or an interrupt wrote to the run page:
+    of which this is one; RUNS_ON is the answer of no RMM. `exit` is what an entry or an interrupt wrote to the run page:
     None if the REC runs on, or was not entered.
     """
 
@@ -131,12 +133,12 @@ class Answer:
     @property
     def is_running(self):
         """Whether the guest that was entered spins."""
-        return self.word == RUNNING
+        return self.word == RUNS_ON
 
     @property
     def name(self):
         """The name of the status, as RMI_ERROR_RTT."""
-        special = {RUNNING: "RUNNING", NOT_SUPPORTED: "NOT_SUPPORTED"}
+        special = {RUNS_ON: "RUNNING", NOT_SUPPORTED: "NOT_SUPPORTED"}
         return special.get(self.word) or (STATUSES[self.status] if self.status < len(STATUSES) else "?")
 
     def __getattr__(self, name):
@@ -315,6 +317,7 @@ _FUNCTIONS = {
 }
 
 
+# (rhm.py has _places and load too: each of the modules is one file, which needs no other one beside it)
 def _places():
     here = Path(__file__).resolve().parent
     named = os.environ.get("RMM_LIBRARY")
@@ -418,7 +421,7 @@ class Rmm:
         it = _registers(registers)
         rec, run = it.x1, it.x2
         self._call("smc", ctypes.byref(it))
-        if it.x0 == RUNNING:
+        if it.x0 == RUNS_ON:
             # (the run page of an entry that has not come back)
             self._runs[rec] = run
         return [it.x0, it.x1, it.x2, it.x3, it.x4]
@@ -448,7 +451,7 @@ class Rmm:
         answer = Answer(word, zip(outputs, values), check=check, allowed=allowed)
         if name == "rec_enter" and word == 0:
             answer.exit = self._exit(operands[1])
-        if self.raises and word not in (0, RUNNING):
+        if self.raises and word not in (0, RUNS_ON):
             raise Refused(name, answer)
         return answer
 

@@ -172,7 +172,7 @@ void window_smc(rmm_registers *registers)
         if (before.x0 == RMM_FID_RTT_MAP_UNPROTECTED)
             map(before.x4 & UINT64_C(0xfffffffff000), before.x3);
     }
-    if (is_entry && registers->x0 == RMM_RUNNING)
+    if (is_entry && registers->x0 == RMM_RUNS_ON)
         window.granules[number_of(before.x1)].run = before.x2;
 }
 

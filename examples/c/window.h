@@ -23,7 +23,7 @@ void window_smc(rmm_registers *registers);
 /* Gives the guest of a REC a step, which a log has as `text`. False if it has no place for it. */
 bool window_guest(uint64_t rec, const rmm_step *step, const char *text);
 
-/* Ends the run of a REC whose guest spins, so that its RMI_REC_ENTER has left X0 as RMM_RUNNING. The exit IRQ is in the
+/* Ends the run of a REC whose guest spins, so that its RMI_REC_ENTER has left X0 as RMM_RUNS_ON. The exit IRQ is in the
  * run page after it, and `word` is what the entry returns. False, with nothing changed, if its guest does not spin. */
 bool window_interrupt(uint64_t rec, uint64_t *word);
 

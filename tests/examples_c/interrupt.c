@@ -55,7 +55,7 @@ int main(int argc, char **argv)
     run->exit.exit_reason = RMM_EXIT_SERROR;
     CHECKED(!window_interrupt(at(REC), &word) && !window_interrupt(at(RUN), &word) && word == 99);
     CHECKED(window_guest(at(REC), &spin, "spin"));
-    CHECKED(rmi_rec_enter(at(REC), at(RUN)) == RMM_RUNNING && run->exit.exit_reason == RMM_EXIT_SERROR);
+    CHECKED(rmi_rec_enter(at(REC), at(RUN)) == RMM_RUNS_ON && run->exit.exit_reason == RMM_EXIT_SERROR);
     /* What the host writes to the page meanwhile stays. */
     run->enter.gprs[5] = 7;
     CHECKED(window_interrupt(at(REC), &word) && word == RMI_SUCCESS);

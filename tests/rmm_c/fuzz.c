@@ -244,7 +244,7 @@ static void perform(rmm_registers asked, bool is_line)
         HOLDS(check == 0 && after.x1 == asked.x1 && after.x2 == asked.x2 && after.x3 == asked.x3 && after.x4 == asked.x4);
         HOLDS(!is_success_allowed && rmm_is_allowed(&handle, &asked, RMM_NOT_SUPPORTED));
         check_refused(&asked, check, states);
-    } else if (after.x0 == RMM_SUCCESS || after.x0 == RMM_RUNNING) {
+    } else if (after.x0 == RMM_SUCCESS || after.x0 == RMM_RUNS_ON) {
         HOLDS(check == 0 && is_success_allowed);
         if (asked.x0 == RMM_FID_GRANULE_UNDELEGATE)
             memset(stored_pages[place_of(asked.x1)], 0, RMM_GRANULE_SIZE);

@@ -94,7 +94,7 @@ static bool run_realm(rmm_handle *handle, uint8_t value)
     WANTED(rmm_read_word(handle, DATA, 0, &word) && (word & 0xff) == 7 && word >> 56 == value);
     WANTED(!rmm_load(handle, DATA, &run, sizeof run));
     WANTED(!rmm_interrupt(handle, REC, &word));
-    WANTED(rmm_rec_enter(handle, REC, RUN) == RMM_RUNNING && rmm_rec_enter(handle, REC, RUN) == RMM_ERROR_REC);
+    WANTED(rmm_rec_enter(handle, REC, RUN) == RMM_RUNS_ON && rmm_rec_enter(handle, REC, RUN) == RMM_ERROR_REC);
     WANTED(rmm_interrupt(handle, REC, &word) && word == RMM_SUCCESS);
     WANTED(rmm_load(handle, RUN, &run, sizeof run) && run.exit.exit_reason == RMM_EXIT_IRQ);
     return true;

@@ -94,7 +94,7 @@ static void judge(rmm_handle *handle)
     for (uint64_t index = 0; index < 6; index++)
         for (uint64_t status = 0; status < 6; status++)
             print_if_allowed(handle, &registers, index << 8 | status);
-    print_if_allowed(handle, &registers, RMM_RUNNING);
+    print_if_allowed(handle, &registers, RMM_RUNS_ON);
     print_if_allowed(handle, &registers, RMM_NOT_SUPPORTED);
 }
 
