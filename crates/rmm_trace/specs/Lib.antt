@@ -11,3 +11,4 @@ pub mod Places
 pub mod Consistent
 pub mod Answers
 pub mod Commands
+pub mod Unsure

@@ -9,6 +9,7 @@ ghost use Rattle.rmm_trace.specs.Commands.{are_commands_named};
 ghost use Rattle.rmm_trace.specs.Lines.{bare_text, answer_in, is_question, question_of, line_in};
 ghost use Rattle.rmm_trace.specs.Places.{are_places_named};
 ghost use Rattle.rmm_trace.specs.Sentences.{sentence_text, words_in, IsSentence};
+ghost use Rattle.rmm_trace.specs.Unsure.{are_unsure_named};
 
 /// Proves that a valid list of trace words, printed as text, is read back unchanged.
 pub fn printed_words_are_read_back()
@@ -59,4 +60,9 @@ pub fn places_are_of_their_names()
 /// Proves that each command is in the tables of names, function identifiers and operands.
 pub fn commands_have_their_rows()
     ensures { are_commands_named ≡ true }
+{}
+
+/// Proves that `UNSURE` has exactly the checks whose names are not compared, each with its command.
+pub fn unsure_checks_are_of_their_names()
+    ensures { are_unsure_named ≡ true }
 {}

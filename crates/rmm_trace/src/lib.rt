@@ -47,7 +47,7 @@ pub use grammar::{Group, Place, ValueKind, accepts, is_of_kind};
 pub use law::{
     answered_questions_are_read_back, commands_have_their_rows, measurement_texts_are_injective,
     places_are_of_their_names, printed_answers_are_read_back, printed_questions_are_read_back,
-    printed_words_are_read_back, sentences_are_injective,
+    printed_words_are_read_back, sentences_are_injective, unsure_checks_are_of_their_names,
 };
 pub use line::{LineKind, MOST_LINE, RmmTraceLine, cut_line};
 pub use name::{find_name, name_text};

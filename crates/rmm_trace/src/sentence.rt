@@ -14,8 +14,8 @@ pub const MOST_WORDS: usize = 64;
 /// A sentence of a trace: a list of at most `MOST_WORDS` words.
 pub type Sentence = ArrayVec<TraceWord, MOST_WORDS>;
 
-/// Parses the words of a text into an empty list of trace words. Returns whether the text is a sentence. The function
-/// takes no memory.
+/// Parses the words of a text into an empty list of trace words. Returns whether the text is a sentence. If it is none,
+/// the list may have any words. The function takes no memory.
 ///
 /// A sentence has 64 places. It is filled where it stays, since a move costs more than the reading.
 pub fn read_into(text: &[u8], words: &mut Sentence) -> bool

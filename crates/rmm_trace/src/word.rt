@@ -28,6 +28,10 @@ pub struct TraceWord {
 }
 
 impl Default for TraceWord {
+    ghost use Rattle.rmm_trace.specs.Compare.{zero_word};
+
+    ghost is_default = { λ word. word ≡ zero_word };
+
     fn default() -> TraceWord {
         TraceWord {
             value: Atom::Decimal(0),
