@@ -27,6 +27,11 @@ pub struct EvaluatedCheck {
 }
 
 impl Default for EvaluatedCheck {
+    ghost use Rattle.rmm_model.specs.declared.condition.Condition.TheVariants.{Version};
+    ghost use Rattle.rmm_checks.specs.declared.evaluated.CheckOutcome.TheVariants.{NotMade};
+
+    ghost is_default = { λ check. check ≡ record { condition = Version; outcome = NotMade } };
+
     fn default() -> EvaluatedCheck {
         EvaluatedCheck {
             condition: Condition::Version,
