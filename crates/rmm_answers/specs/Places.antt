@@ -1,9 +1,12 @@
--- The places of names that answers have, each with its name, and the tables of outputs, fields and steps by name.
-use Rattle.std.specs.Prelude.{ℕ, ◌+◌, ◌==◌, Bool, true, false, ◌&&◌, List, [], ◌∷◌, codes, slice_index_or}
+-- The places of names that answers have, each with its name, and the tables of operands, outputs, fields and steps by name.
+use Rattle.std.specs.Prelude.{ℕ, ◌+◌, ◌==◌, Bool, true, false, not, ◌&&◌, ◌||◌, List, [], ◌∷◌, codes, slice_index_or}
 use Rattle.std.specs.List.{list_all}
 use Rattle.std.specs.Str.{bytes_eq}
 use Rattle.rmm_trace.specs.Names.{names, nth_text}
 use Rattle.rmm_answers.specs.declared.guest.TheConstants.{STEPS}
+use Rattle.rmm_answers.specs.declared.naming.OperandForm.{OperandForm}
+use Rattle.rmm_answers.specs.declared.naming.OperandForm.TheVariants.{Absent, Decimal, Hexadecimal, Psci}
+use Rattle.rmm_answers.specs.declared.naming.TheConstants.{OPERANDS, NO_OPERANDS}
 use Rattle.rmm_answers.specs.declared.outputs.TheConstants.{OUTPUTS}
 use Rattle.rmm_answers.specs.declared.page.TheConstants.{REALM_FIELDS, REC_FIELDS, RUN_FIELDS}
 use Rattle.rmm_answers.specs.declared.place.TheConstants.{DONE, FAULT, QUEUED, FULL, NO, NOT, IS_RUNNING, NOTHING, COMMAND, REC_STATE, UNDELEGATED, DELEGATED, RD_STATE, REC_AUX, DATA_STATE, RTT_STATE, NEW, ACTIVE, IS_SYSTEM_OFF, READY}
@@ -27,6 +30,53 @@ has_name place text = bytes_eq (nth_text place names) text
 -- the table of names has each of these names at its place
 unfoldable pub are_answer_places_named : Bool
 are_answer_places_named = list_all (λ it. has_name it.0 it.1) answer_places
+
+-- ---- operands. RMM 1.0, RMI commands: inputs
+
+-- each command, with the names of its inputs
+unfoldable pub command_inputs : List (List ℕ × List (List ℕ))
+command_inputs =
+    (codes "rmi_version", codes "req" ∷ []) ∷ (codes "rmi_features", codes "index" ∷ []) ∷
+    (codes "rmi_granule_delegate", codes "addr" ∷ []) ∷ (codes "rmi_granule_undelegate", codes "addr" ∷ []) ∷
+    (codes "rmi_realm_create", codes "rd" ∷ codes "params_ptr" ∷ []) ∷ (codes "rmi_realm_activate", codes "rd" ∷ []) ∷
+    (codes "rmi_realm_destroy", codes "rd" ∷ []) ∷ (codes "rmi_rec_create", codes "rd" ∷ codes "rec" ∷ codes "params_ptr" ∷ []) ∷
+    (codes "rmi_rec_destroy", codes "rec" ∷ []) ∷ (codes "rmi_rec_enter", codes "rec" ∷ codes "run_ptr" ∷ []) ∷
+    (codes "rmi_rec_aux_count", codes "rd" ∷ []) ∷ (codes "rmi_rtt_create", codes "rd" ∷ codes "rtt" ∷ codes "ipa" ∷ codes "level" ∷ []) ∷
+    (codes "rmi_rtt_destroy", codes "rd" ∷ codes "ipa" ∷ codes "level" ∷ []) ∷ (codes "rmi_rtt_fold", codes "rd" ∷ codes "ipa" ∷ codes "level" ∷ []) ∷
+    (codes "rmi_rtt_init_ripas", codes "rd" ∷ codes "base" ∷ codes "top" ∷ []) ∷
+    (codes "rmi_rtt_set_ripas", codes "rd" ∷ codes "rec" ∷ codes "base" ∷ codes "top" ∷ []) ∷
+    (codes "rmi_rtt_read_entry", codes "rd" ∷ codes "ipa" ∷ codes "level" ∷ []) ∷
+    (codes "rmi_rtt_map_unprotected", codes "rd" ∷ codes "ipa" ∷ codes "level" ∷ codes "desc" ∷ []) ∷
+    (codes "rmi_rtt_unmap_unprotected", codes "rd" ∷ codes "ipa" ∷ codes "level" ∷ []) ∷
+    (codes "rmi_data_create", codes "rd" ∷ codes "data" ∷ codes "ipa" ∷ codes "src" ∷ codes "flags" ∷ []) ∷
+    (codes "rmi_data_create_unknown", codes "rd" ∷ codes "data" ∷ codes "ipa" ∷ []) ∷
+    (codes "rmi_data_destroy", codes "rd" ∷ codes "ipa" ∷ []) ∷
+    (codes "rmi_psci_complete", codes "calling_rec" ∷ codes "target_rec" ∷ codes "status" ∷ []) ∷ []
+
+-- A level and an index are decimal, a status is that of PSCI, and all else is hexadecimal.
+unfoldable pub is_form_of : List ℕ → OperandForm → Bool
+is_form_of input Absent = false
+is_form_of input Decimal = bytes_eq input (codes "level") || bytes_eq input (codes "index")
+is_form_of input Hexadecimal = not (bytes_eq input (codes "level") || bytes_eq input (codes "index") || bytes_eq input (codes "status"))
+is_form_of input Psci = bytes_eq input (codes "status")
+
+unfoldable pub is_no_operand : OperandForm → Bool
+is_no_operand Absent = true
+is_no_operand _ = false
+
+-- the first forms are those of these inputs, and all further ones are absent
+unfoldable pub are_forms : List (List ℕ) → List OperandForm → Bool
+are_forms [] forms = list_all is_no_operand forms
+are_forms (input ∷ inputs) [] = false
+are_forms (input ∷ inputs) (form ∷ forms) = is_form_of input form && are_forms inputs forms
+
+-- from a place on, each command has its operands
+unfoldable pub are_operands : ℕ → List (List ℕ × List (List ℕ)) → Bool
+are_operands place [] = place == 23
+are_operands place (row ∷ rows) = has_name place row.0 && are_forms row.1 (slice_index_or OPERANDS place NO_OPERANDS) && are_operands (place + 1) rows
+
+unfoldable pub are_operands_named : Bool
+are_operands_named = are_operands 0 command_inputs
 
 -- ---- outputs. RMM 1.0, RMI commands: outputs
 

@@ -7,19 +7,22 @@ ghost use Rattle.rmm_model.specs.Allowed.{condition_number};
 ghost use Rattle.rmm_model.specs.Call.{rmi};
 ghost use Rattle.rmm_model.specs.Machine.{Machine};
 ghost use Rattle.rmm_answers.specs.Call.{is_refused};
-ghost use Rattle.rmm_answers.specs.Places.{has_name, are_answer_places_named, are_outputs_named};
+ghost use Rattle.rmm_answers.specs.Places.{has_name, are_answer_places_named, are_operands_named, are_outputs_named};
 ghost use Rattle.rmm_answers.specs.Places.{are_fields_named, are_steps_named};
+ghost use Rattle.rmm_answers.specs.declared.page.TheConstants.{NUM_AUX};
 
 /// Proves that each constant of `place` is the index of its name in the name table.
 pub fn answer_places_are_of_their_names()
     ensures { are_answer_places_named ≡ true }
 {}
 
-/// Proves that the tables of outputs, page fields and guest steps have the right names. The outputs are those of
-/// commands. Each field has the right offset too.
+/// Proves that the tables of operands, outputs, page fields and guest steps have the right names. The operands and
+/// outputs are those of commands. Each operand has the right notation, and each field the right offset.
 pub fn tables_are_of_their_names()
+    ensures operands { are_operands_named ≡ true }
     ensures outputs { are_outputs_named ≡ true }
     ensures fields { are_fields_named ≡ true }
+    ensures num_aux { NUM_AUX ≡ 0x800 }
     ensures steps { are_steps_named ≡ true }
 {}
 

@@ -2,7 +2,9 @@
 ghost use Rattle.std.specs.Prelude.{◌≡◌, None, OnOk, OnErr, option_and_then};
 ghost use Rattle.rmm_answers.specs.Answering as specs;
 ghost use Rattle.rmm_answers.specs.Platform.{machine_of_platform};
+ghost use Rattle.rmm_answers.specs.Words.{first_place};
 ghost use Rattle.rmm_trace.specs.Compare.{rest_of};
+ghost use Rattle.rmm_trace.specs.declared.place.TheConstants.{PLATFORM};
 
 use crate::answering::{answer_on, checks_on};
 use crate::platform::{is_platform, open_platform};
@@ -83,6 +85,7 @@ impl TraceMachine {
     ) -> Result<(), AllocError>
         ensures ok { OnOk result ((reply.new, self.new) ≡ specs.answered question.now self.old) }
         ensures err { OnErr result (self.new ≡ self.old) }
+        ensures platform { OnErr result (first_place question.now ≡ PLATFORM) }
     {
         if is_platform(question) {
             return self.open(alloc, question, reply);

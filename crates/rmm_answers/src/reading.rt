@@ -1,7 +1,6 @@
 //! Functions that report the state of granules, realms and RECs for a trace. No firmware offers a host these readings.
 ghost use Rattle.std.specs.Prelude.{◌≡◌, ◌+◌, ◌<◌, ◌≤◌, length, take, []};
 ghost use Rattle.std.specs.List.{sum};
-ghost use Rattle.rmm_model.specs.Command.PsciComplete as completion;
 ghost use Rattle.rmm_model.specs.Host.{state_shown};
 ghost use Rattle.rmm_trace.specs.declared.word.Atom.TheVariants.{Decimal, Hexadecimal};
 ghost use Rattle.rmm_answers.specs.Guest.{rec_named};
@@ -19,7 +18,8 @@ use crate::reply::{Digest, TraceReply};
 use page_arena::PageStore;
 use rmi_abi::HashAlgorithm;
 use rmm::Rmm;
-use rmm_model::{PsciRequest, RmmGranuleState, RmmRealm, RmmRealmState, RmmRec};
+use rmm_granules::is_pending;
+use rmm_model::{RmmGranuleState, RmmRealm, RmmRealmState, RmmRec};
 use rmm_trace::place::{LEVEL, MPIDR, NONE, PC, RUNNABLE, RUNNING, S2SZ, VMID};
 use rmm_trace::{Atom, Sentence};
 
@@ -197,16 +197,6 @@ pub(crate) fn answer_rim<S: PageStore>(reply: &mut TraceReply, rmm: &Rmm<S>, add
 }
 
 // ---- RECs
-
-// Whether a PSCI request is one that the host has to complete.
-fn is_pending(psci: PsciRequest) -> bool
-    ensures { result ≡ completion.is_pending psci }
-{
-    match psci {
-        PsciRequest::CpuOn { .. } | PsciRequest::AffinityInfo { .. } => true,
-        PsciRequest::None | PsciRequest::Complete(_) => false,
-    }
-}
 
 // The address of the RD of the realm that owns a granule; 0 if none does.
 #[tactic(auto, unfolding(crate::specs::Reading::owner_address))]
