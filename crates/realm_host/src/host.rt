@@ -79,7 +79,7 @@ impl<S: PageStore> Host<S> {
     /// Returns the accepted operations of all builds, in sequence.
     ///
     /// They are a legal history, in which no build has used more than its room, or had more than 512 operations open at
-    /// any time. If a build is in abort, it has something open. If it has a mark, it can go back to it.
+    /// any time. If a build is in abort, it has something open. If it has a mark, it never had less open since.
     ///
     /// Each build can be left out: the rest is a legal history too, and leads to the world without that build. The
     /// numbers of a host are in their ranges.
