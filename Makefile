@@ -21,10 +21,10 @@ LIB = $(DESTDIR)$(PREFIX)/lib
 help: ## lists the targets
 	@grep -E '^[a-z-]+:.*## ' $(MAKEFILE_LIST) | sed 's/:.*## /\t/' | expand -t 20
 
-try: ## a minute: builds realmview with nothing proved, and explains PLAN
+try: ## one to three minutes: builds realmview with nothing proved, and explains PLAN
 	@tools/try realmview $(PLAN) -- why
 
-try-trace: ## a minute: builds rmitrace with nothing proved, and checks TRACE
+try-trace: ## one to three minutes: builds rmitrace with nothing proved, and checks TRACE
 	@tools/try rmitrace $(TRACE) -- check
 
 quick: ## at most five minutes: proves what has changed since main, or CRATE, and what is above it as far as the time lasts, and runs its tests
