@@ -108,10 +108,11 @@ impl<D> Told<D> {
 
 impl<R: Read> Told<R> {
     /// Reads bytes from the wrapped reader with one call. Every error of the device is a failure, and an `Err` sets
-    /// `failed`.
+    /// `failed`. A failed read is never that of a closed pipe.
     pub fn read(&mut self, buf: &mut [u8]) -> Result<usize, DeviceFailed>
         requires { self.old.failed ≡ false }
         ensures told { self.new.failed ≡ is_err result }
+        ensures not_closed { self.new.is_closed ≡ false }
         ensures counted { self.new.reads ≡ min (self.old.reads + 1) (2 ^ 64 - 1) }
         ensures not_lowered { self.old.reads ≤ self.new.reads }
         ensures bound { ReadsAtMost result buf.new }
