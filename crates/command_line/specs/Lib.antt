@@ -5,3 +5,4 @@ pub mod Options
 pub mod Realmhost
 pub mod Realmview
 pub mod Rmitrace
+pub mod Terminal

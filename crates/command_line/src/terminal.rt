@@ -1,7 +1,8 @@
 //! Input and output of a program at a terminal.
-ghost use Rattle.std.specs.Prelude.{◌≡◌, ◌⊎◌, IfErr};
+ghost use Rattle.std.specs.Prelude.{◌≡◌, ◌⊎◌, IfErr, IfOk, is_some};
 ghost use Rattle.std.specs.Process.{exit_status};
 ghost use Rattle.command_line.specs.Stop.{status_of_stop};
+ghost use Rattle.command_line.specs.Terminal.{is_file};
 ghost use Rattle.command_line.specs.declared.stop.Stop.TheVariants.{Run};
 
 use crate::paint::{TextKind, painted};
@@ -59,7 +60,8 @@ impl<'a> Input<'a> {
         file: Option<&str>,
         awaited: &str,
     ) -> Result<Input<'a>, Stop<F>>
-        ensures { IfErr result (λ stop. (status_of_stop F.status_of stop ≡ 5) ⊎ (stop ≡ Run F.memory)) }
+        ensures ok { IfOk result (λ input. is_file input ≡ is_some file.entry) }
+        ensures err { IfErr result (λ stop. (status_of_stop F.status_of stop ≡ 5) ⊎ (stop ≡ Run F.memory)) }
     {
         let Some(name) = file else {
             let stdin = rt.stdin();

@@ -1,0 +1,6 @@
+use Rattle.std.specs.Io.KnownBytes.{Keeps}
+use Rattle.command_line.proofs.waiting.WaitingStreamRead.read.Given as goal
+
+-- a read that would block does nothing
+abbrev pub invariant-loop : goal.invariant-loop
+invariant-loop g l = Keeps (g.R.Read.remaining l.fn.self.stream) (g.R.Read.remaining l.self.stream)
