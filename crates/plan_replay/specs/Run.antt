@@ -1,5 +1,5 @@
 -- The runs of a plan, and the text of one.
-use Rattle.std.specs.Prelude.{◌≡◌, ℕ, List, [], ◌∷◌, ◌++◌, length, replicate, sum, Option, Some, None, slice_get, slice_index, slice_index_or, slice_set, option_and_then, nat_le, ◌==◌, ◌&&◌, Bool, if◌then◌else◌}
+use Rattle.std.specs.Prelude.{◌≡◌, ℕ, List, [], ◌∷◌, ◌++◌, length, replicate, sum, Option, Some, None, slice_get, slice_index, slice_index_or, slice_set, option_and_then, nat_le, take, ◌==◌, ◌&&◌, Bool, if◌then◌else◌}
 use Rattle.std.specs.List.{flat_map, range_with_len}
 use Rattle.host_commands.specs.declared.cmd.Step.TheVariants.{Abort}
 use Rattle.host_ledger.specs.View.{HostView, world_of, pages_of_build}
@@ -101,6 +101,12 @@ build_text host build = pages_text host build ++ realm_text build (realm_at (wor
 abbrev pub map_text : HostView → List ℕ
 map_text host = flat_map (build_text host) (range_with_len 0 8) ++ free_line (length (free_set (world_of host)))
 
+-- A turn of the build leads from one position to the other.
+pub record IsTurnOfBuild (plan : Plan) (from : Position) (build : ℕ) (to : Position) : Type 0 where
+  pub turn : Turn
+  pub of_build : turn.build ≡ build
+  pub is_turn : IsTurn plan from turn to
+
 -- A turn of the build leads from one position to the other, and its line is appended.
 pub record IsReportedTurn (plan : Plan) (from : Position) (build : ℕ) (to : Position) (old new : List ℕ) : Type 0 where
   pub turn : Turn
@@ -116,3 +122,11 @@ pub record IsReportedRun (plan : Plan) (from to : HostView) (old new : List ℕ)
   pub is_run : AreTurns plan plan.order (start from) turns end
   pub host : end.host ≡ to
   pub appended : new ≡ old ++ flat_map turn_text turns
+
+-- The first turns of the plan lead from one host to the other.
+pub record IsRunBegun (plan : Plan) (from to : HostView) : Type 0 where
+  pub done : ℕ
+  pub turns : List Turn
+  pub end : Position
+  pub is_run : AreTurns plan (take done plan.order) (start from) turns end
+  pub host : end.host ≡ to

@@ -1,8 +1,8 @@
 //! The run of a plan's turns, and the output line of each turn.
-ghost use Rattle.std.specs.Prelude.{◌≡◌, ◌<◌, ◌≤◌, OnOk, IfSome, string_bytes, vec_len, option_map};
+ghost use Rattle.std.specs.Prelude.{◌≡◌, ◌<◌, ◌≤◌, OnErr, OnOk, IfSome, string_bytes, vec_len, option_map};
 ghost use Rattle.realm_plan.specs.PlanView.{plan_view};
 ghost use Rattle.plan_replay.specs.Place.{giving_up};
-ghost use Rattle.plan_replay.specs.Run.{given_up, step_numbered, step_after as nth_step, IsTurn, IsReportedTurn, IsReportedRun};
+ghost use Rattle.plan_replay.specs.Run.{given_up, step_numbered, step_after as nth_step, IsTurn, IsTurnOfBuild, IsReportedTurn, IsReportedRun, IsRunBegun};
 
 use crate::answer::{TurnAnswer, push_turn};
 use crate::place::{GIVING_UP, PlanCursor};
@@ -74,7 +74,9 @@ fn turn<S: PageStore>(
     text: &mut String,
 ) -> Result<(), AllocError>
     requires { build < vec_len plan.now.builds }
-    ensures { OnOk result (IsReportedTurn (plan_view plan.now) (record { host = host.old; places = places.old }) build
+    ensures taken { IsTurnOfBuild (plan_view plan.now) (record { host = host.old; places = places.old }) build
+        (record { host = host.new; places = places.new }) }
+    ensures ok { OnOk result (IsReportedTurn (plan_view plan.now) (record { host = host.old; places = places.old }) build
         (record { host = host.new; places = places.new }) (string_bytes text.old) (string_bytes text.new)) }
 {
     match take_turn(host, plan, places, build) {
@@ -83,13 +85,15 @@ fn turn<S: PageStore>(
     }
 }
 
-/// Performs all turns of a plan, and appends an output line for each. At an `Err` allocation failed.
+/// Performs all turns of a plan, and appends an output line for each. At an `Err` allocation failed. Then the host has
+/// done only the first turns of the plan, and the text has only their first lines.
 pub fn run_turns<S: PageStore>(
     host: &mut Host<S>,
     plan: &Plan,
     text: &mut String,
 ) -> Result<(), AllocError>
-    ensures { OnOk result (IsReportedRun (plan_view plan.now) host.old host.new (string_bytes text.old) (string_bytes text.new)) }
+    ensures ok { OnOk result (IsReportedRun (plan_view plan.now) host.old host.new (string_bytes text.old) (string_bytes text.new)) }
+    ensures err { OnErr result (IsRunBegun (plan_view plan.now) host.old host.new) }
 {
     let mut places = [PlanCursor::first(); 8];
     for build in &plan.order {
