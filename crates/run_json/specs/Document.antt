@@ -40,8 +40,10 @@ pub record HasTurnItems (plan : Plan) (from to : HostView) (items : List TurnIte
   pub host : end.host ≡ to
   pub turns : AreTurnItems plan plan.order (start from) end items
 
--- The document of some run of the plan from a host: the machine's size, the turns, and the last world.
+-- The document of some run of the plan from a host: the format's version, the machine's size, the turns, and the last
+-- world.
 pub record IsDocument (plan : Plan) (from to : HostView) (document : Document) : Type 0 where
+  pub version_is : document.realmview ≡ 1
   pub settings_are : document.settings ≡ settings_of plan
   pub turns_are : HasTurnItems plan from to document.turns.items
   pub world_is : IsWorldItem to document.world
