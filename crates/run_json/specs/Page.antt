@@ -10,6 +10,10 @@ escaped_byte byte = if byte == 60 then codes "\\u003c" else byte ∷ []
 abbrev pub escaped : List ℕ → List ℕ
 escaped json = flat_map escaped_byte json
 
--- the template's head, the data, and the template's tail
+-- the element of the page that has the data: a browser runs no script of this type
+abbrev pub data_element : List ℕ → List ℕ
+data_element json = codes "<script id=\"data\" type=\"application/json\">" ++ (escaped json ++ codes "</script>")
+
+-- the template's head, the element of the data, and the template's tail
 unfoldable pub page_bytes : List ℕ → List ℕ
-page_bytes json = HEAD.now ++ (escaped json ++ TAIL.now)
+page_bytes json = HEAD.now ++ (data_element json ++ TAIL.now)

@@ -1,6 +1,6 @@
 //! The HTML page of a run, made from data about the run in JSON.
 ghost use Rattle.std.specs.Prelude.{◌≡◌, ◌++◌, OnOk, IfOk};
-ghost use Rattle.run_json.specs.Page.{escaped, page_bytes};
+ghost use Rattle.run_json.specs.Page.{data_element, escaped, page_bytes};
 
 use crate::template::{HEAD, TAIL};
 use std::alloc::{AllocError, Global};
@@ -19,15 +19,25 @@ fn push_escaped(page: &mut Vec<u8>, json: &[u8]) -> Result<(), AllocError>
     Ok(())
 }
 
-/// Puts the JSON data of a run into the HTML page template. The page is the template's head, the data in JSON, and the
-/// template's tail. In the data each `<` is written as `\u003c`, so that the data cannot end the script element around
-/// it. An `Err` comes only if allocation failed.
+// Appends the script element of the data.
+fn push_data(page: &mut Vec<u8>, json: &[u8]) -> Result<(), AllocError>
+    ensures { OnOk result (page.new.items ≡ page.old.items ++ data_element json.now) }
+{
+    page.extend_from_slice(b"<script id=\"data\" type=\"application/json\">")?;
+    push_escaped(page, json)?;
+    page.extend_from_slice(b"</script>")?;
+    Ok(())
+}
+
+/// Puts the JSON data of a run into the HTML page template. The page is the template's head, a script element with the
+/// data in JSON, and the template's tail. In the data each `<` is written as `\u003c`, so that the data cannot end the
+/// element. An `Err` comes only if allocation failed.
 pub fn page_of(alloc: Global, json: &[u8]) -> Result<Vec<u8>, AllocError>
     ensures { IfOk result (λ page. page.items ≡ page_bytes json.now) }
 {
     let mut page = Vec::new(alloc);
     page.extend_from_slice(HEAD.as_bytes())?;
-    push_escaped(&mut page, json)?;
+    push_data(&mut page, json)?;
     page.extend_from_slice(TAIL.as_bytes())?;
     Ok(page)
 }

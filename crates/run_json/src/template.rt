@@ -1,7 +1,7 @@
-//! The parts of a run's HTML page that precede and follow its data. `tools/page_template` makes this file of those in
-//! `page/`.
+//! The parts of a run's HTML page that precede and follow the element of its data. `tools/page_template` makes this file
+//! of those in `page/`.
 
-/// The part of the HTML page that precedes the run's data.
+/// The part of the HTML page that precedes the element of the run's data.
 pub const HEAD: &str = "<!DOCTYPE html>
 <html lang=\"en\">
 <head>
@@ -260,10 +260,10 @@ footer { margin-top: 18px; padding-top: 8px; color: var(--soft); font-size: 13px
 </main>
 <footer><p><b>Left</b> and <b>Right</b> a turn back and on; <b>Home</b> and <b>End</b> the start and the end; <b>Space</b> play; <b>0</b> to <b>7</b> leave that build out; <b>Escape</b> back to the run; <b>T</b> dark or light. In the granules: <b>Shift</b> and an arrow key. In the history: <b>Up</b> and <b>Down</b>.</p></footer>
 <noscript><p>This page draws its data by a script, which is switched off here.</p></noscript>
-<script id=\"data\" type=\"application/json\">";
+";
 
-/// The part of the HTML page that follows the run's data.
-pub const TAIL: &str = "</script>
+/// The part of the HTML page that follows the element of the run's data.
+pub const TAIL: &str = "
 <script>
 \"use strict\";
 // The words for states and refusals.
