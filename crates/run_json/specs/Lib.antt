@@ -6,3 +6,4 @@ pub mod Turns
 pub mod Worlds
 pub mod Document
 pub mod Page
+pub mod JsonText

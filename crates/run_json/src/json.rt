@@ -1,4 +1,7 @@
 //! Writes values as JSON text.
+ghost use Rattle.std.specs.Prelude.{IfOk, string_bytes};
+ghost use Rattle.run_json.specs.JsonText.{IsJsonOf};
+
 use serde::{Described, Serialize, Serializer};
 use std::alloc::{AllocError, Global};
 use std::fmt::Display;
@@ -26,7 +29,9 @@ pub fn member<W: Serializer, T: Serialize>(
 }
 
 /// Converts a value to JSON text. An `Err` comes only if allocation failed.
-pub fn json_text<T: Serialize>(alloc: Global, value: &T) -> Result<String, AllocError> {
+pub fn json_text<T: Serialize>(alloc: Global, value: &T) -> Result<String, AllocError>
+    ensures { IfOk result (λ text. IsJsonOf (T.writes value.now) (string_bytes text)) }
+{
     match serde_json::to_string(alloc, value) {
         Ok(text) => Ok(text),
         Err(_) => Err(AllocError),

@@ -1,0 +1,8 @@
+-- The text of a value in JSON.
+use Rattle.std.specs.Prelude.{ℕ, List, [], Some}
+use Rattle.serde.specs.Event.{Log}
+use Rattle.serde_json.specs.Sent.{IsTextOf}
+
+-- the text that serde_json has, with no space, for events which the value writes
+abbrev pub IsJsonOf : (Log → Log → Type 0) → List ℕ → Type 0
+IsJsonOf writes text = (log : Log) × writes (Some []) log × IsTextOf log text
