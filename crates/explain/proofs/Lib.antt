@@ -1,4 +1,5 @@
 pub mod Lists
 pub mod Needs
 pub mod Runs
+pub mod ReasonLines
 mod FirstFailing

@@ -9,5 +9,6 @@ pub mod OfWalk
 pub mod Commands
 pub mod Steps
 pub mod Unfinished
+pub mod Words
 pub mod Explained
 pub mod FirstFailing

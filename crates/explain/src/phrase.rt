@@ -2,6 +2,9 @@
 //!
 //! A function that chooses words returns a phrase, and `Phrase::push` writes it. So the choice is an expression over
 //! the numbers of a check, and cannot fail.
+ghost use Rattle.std.specs.Prelude.{OnOk, string_bytes};
+ghost use Rattle.explain.specs.Words.{AppendsWords};
+
 use granule_addr::BuildId;
 use page_arena::PageStore;
 use realm_host::Host;
@@ -69,19 +72,25 @@ pub(crate) fn page_or(page: Option<u16>, letter: &'static str) -> Value {
     }
 }
 
-fn push_number(text: &mut String, number: u64) -> Result<(), AllocError> {
+fn push_number(text: &mut String, number: u64) -> Result<(), AllocError>
+    ensures { OnOk result (AppendsWords (string_bytes text.old) (string_bytes text.new)) }
+{
     write!(text, "{number}")
 }
 
 // Appends a count and its noun.
-fn push_many(text: &mut String, count: usize, noun: &str) -> Result<(), AllocError> {
+fn push_many(text: &mut String, count: usize, noun: &str) -> Result<(), AllocError>
+    ensures { OnOk result (AppendsWords (string_bytes text.old) (string_bytes text.new)) }
+{
     push_number(text, count as u64)?;
     text.push_str(" ")?;
     text.push_str(noun)
 }
 
 // Appends a role, a noun (`page` or `granule`) and a number.
-fn push_named(text: &mut String, role: &str, noun: &str, number: u16) -> Result<(), AllocError> {
+fn push_named(text: &mut String, role: &str, noun: &str, number: u16) -> Result<(), AllocError>
+    ensures { OnOk result (AppendsWords (string_bytes text.old) (string_bytes text.new)) }
+{
     text.push_str(role)?;
     text.push_str(noun)?;
     push_number(text, number as u64)
@@ -99,7 +108,9 @@ impl Value {
         }
     }
 
-    fn push(self, text: &mut String) -> Result<(), AllocError> {
+    fn push(self, text: &mut String) -> Result<(), AllocError>
+        ensures { OnOk result (AppendsWords (string_bytes text.old) (string_bytes text.new)) }
+    {
         match self {
             Value::Number(number) => push_number(text, number),
             Value::Word(word) => text.push_str(word),
@@ -112,7 +123,9 @@ impl Value {
 }
 
 // Appends words, with each `{}` replaced by the next value.
-fn fill(text: &mut String, words: &str, values: &[Value]) -> Result<(), AllocError> {
+fn fill(text: &mut String, words: &str, values: &[Value]) -> Result<(), AllocError>
+    ensures { OnOk result (AppendsWords (string_bytes text.old) (string_bytes text.new)) }
+{
     let mut rest = values;
     for (place, part) in words.split("{}").enumerate() {
         if place > 0 {
@@ -139,7 +152,9 @@ impl Phrase {
     }
 
     /// Appends the phrase, with its values filled in, to a text.
-    pub(crate) fn push(self, text: &mut String) -> Result<(), AllocError> {
+    pub(crate) fn push(self, text: &mut String) -> Result<(), AllocError>
+        ensures { OnOk result (AppendsWords (string_bytes text.old) (string_bytes text.new)) }
+    {
         let values = [self.first, self.second, self.third, self.fourth];
         fill(text, self.words, &values)
     }

@@ -1,0 +1,50 @@
+-- The lines that say why a step is refused. What their sentences say is in no definition.
+use Rattle.std.specs.Prelude.{◌≡◌, ℕ, ◌-◌, ◌==◌, List, [], ◌∷◌, ◌++◌, codes, length, take, string_bytes, Bool, if◌then◌else◌}
+use Rattle.std.specs.Fmt.{decimal}
+use Rattle.std.specs.List.{flat_map}
+use Rattle.explain.specs.declared.check.Check.{Check}
+use Rattle.explain.specs.declared.explained.Explanation.{Explanation}
+
+-- ---- lines
+
+-- the line of an error or a help message; there is none where the message is empty
+abbrev pub message_line : List ℕ → List ℕ → List ℕ
+message_line kind [] = []
+message_line kind (first ∷ words) = codes "    " ++ (kind ++ (codes ": " ++ (first ∷ words ++ 10 ∷ [])))
+
+-- the line with the number of checks that passed; there is none where none did
+abbrev pub count_line : ℕ → List ℕ
+count_line count =
+    if count == 0 then [] else if count == 1 then codes "    1 earlier check passed\n"
+    else codes "    " ++ (decimal count ++ codes " earlier checks passed\n")
+
+-- the line of a check that passed, with these words
+abbrev pub passed_line : List ℕ → List ℕ
+passed_line words = codes "        ok: " ++ (words ++ 10 ∷ [])
+
+-- ---- texts that get words, or lines
+
+pub record AppendsWords (old new : List ℕ) : Type 0 where
+  pub words : List ℕ
+  pub appended : new ≡ old ++ words
+
+-- the lines of so many checks that passed
+pub record AppendsPassed (count : ℕ) (old new : List ℕ) : Type 0 where
+  pub sentences : List (List ℕ)
+  pub each : length sentences ≡ count
+  pub appended : new ≡ old ++ flat_map passed_line sentences
+
+-- ---- the lines of a reason
+
+-- the checks before the last, which is the one that failed
+abbrev pub earlier_checks : List Check → List Check
+earlier_checks checks = take (length checks - 1) checks
+
+-- The lines of the error and of the help, and the number of checks that passed. If all are asked for, a line for each.
+pub record AreReasonLines (reason : Explanation) (all : Bool) (text : List ℕ) : Type 0 where
+  pub sentences : List (List ℕ)
+  pub each : length sentences ≡ (if all then length (earlier_checks reason.checks.items) else 0)
+  pub whole :
+      text ≡ message_line (codes "error") (string_bytes reason.error)
+      ++ (message_line (codes "help") (string_bytes reason.help)
+      ++ (count_line (length (earlier_checks reason.checks.items)) ++ flat_map passed_line sentences))
