@@ -1,11 +1,9 @@
 //! Aborts of builds that are unfinished when a plan's run ends.
-ghost use Rattle.std.specs.Prelude.{◌≡◌, ◌++◌, [], IfOk, OnOk};
-ghost use Rattle.std.specs.List.{cons_option, filter_map, range_with_len};
-ghost use Rattle.explain.specs.Unfinished.{unfinished_abort};
+ghost use Rattle.std.specs.Prelude.{◌≡◌, ◌++◌, [], IfOk, OnOk, string_bytes};
+ghost use Rattle.std.specs.List.{cons_option, filter_map, flat_map, range_with_len};
+ghost use Rattle.explain.specs.Unfinished.{unfinished_abort, turns_noun, abort_lines};
 
 use crate::explaining::id_of;
-use crate::phrase::Value::{Many, Number};
-use crate::phrase::two;
 use granule_addr::BuildId;
 use page_arena::PageStore;
 use realm_host::Host;
@@ -59,17 +57,42 @@ pub fn unfinished_aborts<S: PageStore>(
     Ok(aborts)
 }
 
+// The noun for a number of turns that an abort lacks.
+fn turns_noun(turns: usize) -> &'static str
+    ensures { result.now ≡ turns_noun turns }
+{
+    if turns == 1 {
+        "more turn"
+    } else {
+        "more turns"
+    }
+}
+
+// Appends the error line and the help line of an unfinished abort.
+fn push_abort(text: &mut String, abort: UnfinishedAbort) -> Result<(), AllocError>
+    ensures { OnOk result (string_bytes text.new ≡ string_bytes text.old ++ abort_lines abort) }
+{
+    let build = abort.build.number();
+    let turns = abort.turns;
+    let noun = turns_noun(turns);
+    writeln!(
+        text,
+        "    error: the abort of build {build} needs {turns} {noun} in `order`"
+    )?;
+    writeln!(
+        text,
+        "    help: add {turns} {noun} of build {build} to `order`; `realmview order` does it"
+    )
+}
+
 /// Returns an error line and a help line for each unfinished abort. The lines say how many turns the abort lacks in the
 /// plan's `order`, and how to add them.
-pub fn unfinished_lines(alloc: Global, aborts: &[UnfinishedAbort]) -> Result<String, AllocError> {
+pub fn unfinished_lines(alloc: Global, aborts: &[UnfinishedAbort]) -> Result<String, AllocError>
+    ensures { IfOk result (λ text. string_bytes text ≡ flat_map abort_lines aborts.now) }
+{
     let mut text = String::new(alloc);
     for abort in aborts {
-        let build = Number(abort.build.number() as u64);
-        let more = Many(abort.turns, "more turn", "more turns");
-        let error = "    error: the abort of build {} needs {} in `order`\n";
-        two(error, build, more).push(&mut text)?;
-        let help = "    help: add {} of build {} to `order`; `realmview order` does it\n";
-        two(help, more, build).push(&mut text)?;
+        push_abort(&mut text, *abort)?;
     }
     Ok(text)
 }
