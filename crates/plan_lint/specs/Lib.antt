@@ -1,2 +1,4 @@
 pub mod Findings
+pub mod Shown
+pub mod Lines
 pub mod Texts

@@ -1,4 +1,7 @@
 //! Positions in a text, and excerpts of a text. An excerpt is a line with carets under a part of the line.
+ghost use Rattle.std.specs.Prelude.{◌≡◌, IfOk, string_bytes};
+ghost use Rattle.plan_lint.specs.Shown.{shown_byte, plain_text};
+
 use std::alloc::{AllocError, Global};
 
 /// The maximum number of bytes that an excerpt shows on each side of its first caret. The first side ends before the
@@ -48,14 +51,25 @@ pub(crate) fn place_at(text: &[u8], from: Cursor, at: usize) -> Cursor {
     place
 }
 
+fn shown_byte(byte: u8) -> u8
+    ensures { result ≡ shown_byte byte }
+{
+    if byte < b' ' || byte == 0x7f {
+        b' '
+    } else {
+        byte
+    }
+}
+
 /// Returns the bytes as one line of text. A space replaces each control character, and U+FFFD replaces invalid UTF-8.
-pub(crate) fn plain_text(alloc: Global, bytes: &[u8]) -> Result<String, AllocError> {
+pub(crate) fn plain_text(alloc: Global, bytes: &[u8]) -> Result<String, AllocError>
+    ensures { IfOk result (λ text. string_bytes text ≡ plain_text bytes.now) }
+{
     let mut shown = Vec::with_capacity(alloc, bytes.len())?;
     for byte in bytes {
-        let is_control = *byte < b' ' || *byte == 0x7f;
-        shown.push(if is_control { b' ' } else { *byte })?;
+        shown.push(shown_byte(*byte))?;
     }
-    String::from_utf8_lossy(alloc, &shown)
+    String::from_utf8_lossy(alloc, shown.as_slice())
 }
 
 // What is shown of a line before the first caret: all of it, or two dots and its end if it is too long.
@@ -107,21 +121,22 @@ fn push_carets(text: &mut String, before: usize, count: usize) -> Result<(), All
     text.push('\n')
 }
 
-/// Appends an excerpt of a line, with carets under a part of it. The line is `front` followed by `back`, and the carets
+/// Returns an excerpt of a line, with carets under a part of it. The line is `front` followed by `back`, and the carets
 /// are under the first `len` bytes of `back`.
-pub(crate) fn push_excerpt(
+pub(crate) fn excerpt_of(
     alloc: Global,
-    text: &mut String,
     front: &[u8],
     back: &[u8],
     len: usize,
-) -> Result<(), AllocError> {
+) -> Result<String, AllocError> {
     let front = plain_text(alloc, &shown_front(alloc, front)?)?;
     let back = shown_back(alloc, back)?;
     let shown = plain_text(alloc, &back)?;
     let marked = plain_text(alloc, first_of(&back, len))?;
+    let mut text = String::new(alloc);
     text.push_str(&front)?;
     text.push_str(&shown)?;
     text.push('\n')?;
-    push_carets(text, char_count(&front), char_count(&marked))
+    push_carets(&mut text, char_count(&front), char_count(&marked))?;
+    Ok(text)
 }

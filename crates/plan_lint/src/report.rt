@@ -1,12 +1,13 @@
 //! The report on a document, which shows each finding with an excerpt of its line. For a plan, the report also has the
 //! size of the plan. Tests compare reports with stored texts.
-ghost use Rattle.std.specs.Prelude.{IfOk};
+ghost use Rattle.std.specs.Prelude.{◌≡◌, ◌++◌, IfOk, OnOk, string_bytes};
+ghost use Rattle.std.specs.List.{flat_map};
+ghost use Rattle.plan_lint.specs.Shown.{plain_line};
+ghost use Rattle.plan_lint.specs.Lines.{severity_word, head_line, plural, size_text, AppendsFinding, AppendsFindings};
 
-use crate::excerpt::{Cursor, FIRST, first_of, place_at, plain_text, push_excerpt};
+use crate::excerpt::{Cursor, FIRST, excerpt_of, first_of, place_at, plain_text};
 use crate::finding::{Finding, Severity};
 use crate::judging::{Size, judge};
-use crate::message_text::Piece::{Count, Plural, Words};
-use crate::message_text::push_filled;
 use std::alloc::{AllocError, Global};
 
 /// The number of bytes that are searched for a line feed. The search begins at the position of a finding.
@@ -31,6 +32,15 @@ fn back_of(bytes: &[u8], at: usize) -> &[u8] {
     ahead
 }
 
+fn severity_word(severity: Severity) -> &'static str
+    ensures { result.now ≡ severity_word severity }
+{
+    match severity {
+        Severity::Error(..) => "error",
+        Severity::Warning => "warning",
+    }
+}
+
 // Appends the first line of a finding: its position, severity and message.
 fn push_head(
     alloc: Global,
@@ -38,20 +48,31 @@ fn push_head(
     source: &str,
     place: Cursor,
     finding: &Finding,
-) -> Result<(), AllocError> {
-    let kind = match finding.severity {
-        Severity::Error(..) => "error",
-        Severity::Warning => "warning",
-    };
+) -> Result<(), AllocError>
+    ensures { OnOk result (string_bytes text.new ≡ string_bytes text.old ++ head_line source.now place.line place.column finding.now) }
+{
+    let kind = severity_word(finding.severity);
     let words = plain_text(alloc, finding.words.as_bytes())?;
-    let pieces = [
-        Words(source),
-        Count(place.line),
-        Count(place.column),
-        Words(kind),
-        Words(&words),
-    ];
-    push_filled(text, "{}:{}:{}: {}: {}\n", &pieces)
+    let line = place.line;
+    let column = place.column;
+    writeln!(text, "{source}:{line}:{column}: {kind}: {words}")
+}
+
+fn push_note(alloc: Global, text: &mut String, note: &str) -> Result<(), AllocError>
+    ensures { OnOk result (string_bytes text.new ≡ string_bytes text.old ++ plain_line note.now) }
+{
+    let note = plain_text(alloc, note.as_bytes())?;
+    writeln!(text, "{note}")
+}
+
+// Appends the notes of a finding, a line for each.
+fn push_notes(alloc: Global, text: &mut String, notes: &[String]) -> Result<(), AllocError>
+    ensures { OnOk result (string_bytes text.new ≡ string_bytes text.old ++ flat_map (λ note. plain_line (string_bytes note)) notes.now) }
+{
+    for note in notes {
+        push_note(alloc, text, note.as_str())?;
+    }
+    Ok(())
 }
 
 // Appends a finding: its position, severity and message, an excerpt of its line, and its notes.
@@ -62,16 +83,15 @@ fn push_finding(
     bytes: &[u8],
     place: Cursor,
     finding: &Finding,
-) -> Result<(), AllocError> {
+) -> Result<(), AllocError>
+    ensures { OnOk result (AppendsFinding source.now finding.now (string_bytes text.old) (string_bytes text.new)) }
+{
     push_head(alloc, text, source, place, finding)?;
     let front = bytes.get(place.start..place.at).unwrap_or(&[]);
     let len = finding.span.end.saturating_sub(finding.span.start);
-    push_excerpt(alloc, text, front, back_of(bytes, place.at), len)?;
-    for note in &finding.notes {
-        let note = plain_text(alloc, note.as_bytes())?;
-        push_filled(text, "{}\n", &[Words(&note)])?;
-    }
-    Ok(())
+    let excerpt = excerpt_of(alloc, front, back_of(bytes, place.at), len)?;
+    text.push_str(excerpt.as_str())?;
+    push_notes(alloc, text, finding.notes.as_slice())
 }
 
 // Appends all findings. In the order of their places, the bytes are gone through once.
@@ -81,7 +101,9 @@ fn push_findings(
     source: &str,
     bytes: &[u8],
     findings: &[Finding],
-) -> Result<(), AllocError> {
+) -> Result<(), AllocError>
+    ensures { OnOk result (AppendsFindings source.now findings.now (string_bytes text.old) (string_bytes text.new)) }
+{
     let mut place = FIRST;
     for finding in findings {
         place = place_at(bytes, place, finding.span.start);
@@ -90,18 +112,34 @@ fn push_findings(
     Ok(())
 }
 
-// Appends the size of a plan.
-fn push_size(text: &mut String, source: &str, size: Size) -> Result<(), AllocError> {
-    let pieces = [
-        Words(source),
-        Count(size.builds),
-        Plural(size.builds),
-        Count(size.steps),
-        Plural(size.steps),
-        Count(size.turns),
-        Plural(size.turns),
-    ];
-    push_filled(text, "{}: {} build{}, {} step{}, {} turn{}\n", &pieces)
+// The plural ending of a noun for a count.
+fn plural(count: usize) -> &'static str
+    ensures { result.now ≡ plural count }
+{
+    if count == 1 { "" } else { "s" }
+}
+
+// Appends the size of a plan, if there is one.
+fn push_size(text: &mut String, source: &str, size: Option<Size>) -> Result<(), AllocError>
+    ensures { OnOk result (string_bytes text.new ≡ string_bytes text.old ++ size_text source.now size) }
+{
+    let Some(
+        Size {
+            builds,
+            steps,
+            turns,
+        },
+    ) = size
+    else {
+        return Ok(());
+    };
+    let builds_end = plural(builds);
+    let steps_end = plural(steps);
+    let turns_end = plural(turns);
+    writeln!(
+        text,
+        "{source}: {builds} build{builds_end}, {steps} step{steps_end}, {turns} turn{turns_end}"
+    )
 }
 
 impl LintReport {
@@ -115,10 +153,14 @@ impl LintReport {
         let judged = judge(alloc, bytes)?;
         let source = plain_text(alloc, source.as_bytes())?;
         let mut text = String::new(alloc);
-        push_findings(alloc, &mut text, &source, bytes, &judged.findings)?;
-        if let Some(size) = judged.size {
-            push_size(&mut text, &source, size)?;
-        }
+        push_findings(
+            alloc,
+            &mut text,
+            source.as_str(),
+            bytes,
+            judged.findings.as_slice(),
+        )?;
+        push_size(&mut text, source.as_str(), judged.size)?;
         let is_plan = judged.size.is_some();
         Ok(LintReport { text, is_plan })
     }
