@@ -9,32 +9,32 @@ use Rattle.trace_program.specs.Reading.{IsTraceLineTaken, kept_of_line}
 use Rattle.trace_program.proofs.Parts.{cut_none, cut_some, no_feed_before}
 use Rattle.trace_program.proofs.Taken.{done_taken, line_taken, part_taken}
 
-module _ (asked : TraceSubcommand) (first : Session) (begun texts : List ℕ) where
+module _ (asked : TraceSubcommand) (source : List ℕ) (first : Session) (begun texts : List ℕ) where
   -- what is taken before a part is taken with the front of the part
   abbrev pub FrontTaken : List ℕ → Session → (line text : List ℕ) → Type 0
-  FrontTaken front s line text = (read written : List ℕ) → IsTraceLineTaken asked read written first begun texts → IsTraceLineTaken asked (read ++ front) written s line text
+  FrontTaken front s line text = (read written : List ℕ) → IsTraceLineTaken asked source read written first begun texts → IsTraceLineTaken asked source (read ++ front) written s line text
 
   pub front_none : FrontTaken [] first begun texts
-  front_none read written t = subst (λ (x : List ℕ). IsTraceLineTaken asked x written first begun texts) (sym (append-nil read)) t
+  front_none read written t = subst (λ (x : List ℕ). IsTraceLineTaken asked source x written first begun texts) (sym (append-nil read)) t
 
   module _ (front : List ℕ) (s : Session) (line text : List ℕ) (f : FrontTaken front s line text) where
     pub front_line : (rest kept new : List ℕ) (after : Session) → is_check_done asked s ≡ false
         → ((begin : List ℕ) → line ≡ kept_of_line begin → kept ≡ kept_of_line (begin ++ before_mark 10 rest))
-        → TakesLine asked kept s after text new → FrontTaken (front ++ (before_mark 10 rest ++ 10 ∷ [])) after [] new
+        → TakesLine asked source kept s after text new → FrontTaken (front ++ (before_mark 10 rest ++ 10 ∷ [])) after [] new
     front_line rest kept new after going keeps k read written t =
-        subst (λ (x : List ℕ). IsTraceLineTaken asked x written after [] new) (append_assoc read front (before_mark 10 rest ++ 10 ∷ []))
-        (line_taken asked (read ++ front) written s line text (f read written t) (before_mark 10 rest) kept new after going (no_feed_before rest) keeps k)
+        subst (λ (x : List ℕ). IsTraceLineTaken asked source x written after [] new) (append_assoc read front (before_mark 10 rest ++ 10 ∷ []))
+        (line_taken asked source (read ++ front) written s line text (f read written t) (before_mark 10 rest) kept new after going (no_feed_before rest) keeps k)
 
     pub front_part : (rest kept : List ℕ) → is_check_done asked s ≡ false → after_mark 10 rest ≡ None
         → ((begin : List ℕ) → line ≡ kept_of_line begin → kept ≡ kept_of_line (begin ++ before_mark 10 rest)) → FrontTaken (front ++ rest) s kept text
     front_part rest kept going none keeps read written t =
-        subst (λ (x : List ℕ). IsTraceLineTaken asked x written s kept text) (append_assoc read front (before_mark 10 rest) ∙ ap (λ (x : List ℕ). read ++ (front ++ x)) (cut_none rest none))
-        (part_taken asked (read ++ front) written s line text (f read written t) (before_mark 10 rest) kept going (no_feed_before rest) keeps)
+        subst (λ (x : List ℕ). IsTraceLineTaken asked source x written s kept text) (append_assoc read front (before_mark 10 rest) ∙ ap (λ (x : List ℕ). read ++ (front ++ x)) (cut_none rest none))
+        (part_taken asked source (read ++ front) written s line text (f read written t) (before_mark 10 rest) kept going (no_feed_before rest) keeps)
 
     pub front_done : (more : List ℕ) → is_check_done asked s ≡ true → FrontTaken (front ++ more) s line text
     front_done more done read written t =
-        subst (λ (x : List ℕ). IsTraceLineTaken asked x written s line text) (append_assoc read front more)
-        (done_taken asked (read ++ front) written s line text (f read written t) more done)
+        subst (λ (x : List ℕ). IsTraceLineTaken asked source x written s line text) (append_assoc read front more)
+        (done_taken asked source (read ++ front) written s line text (f read written t) more done)
 
 -- a part after the front of it and a line
 pub line_split : (part front rest after : List ℕ) → part ≡ front ++ rest → after_mark 10 rest ≡ Some after → part ≡ (front ++ (before_mark 10 rest ++ 10 ∷ [])) ++ after
@@ -52,24 +52,24 @@ after_shorter rest after some =
 -- ---- the loop over the lines of a part
 
 -- The front of the part is taken, and the rest is left.
-pub record HasFront (asked : TraceSubcommand) (first : Session) (begun texts part rest : List ℕ) (s : Session) (line text : List ℕ) : Type 0 where
+pub record HasFront (asked : TraceSubcommand) (source : List ℕ) (first : Session) (begun texts part rest : List ℕ) (s : Session) (line text : List ℕ) : Type 0 where
   pub front : List ℕ
   pub split : part ≡ front ++ rest
   pub going : is_check_done asked s ≡ false
-  pub taken : FrontTaken asked first begun texts front s line text
+  pub taken : FrontTaken asked source first begun texts front s line text
 
-module _ (asked : TraceSubcommand) (first : Session) (begun texts part rest : List ℕ) (s : Session) (line text : List ℕ) (h : HasFront asked first begun texts part rest s line text) where
+module _ (asked : TraceSubcommand) (source : List ℕ) (first : Session) (begun texts part rest : List ℕ) (s : Session) (line text : List ℕ) (h : HasFront asked source first begun texts part rest s line text) where
   -- the part of a line that is kept
   abbrev Keeps : List ℕ → List ℕ → Type 0
   Keeps more kept = (begin : List ℕ) → line ≡ kept_of_line begin → kept ≡ kept_of_line (begin ++ more)
 
   module _ (after more kept new left : List ℕ) (next : Session) (some : after_mark 10 rest ≡ Some after) (cut : more ≡ before_mark 10 rest) (keeps : Keeps more kept)
-      (k : TakesLine asked kept s next text new) (empty : left ≡ []) where
-    line_more : FrontTaken asked first begun texts (h.front ++ (before_mark 10 rest ++ 10 ∷ [])) next left new
-    line_more = subst (λ (it : List ℕ). FrontTaken asked first begun texts (h.front ++ (before_mark 10 rest ++ 10 ∷ [])) next it new) (sym empty)
-        (front_line asked first begun texts h.front s line text h.taken rest kept new next h.going (λ begin is. keeps begin is ∙ ap (λ (x : List ℕ). kept_of_line (begin ++ x)) cut) k)
+      (k : TakesLine asked source kept s next text new) (empty : left ≡ []) where
+    line_more : FrontTaken asked source first begun texts (h.front ++ (before_mark 10 rest ++ 10 ∷ [])) next left new
+    line_more = subst (λ (it : List ℕ). FrontTaken asked source first begun texts (h.front ++ (before_mark 10 rest ++ 10 ∷ [])) next it new) (sym empty)
+        (front_line asked source first begun texts h.front s line text h.taken rest kept new next h.going (λ begin is. keeps begin is ∙ ap (λ (x : List ℕ). kept_of_line (begin ++ x)) cut) k)
 
-    pub front_next : is_check_done asked next ≡ false → HasFront asked first begun texts part after next left new
+    pub front_next : is_check_done asked next ≡ false → HasFront asked source first begun texts part after next left new
     front_next going = record {
       front = h.front ++ (before_mark 10 rest ++ 10 ∷ []);
       split = line_split part h.front rest after h.split some;
@@ -77,15 +77,15 @@ module _ (asked : TraceSubcommand) (first : Session) (begun texts part rest : Li
       taken = line_more;
     }
 
-    pub part_done : is_check_done asked next ≡ true → FrontTaken asked first begun texts part next left new
-    part_done done = subst (λ (x : List ℕ). FrontTaken asked first begun texts x next left new) (sym (line_split part h.front rest after h.split some))
-        (front_done asked first begun texts (h.front ++ (before_mark 10 rest ++ 10 ∷ [])) next left new line_more after done)
+    pub part_done : is_check_done asked next ≡ true → FrontTaken asked source first begun texts part next left new
+    part_done done = subst (λ (x : List ℕ). FrontTaken asked source first begun texts x next left new) (sym (line_split part h.front rest after h.split some))
+        (front_done asked source first begun texts (h.front ++ (before_mark 10 rest ++ 10 ∷ [])) next left new line_more after done)
 
-  pub part_over : (more kept : List ℕ) → after_mark 10 rest ≡ None → more ≡ before_mark 10 rest → Keeps more kept → FrontTaken asked first begun texts part s kept text
-  part_over more kept none cut keeps = subst (λ (x : List ℕ). FrontTaken asked first begun texts x s kept text) (sym h.split)
-      (front_part asked first begun texts h.front s line text h.taken rest kept h.going none
+  pub part_over : (more kept : List ℕ) → after_mark 10 rest ≡ None → more ≡ before_mark 10 rest → Keeps more kept → FrontTaken asked source first begun texts part s kept text
+  part_over more kept none cut keeps = subst (λ (x : List ℕ). FrontTaken asked source first begun texts x s kept text) (sym h.split)
+      (front_part asked source first begun texts h.front s line text h.taken rest kept h.going none
       (λ begin is. keeps begin is ∙ ap (λ (x : List ℕ). kept_of_line (begin ++ x)) cut))
 
 -- nothing of a part is taken
-pub no_front : (asked : TraceSubcommand) (first : Session) (begun texts part : List ℕ) → is_check_done asked first ≡ false → HasFront asked first begun texts part part first begun texts
-no_front asked first begun texts part going = record { front = []; split = refl; going = going; taken = front_none asked first begun texts }
+pub no_front : (asked : TraceSubcommand) (source : List ℕ) (first : Session) (begun texts part : List ℕ) → is_check_done asked first ≡ false → HasFront asked source first begun texts part part first begun texts
+no_front asked source first begun texts part going = record { front = []; split = refl; going = going; taken = front_none asked source first begun texts }

@@ -9,9 +9,9 @@ pub not_both : (b : Bool) → b ≡ true → b ≡ false → ⊥
 not_both true e f = absurd (cc)
 not_both false e f = absurd (cc)
 
-module _ (asked : TraceSubcommand) where
-  pub session_more : (old : Session) (lines : List (List ℕ)) (line text told : List ℕ) (mid : Session) → IsSession asked old lines text mid → is_check_done asked mid ≡ false
-      → IsLineText asked line mid (after_line asked mid line) told → IsSession asked old (lines ++ line ∷ []) (text ++ told) (after_line asked mid line)
+module _ (asked : TraceSubcommand) (source : List ℕ) where
+  pub session_more : (old : Session) (lines : List (List ℕ)) (line text told : List ℕ) (mid : Session) → IsSession asked source old lines text mid → is_check_done asked mid ≡ false
+      → IsLineText asked source line mid (after_line asked mid line) told → IsSession asked source old (lines ++ line ∷ []) (text ++ told) (after_line asked mid line)
   session_more old [] line text told mid is going k =
       let same = is.1 in
       inr (
@@ -19,7 +19,7 @@ module _ (asked : TraceSubcommand) where
         (
           told,
           [],
-          subst (λ (s : Session). IsLineText asked line s (after_line asked s line) told) same k,
+          subst (λ (s : Session). IsLineText asked source line s (after_line asked s line) told) same k,
           (refl, ap (λ (s : Session). after_line asked s line) same),
           ap (λ t. t ++ told) is.0 ∙ sym (append-nil told),
         ),
@@ -41,15 +41,15 @@ module _ (asked : TraceSubcommand) where
             )
       ]
 
-  done_more : (old : Session) (more : List (List ℕ)) → is_check_done asked old ≡ true → IsSession asked old more [] old
+  done_more : (old : Session) (more : List (List ℕ)) → is_check_done asked old ≡ true → IsSession asked source old more [] old
   done_more old [] done = (refl, refl)
   done_more old (line ∷ more) done = inl (done, refl, refl)
 
   -- lines after it is done change nothing
-  pub session_done : (old : Session) (lines more : List (List ℕ)) (text : List ℕ) (last : Session) → IsSession asked old lines text last → is_check_done asked last ≡ true
-      → IsSession asked old (lines ++ more) text last
+  pub session_done : (old : Session) (lines more : List (List ℕ)) (text : List ℕ) (last : Session) → IsSession asked source old lines text last → is_check_done asked last ≡ true
+      → IsSession asked source old (lines ++ more) text last
   session_done old [] more text last is done =
-      rw (is.0) (subst (λ (s : Session). IsSession asked old more [] s) (sym is.1) (done_more old more (subst (λ (s : Session). is_check_done asked s ≡ true) is.1 done)))
+      rw (is.0) (subst (λ (s : Session). IsSession asked source old more [] s) (sym is.1) (done_more old more (subst (λ (s : Session). is_check_done asked s ≡ true) is.1 done)))
   session_done old (l ∷ ls) more text last is done =
       elim is [
         | inl over ↦ inl over

@@ -56,9 +56,9 @@ pub nothing_front : (old : Option (List ℕ)) (text : List ℕ) → AppendsFront
 nothing_front old text = record { front = []; rest = text; split = refl; grows = appends_none old }
 
 -- what is taken of bytes and no text is taken of a text that is empty
-pub from_no_text : (asked : TraceSubcommand) (s : Session) (line text : List ℕ) (P : List ℕ → List ℕ → Type 0) → text ≡ []
-    → ((read written : List ℕ) → IsTraceLineTaken asked read written s line text → P read written) → (read written : List ℕ) → IsTraceLineTaken asked read written s line [] → P read written
-from_no_text asked s line text P empty takes read written t = takes read written (subst (λ (x : List ℕ). IsTraceLineTaken asked read written s line x) (sym empty) t)
+pub from_no_text : (asked : TraceSubcommand) (source : List ℕ) (s : Session) (line text : List ℕ) (P : List ℕ → List ℕ → Type 0) → text ≡ []
+    → ((read written : List ℕ) → IsTraceLineTaken asked source read written s line text → P read written) → (read written : List ℕ) → IsTraceLineTaken asked source read written s line [] → P read written
+from_no_text asked source s line text P empty takes read written t = takes read written (subst (λ (x : List ℕ). IsTraceLineTaken asked source read written s line x) (sym empty) t)
 
 -- no line is taken, so it is not done
 none_done : (stops : Bool) → (stops && false) ≡ false
@@ -71,20 +71,20 @@ fresh_going asks.Answer = refl
 fresh_going asks.Names = refl
 fresh_going asks.Why = refl
 
-module _ (asked : TraceSubcommand) (input left old new : Option (List ℕ)) where
-  pub underway_none : is_check_done asked fresh_session ≡ false → Keeps input left → Keeps old new → IsUnderway asked input left old new fresh_session []
+module _ (asked : TraceSubcommand) (source : List ℕ) (input left old new : Option (List ℕ)) where
+  pub underway_none : is_check_done asked fresh_session ≡ false → Keeps input left → Keeps old new → IsUnderway asked source input left old new fresh_session []
   underway_none going unread unwritten = record {
     read = [];
     consumed = consumes_keeps input input left [] (consumes_none input) unread;
     written = [];
-    taken = taken_none asked going;
+    taken = taken_none asked source going;
     appended = appends_keeps old old new [] (appends_none old) unwritten;
   }
 
-  module _ (s : Session) (line : List ℕ) (u : IsUnderway asked input left old new s line) where
+  module _ (s : Session) (line : List ℕ) (u : IsUnderway asked source input left old new s line) where
     pub underway_more : (left_after newer : Option (List ℕ)) (after : Session) (line_after part told : List ℕ) → Consumes left left_after part
-        → ((read written : List ℕ) → IsTraceLineTaken asked read written s line [] → IsTraceLineTaken asked (read ++ part) written after line_after told) → Appends new newer told
-        → IsUnderway asked input left_after old newer after line_after
+        → ((read written : List ℕ) → IsTraceLineTaken asked source read written s line [] → IsTraceLineTaken asked source (read ++ part) written after line_after told) → Appends new newer told
+        → IsUnderway asked source input left_after old newer after line_after
     underway_more left_after newer after line_after part told consumed takes appended = let t = takes u.read u.written u.taken in record {
       read = u.read ++ part;
       consumed = consumes_more input left left_after u.read part u.consumed consumed;
@@ -95,7 +95,7 @@ module _ (asked : TraceSubcommand) (input left old new : Option (List ℕ)) wher
         cut = t.cut;
         some = t.some;
         begun = t.begun;
-        session = subst (λ (x : List ℕ). IsSession asked fresh_session (map kept_of_line t.lines) x after) (sym (append-nil (u.written ++ told))) t.session;
+        session = subst (λ (x : List ℕ). IsSession asked source fresh_session (map kept_of_line t.lines) x after) (sym (append-nil (u.written ++ told))) t.session;
       };
       appended = appends_more old new newer u.written told u.appended appended;
     }
@@ -103,8 +103,8 @@ module _ (asked : TraceSubcommand) (input left old new : Option (List ℕ)) wher
     -- ---- ends
 
     pub over_at_end : (left_after newer : Option (List ℕ)) (after : Session) (part told : List ℕ) → Consumes left left_after part → part ≡ [] → IsAtEnd left_after
-        → ((read written : List ℕ) → IsTraceLineTaken asked read written s line [] → AreTraceLinesTaken asked read written after told) → Appends new newer told
-        → IsOver asked input left_after old newer after
+        → ((read written : List ℕ) → IsTraceLineTaken asked source read written s line [] → AreTraceLinesTaken asked source read written after told) → Appends new newer told
+        → IsOver asked source input left_after old newer after
     over_at_end left_after newer after part told consumed none end takes appended = record {
       read = u.read;
       consumed = consumes_keeps input left left_after u.read u.consumed (consumes_nothing left left_after part none consumed);
@@ -114,24 +114,24 @@ module _ (asked : TraceSubcommand) (input left old new : Option (List ℕ)) wher
       written = appends_more old new newer u.written told u.appended appended;
     }
 
-    pub over_when_done : is_check_done asked s ≡ true → IsOver asked input left old new s
+    pub over_when_done : is_check_done asked s ≡ true → IsOver asked source input left old new s
     over_when_done done = record {
       read = u.read;
       consumed = u.consumed;
       ended = inr done;
       text = u.written ++ [];
-      session = done_all asked u.read u.written s line [] u.taken done;
+      session = done_all asked source u.read u.written s line [] u.taken done;
       written = subst (λ (x : List ℕ). Appends old new x) (sym (append-nil u.written)) u.appended;
     }
 
     -- a read after which there may be more, or after which it is done
-    pub reads_on : (done : Bool) → done ≡ is_check_done asked s → ReadsOn (not done) asked input left old new s line
+    pub reads_on : (done : Bool) → done ≡ is_check_done asked s → ReadsOn (not done) asked source input left old new s line
     reads_on true is = over_when_done (sym is)
     reads_on false is = (u, sym is)
 
     -- ---- errors
 
-    pub cut_after : (left_after newer : Option (List ℕ)) (part : List ℕ) → Consumes left left_after part → Keeps new newer → IsCutShort asked input left_after old newer
+    pub cut_after : (left_after newer : Option (List ℕ)) (part : List ℕ) → Consumes left left_after part → Keeps new newer → IsCutShort asked source input left_after old newer
     cut_after left_after newer part consumed unwritten =
         let t = u.taken in
         let g = grows_more u.read part t.lines (record { left = t.left; cut = t.cut; some = t.some }) in record {
@@ -148,18 +148,18 @@ module _ (asked : TraceSubcommand) (input left old new : Option (List ℕ)) wher
         }
 
     -- a read failed
-    pub cut_in_read : (left_after newer : Option (List ℕ)) → Keeps left left_after → Keeps new newer → IsCutShort asked input left_after old newer
+    pub cut_in_read : (left_after newer : Option (List ℕ)) → Keeps left left_after → Keeps new newer → IsCutShort asked source input left_after old newer
     cut_in_read left_after newer unread unwritten = cut_after left_after newer [] (consumes_keeps left left left_after [] (consumes_none left) unread) unwritten
 
     pub cut_in_write : (left_after newer : Option (List ℕ)) (after : Session) (line_after part told : List ℕ) → Consumes left left_after part
-        → ((read written : List ℕ) → IsTraceLineTaken asked read written s line [] → IsTraceLineTaken asked (read ++ part) written after line_after told) → AppendsFront new newer told
-        → IsCutShort asked input left_after old newer
+        → ((read written : List ℕ) → IsTraceLineTaken asked source read written s line [] → IsTraceLineTaken asked source (read ++ part) written after line_after told) → AppendsFront new newer told
+        → IsCutShort asked source input left_after old newer
     cut_in_write left_after newer after line_after part told consumed takes w = let t = takes u.read u.written u.taken in record {
       read = u.read ++ part;
       consumed = consumes_more input left left_after u.read part u.consumed consumed;
       lines = map kept_of_line t.lines;
       more = map kept_of_line (without_empty_last t.left);
-      split = lines_split asked (u.read ++ part) u.written after line_after told t;
+      split = lines_split asked source (u.read ++ part) u.written after line_after told t;
       last = after;
       text = u.written ++ told;
       session = t.session;
@@ -167,8 +167,8 @@ module _ (asked : TraceSubcommand) (input left old new : Option (List ℕ)) wher
     }
 
     pub cut_at_end : (left_after newer : Option (List ℕ)) (after : Session) (part told : List ℕ) → Consumes left left_after part → part ≡ []
-        → ((read written : List ℕ) → IsTraceLineTaken asked read written s line [] → AreTraceLinesTaken asked read written after told) → AppendsFront new newer told
-        → IsCutShort asked input left_after old newer
+        → ((read written : List ℕ) → IsTraceLineTaken asked source read written s line [] → AreTraceLinesTaken asked source read written after told) → AppendsFront new newer told
+        → IsCutShort asked source input left_after old newer
     cut_at_end left_after newer after part told consumed none takes w = record {
       read = u.read;
       consumed = consumes_keeps input left left_after u.read u.consumed (consumes_nothing left left_after part none consumed);
@@ -183,18 +183,18 @@ module _ (asked : TraceSubcommand) (input left old new : Option (List ℕ)) wher
 
   -- ---- the whole run
 
-  pub reads_no_more : (more : Bool) (s : Session) (line : List ℕ) → more ≡ false → ReadsOn more asked input left old new s line → IsOver asked input left old new s
+  pub reads_no_more : (more : Bool) (s : Session) (line : List ℕ) → more ≡ false → ReadsOn more asked source input left old new s line → IsOver asked source input left old new s
   reads_no_more true s line is r = absurd (cc)
   reads_no_more false s line is r = r
 
-  pub reads_more : (more : Bool) (s : Session) (line : List ℕ) → more ≡ true → ReadsOn more asked input left old new s line
-      → IsUnderway asked input left old new s line × (is_check_done asked s ≡ false)
+  pub reads_more : (more : Bool) (s : Session) (line : List ℕ) → more ≡ true → ReadsOn more asked source input left old new s line
+      → IsUnderway asked source input left old new s line × (is_check_done asked s ≡ false)
   reads_more true s line is r = r
   reads_more false s line is r = absurd (cc)
 
-  module _ (s : Session) (o : IsOver asked input left old new s) where
+  module _ (s : Session) (o : IsOver asked source input left old new s) where
     pub run_over : (newer : Option (List ℕ)) (verdict : TraceVerdict) → verdict ≡ verdict_asked asked s → Appends new newer (last_text asked s)
-        → IsTraceRun asked input left old newer verdict
+        → IsTraceRun asked source input left old newer verdict
     run_over newer verdict is written = record {
       read = o.read;
       consumed = o.consumed;
@@ -207,11 +207,11 @@ module _ (asked : TraceSubcommand) (input left old new : Option (List ℕ)) wher
     }
 
     pub run_ok : (result : Result TraceVerdict TraceError) (newer : Option (List ℕ)) → IfOk result (λ it. it ≡ verdict_asked asked s) → OnOk result (Appends new newer (last_text asked s))
-        → IfOk result (λ it. IsTraceRun asked input left old newer it)
+        → IfOk result (λ it. IsTraceRun asked source input left old newer it)
     run_ok (Ok it) newer is written = run_over newer it is written
     run_ok (Err e) newer is written = tt
 
-    pub cut_in_counts : (newer : Option (List ℕ)) → AppendsFront new newer (last_text asked s) → IsCutShort asked input left old newer
+    pub cut_in_counts : (newer : Option (List ℕ)) → AppendsFront new newer (last_text asked s) → IsCutShort asked source input left old newer
     cut_in_counts newer w = record {
       read = o.read;
       consumed = o.consumed;
@@ -224,5 +224,5 @@ module _ (asked : TraceSubcommand) (input left old new : Option (List ℕ)) wher
       written = front_more old new newer o.text (last_text asked s) o.written w;
     }
 
-    pub run_err : (result : Result TraceVerdict TraceError) (newer : Option (List ℕ)) → OnErr result (AppendsFront new newer (last_text asked s)) → OnErr result (IsCutShort asked input left old newer)
+    pub run_err : (result : Result TraceVerdict TraceError) (newer : Option (List ℕ)) → OnErr result (AppendsFront new newer (last_text asked s)) → OnErr result (IsCutShort asked source input left old newer)
     run_err result newer w = on_err_weaker result (cut_in_counts newer) w

@@ -29,41 +29,41 @@ pub record HasRest (left : List (List ℕ)) (line : List ℕ) : Type 0 where
 
 -- Lines of the bytes that were read are taken, and their texts are `written` and then `text`. Unless the check is done,
 -- only the beginning of the next line is left.
-pub record IsTraceLineTaken (asked : TraceSubcommand) (read written : List ℕ) (s : Session) (line text : List ℕ) : Type 0 where
+pub record IsTraceLineTaken (asked : TraceSubcommand) (source read written : List ℕ) (s : Session) (line text : List ℕ) : Type 0 where
   pub lines : List (List ℕ)
   pub left : List (List ℕ)
   pub cut : parts_of read ≡ lines ++ left
   pub some : 0 < length left
   pub begun : is_check_done asked s ≡ false → HasRest left line
-  pub session : IsSession asked fresh_session (map kept_of_line lines) (written ++ text) s
+  pub session : IsSession asked source fresh_session (map kept_of_line lines) (written ++ text) s
 
 -- All lines of the bytes that were read are taken.
-abbrev pub AreTraceLinesTaken : TraceSubcommand → (read written : List ℕ) → Session → List ℕ → Type 0
-AreTraceLinesTaken asked read written s text = IsSession asked fresh_session (taken_lines read) (written ++ text) s
+abbrev pub AreTraceLinesTaken : TraceSubcommand → (source read written : List ℕ) → Session → List ℕ → Type 0
+AreTraceLinesTaken asked source read written s text = IsSession asked source fresh_session (taken_lines read) (written ++ text) s
 
 -- a run is under way: `IsTraceLineTaken` holds for the bytes that the reader gave and the writer got
-pub record IsUnderway (asked : TraceSubcommand) (input left old new : Option (List ℕ)) (s : Session) (line : List ℕ) : Type 0 where
+pub record IsUnderway (asked : TraceSubcommand) (source : List ℕ) (input left old new : Option (List ℕ)) (s : Session) (line : List ℕ) : Type 0 where
   pub read : List ℕ
   pub consumed : Consumes input left read
   pub written : List ℕ
-  pub taken : IsTraceLineTaken asked read written s line []
+  pub taken : IsTraceLineTaken asked source read written s line []
   pub appended : Appends old new written
 
 -- ---- ends
 
 -- The input was read to its end, or the run is done before it.
-pub record IsOver (asked : TraceSubcommand) (input left old new : Option (List ℕ)) (s : Session) : Type 0 where
+pub record IsOver (asked : TraceSubcommand) (source : List ℕ) (input left old new : Option (List ℕ)) (s : Session) : Type 0 where
   pub read : List ℕ
   pub consumed : Consumes input left read
   pub ended : IsAtEnd left ⊎ (is_check_done asked s ≡ true)
   pub text : List ℕ
-  pub session : IsSession asked fresh_session (taken_lines read) text s
+  pub session : IsSession asked source fresh_session (taken_lines read) text s
   pub written : Appends old new text
 
 -- if true, the run is under way and the check is not done; if false, the run is over
-abbrev pub ReadsOn : Bool → TraceSubcommand → (input left old new : Option (List ℕ)) → Session → List ℕ → Type 0
-ReadsOn true asked input left old new s line = IsUnderway asked input left old new s line × (is_check_done asked s ≡ false)
-ReadsOn false asked input left old new s line = IsOver asked input left old new s
+abbrev pub ReadsOn : Bool → TraceSubcommand → (source : List ℕ) → (input left old new : Option (List ℕ)) → Session → List ℕ → Type 0
+ReadsOn true asked source input left old new s line = IsUnderway asked source input left old new s line × (is_check_done asked s ≡ false)
+ReadsOn false asked source input left old new s line = IsOver asked source input left old new s
 
 -- the text after those of all lines: the counts of a check
 abbrev pub last_text : TraceSubcommand → Session → List ℕ
@@ -75,19 +75,19 @@ verdict_asked (asks.Check asked) s = trace_verdict s.counts
 verdict_asked _ s = Agrees
 
 -- A run: each line that was read is taken, until it is done. What is written is the text of each line, and the counts of a check.
-pub record IsTraceRun (asked : TraceSubcommand) (input left old new : Option (List ℕ)) (verdict : TraceVerdict) : Type 0 where
+pub record IsTraceRun (asked : TraceSubcommand) (source : List ℕ) (input left old new : Option (List ℕ)) (verdict : TraceVerdict) : Type 0 where
   pub read : List ℕ
   pub consumed : Consumes input left read
   pub last : Session
   pub ended : IsAtEnd left ⊎ (is_check_done asked last ≡ true)
   pub text : List ℕ
-  pub session : IsSession asked fresh_session (taken_lines read) text last
+  pub session : IsSession asked source fresh_session (taken_lines read) text last
   pub is_verdict : verdict ≡ verdict_asked asked last
   pub written : Appends old new (text ++ last_text asked last)
 
 -- A run that stops at an error: a prefix of the text for the first lines was written. For a check, the counts come last
 -- in that text.
-pub record IsCutShort (asked : TraceSubcommand) (input left old new : Option (List ℕ)) : Type 0 where
+pub record IsCutShort (asked : TraceSubcommand) (source : List ℕ) (input left old new : Option (List ℕ)) : Type 0 where
   pub read : List ℕ
   pub consumed : Consumes input left read
   pub lines : List (List ℕ)
@@ -95,5 +95,5 @@ pub record IsCutShort (asked : TraceSubcommand) (input left old new : Option (Li
   pub split : taken_lines read ≡ lines ++ more
   pub last : Session
   pub text : List ℕ
-  pub session : IsSession asked fresh_session lines text last
+  pub session : IsSession asked source fresh_session lines text last
   pub written : AppendsFront old new (text ++ last_text asked last)

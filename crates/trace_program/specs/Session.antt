@@ -66,35 +66,35 @@ abbrev pub heading_text : List ℕ → ℕ → List ℕ → List ℕ
 heading_text source number verdict = source ++ codes ":" ++ decimal number ++ codes ": " ++ verdict ++ codes "\n"
 
 -- A note begins with a line that has the trace's name, the number of the line that is judged, and the verdict on it.
-pub record IsHeaded (number : ℕ) (verdict text : List ℕ) : Type 0 where
-  pub source : List ℕ
+pub record IsHeaded (source : List ℕ) (number : ℕ) (verdict text : List ℕ) : Type 0 where
   pub rest : List ℕ
   pub whole : text ≡ heading_text source number verdict ++ rest
 
 -- The note on a line with the verdict same. It is the heading alone, or empty unless each verdict is asked for.
-abbrev pub IsSameNote : Bool → ℕ → List ℕ → Type 0
-IsSameNote true number text = (source : List ℕ) × (text ≡ heading_text source number (codes "same"))
-IsSameNote false number text = text ≡ []
+abbrev pub IsSameNote : Bool → (source : List ℕ) → ℕ → List ℕ → Type 0
+IsSameNote true source number text = text ≡ heading_text source number (codes "same")
+IsSameNote false source number text = text ≡ []
 
 -- the note on a line that is judged: there is none if it is not compared
-abbrev pub IsNote : Comparison → ℕ → LineVerdict → List ℕ → Type 0
-IsNote asked number NotCompared text = text ≡ []
-IsNote asked number Same text = IsSameNote asked.is_each number text
-IsNote asked number Allowed text = IsHeaded number (codes "allowed") text
-IsNote asked number Wrong text = IsHeaded number (codes "wrong") text
+abbrev pub IsNote : Comparison → (source : List ℕ) → ℕ → LineVerdict → List ℕ → Type 0
+IsNote asked source number NotCompared text = text ≡ []
+IsNote asked source number Same text = IsSameNote asked.is_each source number text
+IsNote asked source number Allowed text = IsHeaded source number (codes "allowed") text
+IsNote asked source number Wrong text = IsHeaded source number (codes "wrong") text
 
--- The text that a subcommand writes for a line, from the sessions before and after the line.
-abbrev pub IsLineText : TraceSubcommand → List ℕ → Session → Session → List ℕ → Type 0
-IsLineText asks.Answer bytes before after text = text ≡ answered_text bytes (trace_line_of bytes) after.reply
-IsLineText (asks.Check asked) bytes before after text = IsNote asked after.counts.lines (verdict_on asked bytes (performed before (trace_line_of bytes))) text
-IsLineText asks.Names bytes before after text = text ≡ named_text bytes (trace_line_of bytes)
-IsLineText asks.Why bytes before after text = IsExplained bytes after.reply text
+-- The text that a subcommand writes for a line, from the sessions before and after the line. A check names the trace.
+abbrev pub IsLineText : TraceSubcommand → (source bytes : List ℕ) → Session → Session → List ℕ → Type 0
+IsLineText asks.Answer source bytes before after text = text ≡ answered_text bytes (trace_line_of bytes) after.reply
+IsLineText (asks.Check asked) source bytes before after text =
+    IsNote asked source after.counts.lines (verdict_on asked bytes (performed before (trace_line_of bytes))) text
+IsLineText asks.Names source bytes before after text = text ≡ named_text bytes (trace_line_of bytes)
+IsLineText asks.Why source bytes before after text = IsExplained bytes after.reply text
 
 -- the session and the text after a line
-pub record TakesLine (asked : TraceSubcommand) (bytes : List ℕ) (before after : Session) (old new : List ℕ) : Type 0 where
+pub record TakesLine (asked : TraceSubcommand) (source bytes : List ℕ) (before after : Session) (old new : List ℕ) : Type 0 where
   pub session : after ≡ after_line asked before bytes
   pub text : List ℕ
-  pub is_text : IsLineText asked bytes before after text
+  pub is_text : IsLineText asked source bytes before after text
   pub appended : new ≡ old ++ text
 
 -- ---- lines in sequence
@@ -105,9 +105,9 @@ is_check_done (asks.Check asked) s = asked.stops && nat_lt 0 s.counts.wrong
 is_check_done _ s = false
 
 -- The session and the text after lines are taken one after another, until the check is done.
-abbrev pub IsSession : TraceSubcommand → Session → List (List ℕ) → List ℕ → Session → Type 0
-IsSession asked s [] text new = (text ≡ []) × (new ≡ s)
-IsSession asked s (bytes ∷ more) text new =
+abbrev pub IsSession : TraceSubcommand → (source : List ℕ) → Session → List (List ℕ) → List ℕ → Session → Type 0
+IsSession asked source s [] text new = (text ≡ []) × (new ≡ s)
+IsSession asked source s (bytes ∷ more) text new =
     ((is_check_done asked s ≡ true) × (text ≡ []) × (new ≡ s))
-    ⊎ ((is_check_done asked s ≡ false) × ((first : List ℕ) × (rest : List ℕ) × IsLineText asked bytes s (after_line asked s bytes) first
-    × IsSession asked (after_line asked s bytes) more rest new × (text ≡ first ++ rest)))
+    ⊎ ((is_check_done asked s ≡ false) × ((first : List ℕ) × (rest : List ℕ) × IsLineText asked source bytes s (after_line asked s bytes) first
+    × IsSession asked source (after_line asked s bytes) more rest new × (text ≡ first ++ rest)))

@@ -57,7 +57,7 @@ impl Drop for Reading {
 impl Reading {
     // Ends the line, and appends its text.
     fn end_line(&mut self, request: RunParameters<'_>) -> Result<(), TraceError>
-        ensures ok { OnOk result (TakesLine request.entry.asked.now self.old.line.items self.old.session self.new.session self.old.text self.new.text) }
+        ensures ok { OnOk result (TakesLine request.entry.asked.now request.entry.source.now self.old.line.items self.old.session self.new.session self.old.text self.new.text) }
         ensures empty { OnOk result (self.new.line.items ≡ []) }
         ensures err { ¬ (result ≡ Err Device) }
     {
@@ -76,8 +76,8 @@ impl Reading {
     // Takes bytes of the input, up to the line that ends the run.
     fn take_part(&mut self, request: RunParameters<'_>, part: &[u8]) -> Result<(), TraceError>
         requires { is_check_done request.asked.now self.old.session ≡ false }
-        ensures ok { OnOk result ((read written : List ℕ) → specs.IsTraceLineTaken request.entry.asked.now read written self.old.session self.old.line.items self.old.text
-            → specs.IsTraceLineTaken request.entry.asked.now (read ++ part.now) written self.new.session self.new.line.items self.new.text) }
+        ensures ok { OnOk result ((read written : List ℕ) → specs.IsTraceLineTaken request.entry.asked.now request.entry.source.now read written self.old.session self.old.line.items self.old.text
+            → specs.IsTraceLineTaken request.entry.asked.now request.entry.source.now (read ++ part.now) written self.new.session self.new.line.items self.new.text) }
         ensures err { ¬ (result ≡ Err Device) }
     {
         let mut rest = part;
@@ -98,8 +98,8 @@ impl Reading {
     // Ends the last line, which has no line feed, unless it is empty.
     fn end(&mut self, request: RunParameters<'_>) -> Result<(), TraceError>
         requires { is_check_done request.asked.now self.old.session ≡ false }
-        ensures ok { OnOk result ((read written : List ℕ) → specs.IsTraceLineTaken request.entry.asked.now read written self.old.session self.old.line.items self.old.text
-            → specs.AreTraceLinesTaken request.entry.asked.now read written self.new.session self.new.text) }
+        ensures ok { OnOk result ((read written : List ℕ) → specs.IsTraceLineTaken request.entry.asked.now request.entry.source.now read written self.old.session self.old.line.items self.old.text
+            → specs.AreTraceLinesTaken request.entry.asked.now request.entry.source.now read written self.new.session self.new.text) }
         ensures err { ¬ (result ≡ Err Device) }
     {
         if self.line.is_empty() {
@@ -140,11 +140,11 @@ impl Reading {
         requires writable { output.old.failed ≡ false }
         requires empty { self.old.text ≡ [] }
         requires going { is_check_done request.asked.now self.old.session ≡ false }
-        ensures ok { (begin start : Option (List ℕ)) → specs.IsUnderway request.entry.asked.now begin (R.remaining input.old.device) start (W.contents output.old.device) self.old.session self.old.line.items
-            → IfOk result (λ more. specs.ReadsOn more request.entry.asked.now begin (R.remaining input.new.device) start (W.contents output.new.device) self.new.session self.new.line.items) }
+        ensures ok { (begin start : Option (List ℕ)) → specs.IsUnderway request.entry.asked.now request.entry.source.now begin (R.remaining input.old.device) start (W.contents output.old.device) self.old.session self.old.line.items
+            → IfOk result (λ more. specs.ReadsOn more request.entry.asked.now request.entry.source.now begin (R.remaining input.new.device) start (W.contents output.new.device) self.new.session self.new.line.items) }
         ensures empty { OnOk result (self.new.text ≡ []) }
-        ensures err { (begin start : Option (List ℕ)) → specs.IsUnderway request.entry.asked.now begin (R.remaining input.old.device) start (W.contents output.old.device) self.old.session self.old.line.items
-            → OnErr result (specs.IsCutShort request.entry.asked.now begin (R.remaining input.new.device) start (W.contents output.new.device)) }
+        ensures err { (begin start : Option (List ℕ)) → specs.IsUnderway request.entry.asked.now request.entry.source.now begin (R.remaining input.old.device) start (W.contents output.old.device) self.old.session self.old.line.items
+            → OnErr result (specs.IsCutShort request.entry.asked.now request.entry.source.now begin (R.remaining input.new.device) start (W.contents output.new.device)) }
         ensures told { ((input.new.failed ≡ true) ⊎ (output.new.failed ≡ true)) ↔ (result ≡ Err Device) }
         ensures fine { OnOk result ((input.new.failed ≡ false) × (output.new.failed ≡ false)) }
     {
@@ -196,9 +196,9 @@ pub fn run<R: Read, W: Write>(
 ) -> Result<TraceVerdict, TraceError>
     requires readable { input.old.failed ≡ false }
     requires writable { output.old.failed ≡ false }
-    ensures ok { IfOk result (specs.IsTraceRun asked.now (R.remaining input.old.device) (R.remaining input.new.device)
+    ensures ok { IfOk result (specs.IsTraceRun asked.now source.now (R.remaining input.old.device) (R.remaining input.new.device)
         (W.contents output.old.device) (W.contents output.new.device)) }
-    ensures err { OnErr result (specs.IsCutShort asked.now (R.remaining input.old.device) (R.remaining input.new.device)
+    ensures err { OnErr result (specs.IsCutShort asked.now source.now (R.remaining input.old.device) (R.remaining input.new.device)
         (W.contents output.old.device) (W.contents output.new.device)) }
     ensures device { ((input.new.failed ≡ true) ⊎ (output.new.failed ≡ true)) ↔ (result ≡ Err Device) }
 {

@@ -116,7 +116,7 @@ impl Session {
         asked: &Comparison,
         source: &str,
     ) -> Result<LineTexts, AllocError>
-        ensures { IfOk result (λ text. specs.IsSameNote asked.now.is_each self.now.counts.lines text) }
+        ensures { IfOk result (λ text. specs.IsSameNote asked.now.is_each source.now self.now.counts.lines text) }
     {
         if !asked.is_each {
             return Ok(LineTexts::new(alloc));
@@ -133,7 +133,7 @@ impl Session {
         bytes: &[u8],
         verdict: &str,
     ) -> Result<LineTexts, AllocError>
-        ensures { IfOk result (λ text. specs.IsHeaded self.now.counts.lines verdict.now text) }
+        ensures { IfOk result (λ text. specs.IsHeaded source.now self.now.counts.lines verdict.now text) }
     {
         let mut text = heading(alloc, source, self.counts.lines, verdict)?;
         let rest = note_on_difference(alloc, bytes, &self.reply)?;
@@ -150,7 +150,7 @@ impl Session {
         bytes: &[u8],
         verdict: LineVerdict,
     ) -> Result<LineTexts, AllocError>
-        ensures { IfOk result (λ text. specs.IsNote asked.now self.now.counts.lines verdict text) }
+        ensures { IfOk result (λ text. specs.IsNote asked.now source.now self.now.counts.lines verdict text) }
     {
         match verdict {
             LineVerdict::NotCompared => Ok(LineTexts::new(alloc)),
@@ -232,7 +232,7 @@ impl Session {
     ) -> Result<(), TraceError>
         ensures session { OnOk result (self.new ≡ specs.judged asked.now bytes.now (specs.performed self.old (trace_line_of bytes.now))) }
         ensures text { OnOk result ((more : List ℕ)
-            × specs.IsNote asked.now self.new.counts.lines (specs.verdict_on asked.now bytes.now (specs.performed self.old (trace_line_of bytes.now))) more
+            × specs.IsNote asked.now source.now self.new.counts.lines (specs.verdict_on asked.now bytes.now (specs.performed self.old (trace_line_of bytes.now))) more
             × (text.new ≡ text.old ++ more)) }
         ensures err { ¬ (result ≡ Err Device) }
     {
@@ -254,7 +254,7 @@ impl Session {
         words: &mut LineWords,
         text: &mut LineTexts,
     ) -> Result<(), TraceError>
-        ensures ok { OnOk result (specs.TakesLine asked.now bytes.now self.old self.new text.old text.new) }
+        ensures ok { OnOk result (specs.TakesLine asked.now source.now bytes.now self.old self.new text.old text.new) }
         ensures err { ¬ (result ≡ Err Device) }
     {
         match asked {

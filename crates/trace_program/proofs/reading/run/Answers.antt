@@ -10,12 +10,12 @@ reads-init g c = record {
   writable = c.requires.writable;
   empty = c.new-4.ensures;
   going = rw c.new.ensures (fresh_going _);
-  underway = rw (c.new.ensures, c.new-2.ensures.items) (underway_none _ _ _ _ _ (fresh_going _) (keeps_same _) (keeps_same _));
+  underway = rw (c.new.ensures, c.new-2.ensures.items) (underway_none _ _ _ _ _ _ (fresh_going _) (keeps_same _) (keeps_same _));
 }
 
 pub reads-preserved : goal.reads-preserved
 reads-preserved g c =
-    let more = reads_more _ _ _ _ _ _ _ _ c.if-not-branch.false (c.in_ok-read_on.ensures.ok _ _ c.reads.invariant.underway) in record {
+    let more = reads_more _ _ _ _ _ _ _ _ _ c.if-not-branch.false (c.in_ok-read_on.ensures.ok _ _ c.reads.invariant.underway) in record {
       readable = c.in_ok-read_on.ensures.fine.0;
       writable = c.in_ok-read_on.ensures.fine.1;
       empty = c.in_ok-read_on.ensures.empty;
@@ -29,10 +29,10 @@ returns-in_err-read_on-clause-err g c =
     rw told.1 (c.in_err-read_on.ensures.err _ _ c.reads.invariant.underway)
 
 pub returns-then-not-branch-clause-ok : goal.returns-then-not-branch-clause-ok
-returns-then-not-branch-clause-ok g c = run_ok _ _ _ _ _ _ (reads_no_more _ _ _ _ _ _ _ _ c.if-not-branch.true (c.in_ok-read_on.ensures.ok _ _ c.reads.invariant.underway)) _ _ c.finish.ensures.verdict c.finish.ensures.ok
+returns-then-not-branch-clause-ok g c = run_ok _ _ _ _ _ _ _ (reads_no_more _ _ _ _ _ _ _ _ _ c.if-not-branch.true (c.in_ok-read_on.ensures.ok _ _ c.reads.invariant.underway)) _ _ c.finish.ensures.verdict c.finish.ensures.ok
 
 pub returns-then-not-branch-clause-err : goal.returns-then-not-branch-clause-err
-returns-then-not-branch-clause-err g c = run_err _ _ _ _ _ _ (reads_no_more _ _ _ _ _ _ _ _ c.if-not-branch.true (c.in_ok-read_on.ensures.ok _ _ c.reads.invariant.underway)) _ _ c.finish.ensures.err
+returns-then-not-branch-clause-err g c = run_err _ _ _ _ _ _ _ (reads_no_more _ _ _ _ _ _ _ _ _ c.if-not-branch.true (c.in_ok-read_on.ensures.ok _ _ c.reads.invariant.underway)) _ _ c.finish.ensures.err
 
 pub returns-clause-err : goal.returns-clause-err
-returns-clause-err g c = cut_after _ _ _ _ _ _ _ c.reads.invariant.underway _ _ _ (consumes_none _) (keeps_same _)
+returns-clause-err g c = cut_after _ _ _ _ _ _ _ _ c.reads.invariant.underway _ _ _ (consumes_none _) (keeps_same _)

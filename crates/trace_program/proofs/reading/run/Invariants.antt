@@ -9,6 +9,6 @@ invariant-reads g l = record {
   writable : l.output.failed ≡ false;
   empty : l.reading.text ≡ [];
   going : is_check_done l.request.asked.now l.reading.session ≡ false;
-  underway : IsUnderway l.request.asked.now (g.R.Read.remaining l.fn.input.device) (g.R.Read.remaining l.input.device) (g.W.Write.contents l.fn.output.device)
+  underway : IsUnderway l.request.asked.now l.request.source.now (g.R.Read.remaining l.fn.input.device) (g.R.Read.remaining l.input.device) (g.W.Write.contents l.fn.output.device)
       (g.W.Write.contents l.output.device) l.reading.session l.reading.line.items;
 }

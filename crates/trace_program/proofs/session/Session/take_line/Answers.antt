@@ -8,7 +8,7 @@ use Rattle.trace_program.proofs.session.Session.take_line.Goals as goal
 pub returns-in_ok-answer-in-Answer-clause-ok : goal.returns-in_ok-answer-in-Answer-clause-ok
 unfolding after_line
 returns-in_ok-answer-in-Answer-clause-ok c =
-    subst (λ (it : TraceSubcommand). TakesLine it c.args.bytes.now c.args.self.now c.answer.new.self c.args.text.now c.answer.new.text) (sym c.in-Answer.is)
+    subst (λ (it : TraceSubcommand). TakesLine it c.args.source.now c.args.bytes.now c.args.self.now c.answer.new.self c.args.text.now c.answer.new.text) (sym c.in-Answer.is)
     (record {
       session = c.in_ok-answer-in-Answer.ensures.session;
       text = answered_text c.args.bytes.now (trace_line_of c.args.bytes.now) c.answer.new.self.reply;
@@ -19,7 +19,7 @@ returns-in_ok-answer-in-Answer-clause-ok c =
 pub returns-in_ok-push_named-in-Names-clause-ok : goal.returns-in_ok-push_named-in-Names-clause-ok
 unfolding after_line
 returns-in_ok-push_named-in-Names-clause-ok c =
-    subst (λ (it : TraceSubcommand). TakesLine it c.args.bytes.now c.args.self.now c.args.self.now c.args.text.now c.push_named.new.text) (sym c.in-Names.is)
+    subst (λ (it : TraceSubcommand). TakesLine it c.args.source.now c.args.bytes.now c.args.self.now c.args.self.now c.args.text.now c.push_named.new.text) (sym c.in-Names.is)
     (record {
       session = refl;
       text = named_text c.args.bytes.now (trace_line_of c.args.bytes.now);
@@ -30,7 +30,7 @@ returns-in_ok-push_named-in-Names-clause-ok c =
 pub returns-in_ok-explain-in-Why-clause-ok : goal.returns-in_ok-explain-in-Why-clause-ok
 unfolding after_line
 returns-in_ok-explain-in-Why-clause-ok c =
-    subst (λ (it : TraceSubcommand). TakesLine it c.args.bytes.now c.args.self.now c.explain.new.self c.args.text.now c.explain.new.text) (sym c.in-Why.is)
+    subst (λ (it : TraceSubcommand). TakesLine it c.args.source.now c.args.bytes.now c.args.self.now c.explain.new.self c.args.text.now c.explain.new.text) (sym c.in-Why.is)
     (record {
       session = c.in_ok-explain-in-Why.ensures.session;
       text = c.in_ok-explain-in-Why.ensures.text.0;
@@ -41,7 +41,7 @@ returns-in_ok-explain-in-Why-clause-ok c =
 pub returns-in_ok-check-in-Check-clause-ok : goal.returns-in_ok-check-in-Check-clause-ok
 unfolding after_line
 returns-in_ok-check-in-Check-clause-ok c =
-    subst (λ (it : TraceSubcommand). TakesLine it c.args.bytes.now c.args.self.now c.check.new.self c.args.text.now c.check.new.text) (sym c.in-Check.is)
+    subst (λ (it : TraceSubcommand). TakesLine it c.args.source.now c.args.bytes.now c.args.self.now c.check.new.self c.args.text.now c.check.new.text) (sym c.in-Check.is)
     (record {
       session = c.in_ok-check-in-Check.ensures.session;
       text = c.in_ok-check-in-Check.ensures.text.0;
