@@ -4,3 +4,4 @@ pub mod Runs
 pub mod Made
 pub mod Prepared
 pub mod Refused
+pub mod Lines

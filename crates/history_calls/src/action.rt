@@ -62,6 +62,11 @@ pub enum HostAction {
 }
 
 impl Default for HostAction {
+    ghost use Rattle.std.specs.Prelude.{◌≡◌};
+    ghost use Rattle.history_calls.specs.declared.action.HostAction.TheVariants.{Saw};
+
+    ghost is_default = { λ action. action ≡ Saw 0 };
+
     fn default() -> HostAction {
         HostAction::Saw { rec: 0 }
     }

@@ -8,8 +8,9 @@ ghost use Rattle.history_calls.specs.Frame.{Place};
 ghost use Rattle.history_calls.specs.Made.{LeadsToItsMachine};
 ghost use Rattle.history_calls.specs.Prepared.{IsPreparedAsAsked, IsRefusedAsAsked, IsDecidedBefore, IsUndoPrepared};
 
-/// Proves that a legal history's calls bring a fresh RMM to the model's machine state. It is the state that the model's
-/// machine has after the history. The RMM gets the calls in sequence, and accepts each. A host's RMM has that machine.
+/// Proves that the operations of a legal history, performed one by one, bring a fresh machine to the model's machine
+/// state. It is the state that the model's machine has after the history. Each operation is accepted. The operations
+/// are those of the project's profile: no theorem is about the calls by registers that are made of them.
 pub fn calls_lead_to_the_machine()
     ensures { (limits : Limits) (history : List Event) → LeadsToItsMachine limits history }
 {}

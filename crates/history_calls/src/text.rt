@@ -1,112 +1,154 @@
 //! Writes host actions, such as RMM calls, and their answers as lines of a trace.
+ghost use Rattle.std.specs.Prelude.{◌≡◌, ◌++◌, Some, OnOk, string_bytes};
+ghost use Rattle.rmi_abi.specs.Call.{registers_of};
+ghost use Rattle.history_calls.specs.declared.action.HostAction.TheVariants.{RealmParams, RecParams};
+ghost use Rattle.history_calls.specs.Lines as lines;
+
+use self::Number::{Absent, Decimal, Hexadecimal};
 use crate::{Frame, HostAction};
+use arrayvec::ArrayVec;
 use realm_model::{Rmi, Status};
-use rmi_abi::Call;
+use rmi_abi::{Call, encode_call};
 use std::alloc::AllocError;
+use std::fmt;
 
-// Appends a word and addresses.
-fn push_words(text: &mut String, word: &str, addresses: &[u64]) -> Result<(), AllocError> {
-    text.push_str(word)?;
-    for address in addresses {
-        write!(text, " {address:#x}")?;
+// A number in a line, written with a space before it. An absent number is not written.
+#[derive(Clone, Copy)]
+enum Number {
+    Absent,
+    Decimal(u64),
+    Hexadecimal(u64),
+}
+
+impl fmt::Display for Number {
+    ghost use Rattle.std.specs.Prelude.{Some};
+    ghost use Rattle.history_calls.specs.Lines.{number_text};
+
+    ghost output = { λ number. Some (number_text number) };
+
+    fn fmt<W: fmt::Write>(&self, f: &mut fmt::Formatter<W>) -> fmt::Result {
+        match *self {
+            Absent => Ok(()),
+            Decimal(number) => write!(f, " {number}"),
+            Hexadecimal(number) => write!(f, " 0x{number:x}"),
+        }
     }
-    Ok(())
 }
 
-// Appends a number in decimal.
-fn push_number(text: &mut String, number: u64) -> Result<(), AllocError> {
-    write!(text, " {number}")
+// Addresses in hexadecimal, each with a space before it.
+#[derive(Clone, Copy)]
+struct AddressesText<'a>(&'a [u64]);
+
+impl fmt::Display for AddressesText<'_> {
+    ghost use Rattle.std.specs.Prelude.{Some};
+    ghost use Rattle.std.specs.List.{flat_map};
+    ghost use Rattle.history_calls.specs.Lines.{then_hex};
+
+    ghost output = { λ addresses. Some (flat_map then_hex addresses.0.now) };
+
+    fn fmt<W: fmt::Write>(&self, f: &mut fmt::Formatter<W>) -> fmt::Result {
+        for address in self.0 {
+            write!(f, "{}", Hexadecimal(*address))?;
+        }
+        Ok(())
+    }
 }
 
-// Appends a name and a number in decimal.
-fn push_field(text: &mut String, name: &str, number: u64) -> Result<(), AllocError> {
-    text.push_str(name)?;
-    push_number(text, number)
+// The field of a REC's auxiliary granules in a line, which is left out if there are none.
+#[derive(Clone, Copy)]
+struct AuxField<'a>(&'a [u64]);
+
+impl fmt::Display for AuxField<'_> {
+    ghost use Rattle.std.specs.Prelude.{Some};
+    ghost use Rattle.history_calls.specs.Lines.{aux_field};
+
+    ghost output = { λ auxiliaries. Some (aux_field auxiliaries.0.now) };
+
+    fn fmt<W: fmt::Write>(&self, f: &mut fmt::Formatter<W>) -> fmt::Result {
+        match self.0.split_first() {
+            Some((first, more)) => {
+                write!(f, " aux{}{}", Hexadecimal(*first), AddressesText(more))
+            }
+            None => Ok(()),
+        }
+    }
 }
 
-// Appends a call of a command on a granule, a realm or a REC.
-fn push_plain_call(text: &mut String, call: Call) -> Result<(), AllocError> {
+// The form of a command's calls: its name, the number of operands, and which operand is in decimal, or 0 if none is.
+fn form_of(call: Call) -> (&'static str, u8, u8)
+    ensures { lines.form_text result.0.now result.1 result.2 (registers_of call) ≡ lines.call_text call }
+{
     match call {
-        Call::GranuleDelegate { address } => push_words(text, "rmi_granule_delegate", &[address]),
-        Call::GranuleUndelegate { address } => {
-            push_words(text, "rmi_granule_undelegate", &[address])
-        }
-        Call::RealmCreate { rd, params } => push_words(text, "rmi_realm_create", &[rd, params]),
-        Call::RealmActivate { rd } => push_words(text, "rmi_realm_activate", &[rd]),
-        Call::RealmDestroy { rd } => push_words(text, "rmi_realm_destroy", &[rd]),
-        Call::RecCreate { rd, rec, params } => {
-            push_words(text, "rmi_rec_create", &[rd, rec, params])
-        }
-        Call::RecDestroy { rec } => push_words(text, "rmi_rec_destroy", &[rec]),
-        Call::RecEnter { rec, run } => push_words(text, "rmi_rec_enter", &[rec, run]),
-        _ => Ok(()),
+        Call::Version { .. } => ("rmi_version", 1, 0),
+        Call::GranuleDelegate { .. } => ("rmi_granule_delegate", 1, 0),
+        Call::GranuleUndelegate { .. } => ("rmi_granule_undelegate", 1, 0),
+        Call::DataCreate { .. } => ("rmi_data_create", 5, 0),
+        Call::DataCreateUnknown { .. } => ("rmi_data_create_unknown", 3, 0),
+        Call::DataDestroy { .. } => ("rmi_data_destroy", 2, 0),
+        Call::RealmActivate { .. } => ("rmi_realm_activate", 1, 0),
+        Call::RealmCreate { .. } => ("rmi_realm_create", 2, 0),
+        Call::RealmDestroy { .. } => ("rmi_realm_destroy", 1, 0),
+        Call::RecCreate { .. } => ("rmi_rec_create", 3, 0),
+        Call::RecDestroy { .. } => ("rmi_rec_destroy", 1, 0),
+        Call::RecEnter { .. } => ("rmi_rec_enter", 2, 0),
+        Call::RttCreate { .. } => ("rmi_rtt_create", 4, 4),
+        Call::RttDestroy { .. } => ("rmi_rtt_destroy", 3, 3),
+        Call::RttMapUnprotected { .. } => ("rmi_rtt_map_unprotected", 4, 3),
+        Call::RttReadEntry { .. } => ("rmi_rtt_read_entry", 3, 3),
+        Call::RttUnmapUnprotected { .. } => ("rmi_rtt_unmap_unprotected", 3, 3),
+        Call::PsciComplete { .. } => ("rmi_psci_complete", 3, 0),
+        Call::Features { .. } => ("rmi_features", 1, 1),
+        Call::RttFold { .. } => ("rmi_rtt_fold", 3, 3),
+        Call::RecAuxCount { .. } => ("rmi_rec_aux_count", 1, 0),
+        Call::RttInitRipas { .. } => ("rmi_rtt_init_ripas", 3, 0),
+        Call::RttSetRipas { .. } => ("rmi_rtt_set_ripas", 4, 0),
     }
 }
 
-// Appends a call.
-fn push_call(text: &mut String, call: Call) -> Result<(), AllocError> {
-    match call {
-        Call::RttCreate {
-            rd,
-            rtt,
-            ipa,
-            level,
-        } => {
-            push_words(text, "rmi_rtt_create", &[rd, rtt, ipa])?;
-            push_number(text, level)
-        }
-        Call::RttDestroy { rd, ipa, level } => {
-            push_words(text, "rmi_rtt_destroy", &[rd, ipa])?;
-            push_number(text, level)
-        }
-        Call::RttInitRipas { rd, base, top } => {
-            push_words(text, "rmi_rtt_init_ripas", &[rd, base, top])
-        }
-        Call::DataCreate {
-            rd,
-            data,
-            ipa,
-            source,
-            flags,
-        } => push_words(text, "rmi_data_create", &[rd, data, ipa, source, flags]),
-        Call::DataCreateUnknown { rd, data, ipa } => {
-            push_words(text, "rmi_data_create_unknown", &[rd, data, ipa])
-        }
-        Call::DataDestroy { rd, ipa } => push_words(text, "rmi_data_destroy", &[rd, ipa]),
-        _ => push_plain_call(text, call),
+// The number of operand `place` in a call with `count` operands. Operand `in_decimal` is in decimal.
+fn operand(count: u8, in_decimal: u8, place: u8, number: u64) -> Number
+    ensures { result ≡ lines.operand_number count in_decimal place number }
+{
+    if count < place {
+        Absent
+    } else if place == in_decimal {
+        Decimal(number)
+    } else {
+        Hexadecimal(number)
     }
 }
 
-// The name of a command's output in X1, after a comma.
-fn name_of_x1(call: Call) -> &'static str {
-    match call {
-        Call::RttDestroy { .. } => ", rtt",
-        Call::DataDestroy { .. } => ", data",
-        _ => ", top",
-    }
+// Appends a call, without its answer.
+fn push_call(text: &mut String, call: Call) -> Result<(), AllocError>
+    ensures { OnOk result (string_bytes text.new ≡ string_bytes text.old ++ lines.call_text call) }
+{
+    let (name, count, in_decimal) = form_of(call);
+    let registers = encode_call(call);
+    let x1 = operand(count, in_decimal, 1, registers.x1);
+    let x2 = operand(count, in_decimal, 2, registers.x2);
+    let x3 = operand(count, in_decimal, 3, registers.x3);
+    let x4 = operand(count, in_decimal, 4, registers.x4);
+    let x5 = operand(count, in_decimal, 5, registers.x5);
+    write!(text, "{name}{x1}{x2}{x3}{x4}{x5}")
 }
 
-// Appends a call that succeeds, with its answer.
-fn push_answered(text: &mut String, call: Call, x1: Option<u64>) -> Result<(), AllocError> {
-    push_call(text, call)?;
-    text.push_str(" = RMI_SUCCESS")?;
-    match x1 {
-        Some(x1) => push_words(text, name_of_x1(call), &[x1]),
-        None => Ok(()),
-    }
+// Appends a word and a number in hexadecimal.
+fn push_at(text: &mut String, word: &str, address: u64) -> Result<(), AllocError>
+    ensures { OnOk result (string_bytes text.new ≡ string_bytes text.old ++ (word.now ++ lines.then_hex address)) }
+{
+    write!(text, "{word}{}", Hexadecimal(address))
 }
 
 // Appends the operation that fills granules.
-fn push_fill(text: &mut String, address: u64, granules: u16, value: u8) -> Result<(), AllocError> {
+fn push_fill(text: &mut String, address: u64, granules: u16, value: u8) -> Result<(), AllocError>
+    ensures { OnOk result (string_bytes text.new ≡ string_bytes text.old ++ lines.fill_text address granules value) }
+{
+    let address = Hexadecimal(address);
     if granules == 1 {
-        push_words(text, "fill", &[address])?;
+        write!(text, "fill{address} {value}")
     } else {
-        push_field(text, "repeat", granules as u64)?;
-        push_words(text, " fill", &[address])?;
-        text.push_str("+0x1000")?;
+        write!(text, "repeat {granules} fill{address}+0x1000 {value}")
     }
-    push_number(text, value as u64)?;
-    text.push_str(" = done")
 }
 
 // Appends the operation that writes a realm's parameters.
@@ -117,14 +159,14 @@ fn push_realm_params(
     vmid: u8,
     tables: u64,
     count: u16,
-) -> Result<(), AllocError> {
-    push_words(text, "realm_params", &[page])?;
-    push_field(text, " s2sz", width as u64)?;
-    push_field(text, " vmid", vmid as u64)?;
-    push_words(text, " rtt_base", &[tables])?;
-    text.push_str(" rtt_level_start 1")?;
-    push_field(text, " rtt_num_start", count as u64)?;
-    text.push_str(" = done")
+) -> Result<(), AllocError>
+    ensures { OnOk result (string_bytes text.new ≡ string_bytes text.old ++ lines.question_text (RealmParams page width vmid tables count)) }
+{
+    let (page, tables) = (Hexadecimal(page), Hexadecimal(tables));
+    write!(
+        text,
+        "realm_params{page} s2sz {width} vmid {vmid} rtt_base{tables} rtt_level_start 1 rtt_num_start {count}"
+    )
 }
 
 // Appends the operation that writes a REC's parameters.
@@ -132,57 +174,26 @@ fn push_rec_params(
     text: &mut String,
     page: u64,
     mpidr: u64,
-    auxiliaries: &[u64],
-) -> Result<(), AllocError> {
-    push_words(text, "rec_params", &[page])?;
-    push_words(text, " flags 0x1 mpidr", &[mpidr])?;
-    if !auxiliaries.is_empty() {
-        push_words(text, " aux", auxiliaries)?;
-    }
-    text.push_str(" = done")
+    auxiliaries: &ArrayVec<u64, 16>,
+) -> Result<(), AllocError>
+    ensures { OnOk result (string_bytes text.new ≡ string_bytes text.old ++ lines.question_text (RecParams page mpidr auxiliaries.now)) }
+{
+    let (page, mpidr) = (Hexadecimal(page), Hexadecimal(mpidr));
+    let auxiliaries = AuxField(auxiliaries.as_slice());
+    write!(text, "rec_params{page} flags 0x1 mpidr{mpidr}{auxiliaries}")
 }
 
-// Appends an operation of a REC's guest, or an operation that begins or ends the run of a REC.
-fn push_of_rec(text: &mut String, action: &HostAction) -> Result<(), AllocError> {
-    match action {
-        HostAction::Enter { rec, run } => {
-            let (rec, run) = (*rec, *run);
-            push_call(text, Call::RecEnter { rec, run })?;
-            text.push_str(" = RUNNING")
-        }
-        HostAction::Interrupt { rec } => {
-            push_words(text, "interrupt", &[*rec])?;
-            text.push_str(" = RMI_SUCCESS, exit IRQ")
-        }
-        HostAction::Write { rec, ipa, value } => {
-            push_words(text, "guest", &[*rec])?;
-            push_words(text, " write", &[*ipa, *value as u64])?;
-            text.push_str(" = queued")
-        }
-        HostAction::Spin { rec } => {
-            push_words(text, "guest", &[*rec])?;
-            text.push_str(" spin = queued")
-        }
-        HostAction::Saw { rec } => {
-            push_words(text, "saw", &[*rec])?;
-            text.push_str(" = done")
-        }
-        _ => Ok(()),
-    }
-}
-
-// Appends an operation that is done, with its answer.
-fn push_done(text: &mut String, action: &HostAction) -> Result<(), AllocError> {
+// Appends an operation, without its answer.
+fn push_question(text: &mut String, action: &HostAction) -> Result<(), AllocError>
+    ensures { OnOk result (string_bytes text.new ≡ string_bytes text.old ++ lines.question_text action.now) }
+{
     match action {
         HostAction::Fill {
             address,
             granules,
             value,
         } => push_fill(text, *address, *granules, *value),
-        HostAction::Load { address, byte } => {
-            push_words(text, "load", &[*address])?;
-            push_words(text, " =", &[*byte as u64 * 0x0101_0101_0101_0101])
-        }
+        HostAction::Load { address, .. } => push_at(text, "load", *address),
         HostAction::RealmParams {
             page,
             width,
@@ -194,24 +205,95 @@ fn push_done(text: &mut String, action: &HostAction) -> Result<(), AllocError> {
             page,
             mpidr,
             auxiliaries,
-        } => push_rec_params(text, *page, *mpidr, auxiliaries.as_slice()),
-        HostAction::Call { call, x1 } => push_answered(text, *call, *x1),
-        _ => push_of_rec(text, action),
+        } => push_rec_params(text, *page, *mpidr, auxiliaries),
+        HostAction::Call { call, .. } => push_call(text, *call),
+        HostAction::Enter { rec, run } => {
+            let (rec, run) = (*rec, *run);
+            push_call(text, Call::RecEnter { rec, run })
+        }
+        HostAction::Interrupt { rec } => push_at(text, "interrupt", *rec),
+        HostAction::Write { rec, ipa, value } => {
+            let (ipa, value) = (Hexadecimal(*ipa), Hexadecimal(*value as u64));
+            write!(text, "guest{} write{ipa}{value}", Hexadecimal(*rec))
+        }
+        HostAction::Spin { rec } => write!(text, "guest{} spin", Hexadecimal(*rec)),
+        HostAction::Saw { rec } => push_at(text, "saw", *rec),
     }
 }
 
-// Appends a call that is refused.
-fn push_refused(text: &mut String, call: Call, rmi: Rmi) -> Result<(), AllocError> {
-    push_call(text, call)?;
-    match rmi.status {
-        Status::Input => text.push_str(" = RMI_ERROR_INPUT"),
-        Status::Realm => text.push_str(" = RMI_ERROR_REALM"),
-        Status::Rec => text.push_str(" = RMI_ERROR_REC"),
-        Status::Rtt => {
-            text.push_str(" = RMI_ERROR_RTT")?;
-            push_number(text, rmi.index as u64)
-        }
+// The answer to a call that succeeds with `x1` in X1, as words and a number. Most commands have no output there.
+fn success_with_x1(call: Call, x1: u64) -> (&'static str, Number)
+    ensures { result.0.now ++ lines.number_text result.1 ≡ lines.success_text call (Some x1) }
+{
+    match call {
+        Call::Version { .. } => (" = RMI_SUCCESS, lower", Hexadecimal(x1)),
+        Call::DataDestroy { .. } => (" = RMI_SUCCESS, data", Hexadecimal(x1)),
+        Call::RttDestroy { .. } => (" = RMI_SUCCESS, rtt", Hexadecimal(x1)),
+        Call::RttReadEntry { .. } => (" = RMI_SUCCESS, level", Decimal(x1)),
+        Call::RttUnmapUnprotected { .. } => (" = RMI_SUCCESS, top", Hexadecimal(x1)),
+        Call::Features { .. } => (" = RMI_SUCCESS, value", Hexadecimal(x1)),
+        Call::RttFold { .. } => (" = RMI_SUCCESS, rtt", Hexadecimal(x1)),
+        Call::RecAuxCount { .. } => (" = RMI_SUCCESS, count", Decimal(x1)),
+        Call::RttInitRipas { .. } => (" = RMI_SUCCESS, top", Hexadecimal(x1)),
+        Call::RttSetRipas { .. } => (" = RMI_SUCCESS, top", Hexadecimal(x1)),
+        _ => (" = RMI_SUCCESS", Absent),
     }
+}
+
+// The answer to an operation that is done, as words and a number.
+fn done(action: &HostAction) -> (&'static str, Number)
+    ensures { result.0.now ++ lines.number_text result.1 ≡ lines.done_text action.now }
+{
+    match action {
+        HostAction::Load { byte, .. } => (" =", Hexadecimal(*byte as u64 * 0x0101_0101_0101_0101)),
+        HostAction::Call { call, x1 } => match *x1 {
+            Some(x1) => success_with_x1(*call, x1),
+            None => (" = RMI_SUCCESS", Absent),
+        },
+        HostAction::Enter { .. } => (" = RUNNING", Absent),
+        HostAction::Interrupt { .. } => (" = RMI_SUCCESS, exit IRQ", Absent),
+        HostAction::Write { .. } | HostAction::Spin { .. } => (" = queued", Absent),
+        HostAction::Fill { .. }
+        | HostAction::RealmParams { .. }
+        | HostAction::RecParams { .. }
+        | HostAction::Saw { .. } => (" = done", Absent),
+    }
+}
+
+// The answer to a call that is refused, as words and a number.
+fn refused(rmi: Rmi) -> (&'static str, Number)
+    ensures { result.0.now ++ lines.number_text result.1 ≡ lines.refused_text rmi }
+{
+    match rmi.status {
+        Status::Input => (" = RMI_ERROR_INPUT", Absent),
+        Status::Realm => (" = RMI_ERROR_REALM", Absent),
+        Status::Rec => (" = RMI_ERROR_REC", Absent),
+        Status::Rtt => (" = RMI_ERROR_RTT", Decimal(rmi.index as u64)),
+    }
+}
+
+// Whether an operation is a call of the RMM, which may be refused.
+fn is_call(action: &HostAction) -> bool
+    ensures { result ≡ lines.is_call action.now }
+{
+    matches!(action, HostAction::Call { .. } | HostAction::Enter { .. })
+}
+
+// The answer to an operation, as words and a number. A call is refused if there is a refusal.
+fn answer_to(action: &HostAction, refusal: Option<Rmi>) -> (&'static str, Number)
+    ensures { result.0.now ++ lines.number_text result.1 ≡ lines.answer_to action.now refusal }
+{
+    match refusal {
+        Some(rmi) if is_call(action) => refused(rmi),
+        _ => done(action),
+    }
+}
+
+// Whether an operation is a step of a guest whose REC is not entered.
+fn is_step_left_out(action: &HostAction, refusal: Option<Rmi>) -> bool
+    ensures { result ≡ lines.is_step_left_out action.now refusal }
+{
+    matches!((action, refusal), (HostAction::Spin { .. }, Some(_)))
 }
 
 /// Appends a trace line for a host action, such as an RMM call, and its answer. If there is a refusal, a call is
@@ -222,24 +304,25 @@ pub fn push_action(
     text: &mut String,
     action: &HostAction,
     refusal: Option<Rmi>,
-) -> Result<(), AllocError> {
-    match (action, refusal) {
-        (HostAction::Spin { .. }, Some(_)) => return Ok(()),
-        (HostAction::Call { call, .. }, Some(rmi)) => push_refused(text, *call, rmi)?,
-        (HostAction::Enter { rec, run }, Some(rmi)) => {
-            let (rec, run) = (*rec, *run);
-            push_refused(text, Call::RecEnter { rec, run }, rmi)?;
-        }
-        _ => push_done(text, action)?,
+) -> Result<(), AllocError>
+    ensures { OnOk result (string_bytes text.new ≡ string_bytes text.old ++ lines.action_line action.now refusal) }
+{
+    if is_step_left_out(action, refusal) {
+        return Ok(());
     }
-    text.push_str("\n")
+    push_question(text, action)?;
+    let (words, number) = answer_to(action, refusal);
+    writeln!(text, "{words}{number}")
 }
 
 /// Appends the `platform` line of a trace, with the base address and the number of granules, the host's included. All
 /// granules are UNDELEGATED, and the host's granules follow those of the history's machine.
-pub fn push_platform(text: &mut String, frame: Frame, auxiliaries: u8) -> Result<(), AllocError> {
-    push_words(text, "platform", &[frame.base()])?;
-    push_number(text, frame.granules() as u64)?;
-    push_field(text, " aux", auxiliaries as u64)?;
-    text.push_str(" vmid_bits 8 s2sz 43 max_recs_order 15\n")
+pub fn push_platform(text: &mut String, frame: Frame, auxiliaries: u8) -> Result<(), AllocError>
+    ensures { OnOk result (string_bytes text.new ≡ string_bytes text.old ++ lines.platform_line frame auxiliaries) }
+{
+    let (base, granules) = (Hexadecimal(frame.base()), frame.granules());
+    writeln!(
+        text,
+        "platform{base} {granules} aux {auxiliaries} vmid_bits 8 s2sz 43 max_recs_order 15"
+    )
 }
