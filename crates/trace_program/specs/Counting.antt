@@ -1,5 +1,5 @@
 -- The counts of the lines of a trace, and the verdict on it.
-use Rattle.std.specs.Prelude.{ℕ, ◌+◌, nat_lt, if◌then◌else◌, List, ◌++◌, codes, decimal}
+use Rattle.std.specs.Prelude.{ℕ, ◌+◌, ◌-◌, ◌^◌, ◌≤◌, ◌⊎◌, nat_lt, if◌then◌else◌, List, ◌++◌, codes, decimal}
 use Rattle.trace_program.specs.declared.counts.Counts.{Counts}
 use Rattle.trace_program.specs.declared.counts.LineVerdict.{LineVerdict}
 use Rattle.trace_program.specs.declared.counts.LineVerdict.TheVariants.{NotCompared, Same, Allowed, Wrong}
@@ -12,6 +12,17 @@ with_line_counted c NotCompared = record c { lines = c.lines + 1 }
 with_line_counted c Same = record c { lines = c.lines + 1; same = c.same + 1 }
 with_line_counted c Allowed = record c { lines = c.lines + 1; allowed = c.allowed + 1 }
 with_line_counted c Wrong = record c { lines = c.lines + 1; wrong = c.wrong + 1 }
+
+-- the number of lines with a verdict; lines that are not compared have no count of their own
+abbrev pub count_of : Counts → LineVerdict → ℕ
+count_of c NotCompared = 0
+count_of c Same = c.same
+count_of c Allowed = c.allowed
+count_of c Wrong = c.wrong
+
+-- A line with the verdict cannot be counted: the count of all lines is at its bound, or that of the verdict.
+abbrev pub IsCountFull : Counts → LineVerdict → Type 0
+IsCountFull c verdict = (2 ^ 64 - 1 ≤ c.lines) ⊎ (2 ^ 64 - 1 ≤ count_of c verdict)
 
 -- A trace agrees if a line is the same, and none is wrong.
 abbrev pub trace_verdict : Counts → TraceVerdict

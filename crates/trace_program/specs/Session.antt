@@ -14,7 +14,7 @@ use Rattle.trace_program.specs.declared.counts.Counts.{Counts}
 use Rattle.trace_program.specs.declared.counts.LineVerdict.{LineVerdict}
 use Rattle.trace_program.specs.declared.counts.LineVerdict.TheVariants.{NotCompared, Same, Allowed, Wrong}
 use Rattle.trace_program.specs.declared.session.Session.{Session}
-use Rattle.trace_program.specs.Counting.{with_line_counted}
+use Rattle.trace_program.specs.Counting.{IsCountFull, with_line_counted}
 use Rattle.trace_program.specs.Judged.{is_no_command, line_verdict}
 use Rattle.trace_program.specs.LineText.{answered_text, trace_line_of, written_in, named_text}
 
@@ -40,6 +40,15 @@ verdict_on asked bytes s = line_verdict asked s.machine (written_in bytes) (trac
 -- the session after a line that was performed is judged
 abbrev pub judged : Comparison → List ℕ → Session → Session
 judged asked bytes s = record s { counts = with_line_counted s.counts (verdict_on asked bytes s) }
+
+-- the line that was performed cannot be counted with the verdict on it
+abbrev pub IsUncounted : Comparison → List ℕ → Session → Type 0
+IsUncounted asked bytes s = IsCountFull s.counts (verdict_on asked bytes s)
+
+-- A line is one too many for a subcommand: it is a check, whose counts are at their bound.
+abbrev pub IsTooMany : TraceSubcommand → List ℕ → Session → Type 0
+IsTooMany (asks.Check asked) bytes s = IsUncounted asked bytes (performed s (trace_line_of bytes))
+IsTooMany _ bytes s = ⊥
 
 -- The session after a line. The subcommand that names calls leaves it as it was, and requires no RMM.
 unfoldable pub after_line : TraceSubcommand → Session → List ℕ → Session

@@ -1,7 +1,7 @@
 //! The number of trace lines with each verdict, and the verdict on a whole trace.
-ghost use Rattle.std.specs.Prelude.{◌≡◌, ◌+◌, IfErr, IfOk};
+ghost use Rattle.std.specs.Prelude.{◌≡◌, ◌+◌, ◌-◌, ◌^◌, ◌≤◌, IfErr, IfOk};
 ghost use Rattle.trace_program.specs.declared.fault.TraceError.TheVariants.{TooLong};
-ghost use Rattle.trace_program.specs.Counting.{with_line_counted, trace_verdict};
+ghost use Rattle.trace_program.specs.Counting.{IsCountFull, with_line_counted, trace_verdict};
 
 use crate::TraceError;
 use std::fmt;
@@ -41,7 +41,7 @@ pub struct Counts {
 // Returns the count plus one, or `TooLong` if the sum is 2^64.
 fn one_more(count: u64) -> Result<u64, TraceError>
     ensures ok { IfOk result (λ more. more ≡ count + 1) }
-    ensures err { IfErr result (λ e. e ≡ TooLong) }
+    ensures err { IfErr result (λ e. (e ≡ TooLong) × (2 ^ 64 - 1 ≤ count)) }
 {
     count.checked_add(1).ok_or(TraceError::TooLong)
 }
@@ -55,10 +55,11 @@ impl Counts {
         wrong: 0,
     };
 
-    /// Returns the counts after one more line with the given verdict.
+    /// Returns the counts after one more line with the given verdict. `TooLong` if the count of all lines, or that of
+    /// the verdict, is 2^64 - 1.
     pub fn with(self, verdict: LineVerdict) -> Result<Counts, TraceError>
         ensures ok { IfOk result (λ counts. counts ≡ with_line_counted self verdict) }
-        ensures err { IfErr result (λ e. e ≡ TooLong) }
+        ensures err { IfErr result (λ e. (e ≡ TooLong) × IsCountFull self verdict) }
     {
         let lines = one_more(self.lines)?;
         match verdict {

@@ -1,6 +1,6 @@
 //! A session that processes the lines of a trace one after another.
 ghost use Rattle.std.specs.Prelude.{◌≡◌, ◌++◌, ℕ, List, [], Err, None, IfOk, OnOk, string_bytes};
-ghost use Rattle.trace_program.specs.declared.fault.TraceError.TheVariants.{Device};
+ghost use Rattle.trace_program.specs.declared.fault.TraceError.TheVariants.{Device, TooLong};
 ghost use Rattle.rmm_trace.specs.declared.line.LineKind.TheVariants.{Remark};
 ghost use Rattle.rmm_trace.specs.Lines.{without_words};
 ghost use Rattle.trace_program.specs.LineText.{answered_text, trace_line_of};
@@ -205,6 +205,7 @@ impl Session {
         ensures verdict { IfOk result (λ it. it ≡ specs.verdict_on asked.now bytes.now (specs.performed self.old (trace_line_of bytes.now))) }
         ensures session { OnOk result (self.new ≡ specs.judged asked.now bytes.now (specs.performed self.old (trace_line_of bytes.now))) }
         ensures err { ¬ (result ≡ Err Device) }
+        ensures long { result ≡ Err TooLong → specs.IsUncounted asked.now bytes.now (specs.performed self.old (trace_line_of bytes.now)) }
     {
         let written = words.line.parse(bytes);
         self.perform(alloc, &words.line)?;
@@ -235,6 +236,7 @@ impl Session {
             × specs.IsNote asked.now source.now self.new.counts.lines (specs.verdict_on asked.now bytes.now (specs.performed self.old (trace_line_of bytes.now))) more
             × (text.new ≡ text.old ++ more)) }
         ensures err { ¬ (result ≡ Err Device) }
+        ensures long { result ≡ Err TooLong → specs.IsUncounted asked.now bytes.now (specs.performed self.old (trace_line_of bytes.now)) }
     {
         let verdict = self.judge(alloc, asked, bytes, words)?;
         let note = self.note(alloc, asked, source, bytes, verdict)?;
@@ -244,7 +246,7 @@ impl Session {
 
     /// Performs the requested subcommand on one trace line, and appends its output. The line is read into `words`.
     ///
-    /// Errors: `Memory`, if allocation failed; `TooLong`, after 2^64 - 1 lines.
+    /// Errors: `Memory`, if allocation failed; `TooLong`, if a check has counted 2^64 - 1 lines.
     pub fn take_line(
         &mut self,
         alloc: Global,
@@ -256,6 +258,7 @@ impl Session {
     ) -> Result<(), TraceError>
         ensures ok { OnOk result (specs.TakesLine asked.now source.now bytes.now self.old self.new text.old text.new) }
         ensures err { ¬ (result ≡ Err Device) }
+        ensures long { result ≡ Err TooLong → specs.IsTooMany asked.now bytes.now self.old }
     {
         match asked {
             TraceSubcommand::Answer => self.answer(alloc, bytes, words, text)?,
