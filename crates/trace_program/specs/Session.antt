@@ -1,5 +1,5 @@
 -- A session: the lines of a trace, one after another.
-use Rattle.std.specs.Prelude.{◌≡◌, ℕ, nat_lt, ◌&&◌, Bool, true, false, List, [], ◌∷◌, ◌++◌, codes, decimal, Option, Some, None, ◌⊎◌}
+use Rattle.std.specs.Prelude.{◌≡◌, ℕ, nat_lt, ◌&&◌, if◌then◌else◌, Bool, true, false, List, [], ◌∷◌, ◌++◌, codes, decimal, Option, Some, None, ◌⊎◌}
 use Rattle.command_line.specs.declared.rmitrace.Comparison.{Comparison}
 use Rattle.command_line.specs.declared.rmitrace.TraceSubcommand.{TraceSubcommand}
 use Rattle.command_line.specs.declared.rmitrace.TraceSubcommand.TheVariants as asks
@@ -9,7 +9,7 @@ use Rattle.rmm_trace.specs.declared.line.LineKind.TheVariants.{Remark, Question,
 use Rattle.rmm_trace.specs.declared.word.TraceWord.{TraceWord}
 use Rattle.rmm_answers.specs.declared.reply.TraceReply.{TraceReply}
 use Rattle.rmm_answers.specs.Answering.{answered}
-use Rattle.rmm_answers.specs.Replies.{no_answer, no_command}
+use Rattle.rmm_answers.specs.Replies.{is_unanswered, no_answer, no_command, reply_text}
 use Rattle.trace_program.specs.declared.counts.Counts.{Counts}
 use Rattle.trace_program.specs.declared.counts.LineVerdict.{LineVerdict}
 use Rattle.trace_program.specs.declared.counts.LineVerdict.TheVariants.{NotCompared, Same, Allowed, Wrong}
@@ -74,9 +74,21 @@ pub record IsExplained (bytes : List ℕ) (reply : TraceReply) (text : List ℕ)
 abbrev pub heading_text : List ℕ → ℕ → List ℕ → List ℕ
 heading_text source number verdict = source ++ codes ":" ++ decimal number ++ codes ": " ++ verdict ++ codes "\n"
 
--- A note begins with a line that has the trace's name, the number of the line that is judged, and the verdict on it.
-pub record IsHeaded (source : List ℕ) (number : ℕ) (verdict text : List ℕ) : Type 0 where
+-- our answer, as a note has it
+abbrev pub here_text : TraceReply → List ℕ
+here_text reply = if is_unanswered reply then codes "no answer" else reply_text reply
+
+-- What a note says of a difference: the line, our answer, and help if the line is no command.
+pub record IsDifference (bytes : List ℕ) (reply : TraceReply) (text : List ℕ) : Type 0 where
+  pub help : List ℕ
+  pub no_help : is_no_command reply ≡ false → help ≡ []
+  pub whole : text ≡ bytes ++ 10 ∷ codes "here: " ++ here_text reply ++ 10 ∷ help
+
+-- A note on a difference begins with a line that has the trace's name, the number of the line that is judged, and the
+-- verdict on it.
+pub record IsHeaded (source : List ℕ) (number : ℕ) (verdict bytes : List ℕ) (reply : TraceReply) (text : List ℕ) : Type 0 where
   pub rest : List ℕ
+  pub is_rest : IsDifference bytes reply rest
   pub whole : text ≡ heading_text source number verdict ++ rest
 
 -- The note on a line with the verdict same. It is the heading alone, or empty unless each verdict is asked for.
@@ -84,18 +96,18 @@ abbrev pub IsSameNote : Bool → (source : List ℕ) → ℕ → List ℕ → Ty
 IsSameNote true source number text = text ≡ heading_text source number (codes "same")
 IsSameNote false source number text = text ≡ []
 
--- the note on a line that is judged: there is none if it is not compared
-abbrev pub IsNote : Comparison → (source : List ℕ) → ℕ → LineVerdict → List ℕ → Type 0
-IsNote asked source number NotCompared text = text ≡ []
-IsNote asked source number Same text = IsSameNote asked.is_each source number text
-IsNote asked source number Allowed text = IsHeaded source number (codes "allowed") text
-IsNote asked source number Wrong text = IsHeaded source number (codes "wrong") text
+-- The note on a line that is judged, in a session after it. There is none if it is not compared.
+abbrev pub IsNote : Comparison → (source bytes : List ℕ) → Session → LineVerdict → List ℕ → Type 0
+IsNote asked source bytes after NotCompared text = text ≡ []
+IsNote asked source bytes after Same text = IsSameNote asked.is_each source after.counts.lines text
+IsNote asked source bytes after Allowed text = IsHeaded source after.counts.lines (codes "allowed") bytes after.reply text
+IsNote asked source bytes after Wrong text = IsHeaded source after.counts.lines (codes "wrong") bytes after.reply text
 
 -- The text that a subcommand writes for a line, from the sessions before and after the line. A check names the trace.
 abbrev pub IsLineText : TraceSubcommand → (source bytes : List ℕ) → Session → Session → List ℕ → Type 0
 IsLineText asks.Answer source bytes before after text = text ≡ answered_text bytes (trace_line_of bytes) after.reply
 IsLineText (asks.Check asked) source bytes before after text =
-    IsNote asked source after.counts.lines (verdict_on asked bytes (performed before (trace_line_of bytes))) text
+    IsNote asked source bytes after (verdict_on asked bytes (performed before (trace_line_of bytes))) text
 IsLineText asks.Names source bytes before after text = text ≡ named_text bytes (trace_line_of bytes)
 IsLineText asks.Why source bytes before after text = IsExplained bytes after.reply text
 

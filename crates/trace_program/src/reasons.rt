@@ -1,7 +1,8 @@
-//! The explanations of a trace's wrong lines and refused calls. They are tested, not proved, but for the first line of
-//! a note.
-ghost use Rattle.std.specs.Prelude.{◌≡◌, IfOk};
-ghost use Rattle.trace_program.specs.Session.{heading_text};
+//! The explanations of a trace's wrong lines and refused calls. A note's heading, line and answer are proved. The other
+//! words are tested.
+ghost use Rattle.std.specs.Prelude.{◌≡◌, ◌++◌, [], false, IfOk, OnOk, string_bytes};
+ghost use Rattle.trace_program.specs.Judged.{is_no_command};
+ghost use Rattle.trace_program.specs.Session.{IsDifference, heading_text, here_text};
 
 use crate::judging::{command_place, is_no_command};
 use crate::line_text::LineTexts;
@@ -114,23 +115,41 @@ pub(crate) fn heading(
     Ok(text)
 }
 
+// Appends our answer as a note has it.
+fn push_here(text: &mut LineTexts, reply: &TraceReply) -> Result<(), AllocError>
+    ensures { OnOk result (text.new ≡ text.old ++ here_text reply.now) }
+{
+    if reply.is_empty() {
+        return text.push(b"no answer");
+    }
+    text.push_answer(reply)
+}
+
+// Returns the help below a note. It is empty unless the line is no command.
+fn help_text(alloc: Global, bytes: &[u8], reply: &TraceReply) -> Result<String, AllocError>
+    ensures { IfOk result (λ text. is_no_command reply.now ≡ false → string_bytes text ≡ []) }
+{
+    if is_no_command(reply) {
+        return hint(alloc, bytes, "");
+    }
+    Ok(String::new(alloc))
+}
+
 /// Returns the note on a line with the verdict `Allowed` or `Wrong`. The note has the line, the model's answer, and a
 /// suggestion if the line is not a command. Its heading is not included.
 pub(crate) fn note_on_difference(
     alloc: Global,
     bytes: &[u8],
     reply: &TraceReply,
-) -> Result<LineTexts, AllocError> {
+) -> Result<LineTexts, AllocError>
+    ensures { IfOk result (λ text. IsDifference bytes.now reply.now text) }
+{
     let mut text = LineTexts::new(alloc);
     text.push_line(bytes)?;
     text.push(b"here: ")?;
-    if reply.is_empty() {
-        text.push(b"no answer")?;
-    }
-    text.push_answer(reply)?;
+    push_here(&mut text, reply)?;
     text.push_line(b"")?;
-    if is_no_command(reply) {
-        text.push(hint(alloc, bytes, "")?.as_bytes())?;
-    }
+    let help = help_text(alloc, bytes, reply)?;
+    text.push(help.as_bytes())?;
     Ok(text)
 }

@@ -133,7 +133,7 @@ impl Session {
         bytes: &[u8],
         verdict: &str,
     ) -> Result<LineTexts, AllocError>
-        ensures { IfOk result (λ text. specs.IsHeaded source.now self.now.counts.lines verdict.now text) }
+        ensures { IfOk result (λ text. specs.IsHeaded source.now self.now.counts.lines verdict.now bytes.now self.now.reply text) }
     {
         let mut text = heading(alloc, source, self.counts.lines, verdict)?;
         let rest = note_on_difference(alloc, bytes, &self.reply)?;
@@ -150,7 +150,7 @@ impl Session {
         bytes: &[u8],
         verdict: LineVerdict,
     ) -> Result<LineTexts, AllocError>
-        ensures { IfOk result (λ text. specs.IsNote asked.now source.now self.now.counts.lines verdict text) }
+        ensures { IfOk result (λ text. specs.IsNote asked.now source.now bytes.now self.now verdict text) }
     {
         match verdict {
             LineVerdict::NotCompared => Ok(LineTexts::new(alloc)),
@@ -233,7 +233,7 @@ impl Session {
     ) -> Result<(), TraceError>
         ensures session { OnOk result (self.new ≡ specs.judged asked.now bytes.now (specs.performed self.old (trace_line_of bytes.now))) }
         ensures text { OnOk result ((more : List ℕ)
-            × specs.IsNote asked.now source.now self.new.counts.lines (specs.verdict_on asked.now bytes.now (specs.performed self.old (trace_line_of bytes.now))) more
+            × specs.IsNote asked.now source.now bytes.now self.new (specs.verdict_on asked.now bytes.now (specs.performed self.old (trace_line_of bytes.now))) more
             × (text.new ≡ text.old ++ more)) }
         ensures err { ¬ (result ≡ Err Device) }
         ensures long { result ≡ Err TooLong → specs.IsUncounted asked.now bytes.now (specs.performed self.old (trace_line_of bytes.now)) }
