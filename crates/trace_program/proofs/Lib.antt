@@ -1,5 +1,6 @@
 mod Tails
 mod Refused
+mod Deciding
 mod Parts
 mod Kept
 mod Sessions

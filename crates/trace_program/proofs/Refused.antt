@@ -1,14 +1,10 @@
 -- Calls that are not refused.
 use Rattle.std.proofs.Common.{◌≡◌, ℕ, List, refl, ap}
-use Rattle.std.specs.Prelude.{Option, Some, None, Result, Ok, Err, IfOk, option_and_then}
+use Rattle.std.specs.Prelude.{Option, Some, None, option_and_then}
 use Rattle.rmm_model.specs.Machine.{Machine}
 use Rattle.rmm_trace.specs.declared.word.TraceWord.{TraceWord}
 use Rattle.rmm_answers.specs.declared.reply.TraceReply.{TraceReply}
 use Rattle.rmm_answers.specs.Answering.{checks_in_round, refused_checks}
-
-pub if_ok_any : {X E : Type 0} (r : Result X E) (P : X → Type 0) → ((x : X) → P x) → IfOk r P
-if_ok_any (Ok x) P p = p x
-if_ok_any (Err e) P p = tt
 
 pub no_checks : (question : List TraceWord) (reply : TraceReply) (m : Option Machine) → reply.refused ≡ None → option_and_then (refused_checks question reply) m ≡ None
 unfolding refused_checks

@@ -1,20 +1,22 @@
 -- A session: the lines of a trace, one after another.
-use Rattle.std.specs.Prelude.{◌≡◌, ℕ, nat_lt, ◌&&◌, if◌then◌else◌, Bool, true, false, List, [], ◌∷◌, ◌++◌, codes, decimal, Option, Some, None, ◌⊎◌}
+use Rattle.std.specs.Prelude.{◌≡◌, ℕ, nat_lt, ◌&&◌, if◌then◌else◌, Bool, true, false, List, [], ◌∷◌, ◌++◌, codes, decimal, Option, Some, None, option_and_then, ◌⊎◌}
 use Rattle.command_line.specs.declared.rmitrace.Comparison.{Comparison}
 use Rattle.command_line.specs.declared.rmitrace.TraceSubcommand.{TraceSubcommand}
 use Rattle.command_line.specs.declared.rmitrace.TraceSubcommand.TheVariants as asks
+use Rattle.rmm_checks.specs.declared.evaluated.EvaluatedCheck.{EvaluatedCheck}
 use Rattle.rmm_trace.specs.declared.line.RmmTraceLine.{RmmTraceLine}
 use Rattle.rmm_trace.specs.declared.line.LineKind.{LineKind}
 use Rattle.rmm_trace.specs.declared.line.LineKind.TheVariants.{Remark, Question, Neither}
 use Rattle.rmm_trace.specs.declared.word.TraceWord.{TraceWord}
 use Rattle.rmm_answers.specs.declared.reply.TraceReply.{TraceReply}
-use Rattle.rmm_answers.specs.Answering.{answered}
+use Rattle.rmm_answers.specs.Answering.{answered, refused_checks}
 use Rattle.rmm_answers.specs.Replies.{is_unanswered, no_answer, no_command, reply_text}
 use Rattle.trace_program.specs.declared.counts.Counts.{Counts}
 use Rattle.trace_program.specs.declared.counts.LineVerdict.{LineVerdict}
 use Rattle.trace_program.specs.declared.counts.LineVerdict.TheVariants.{NotCompared, Same, Allowed, Wrong}
 use Rattle.trace_program.specs.declared.session.Session.{Session}
 use Rattle.trace_program.specs.Counting.{IsCountFull, with_line_counted}
+use Rattle.trace_program.specs.Refusal.{TellsDecision}
 use Rattle.trace_program.specs.Judged.{is_no_command, line_verdict}
 use Rattle.trace_program.specs.LineText.{answered_text, trace_line_of, written_in, named_text}
 
@@ -59,17 +61,26 @@ after_line asks.Why s bytes = performed s (trace_line_of bytes)
 
 -- ---- texts
 
--- the lines below an answer: there are none below a remark, and below a question that is not refused
-abbrev pub AreReasons : LineKind → TraceReply → List ℕ → Type 0
-AreReasons Remark reply text = text ≡ []
-AreReasons Question reply text = is_no_command reply ≡ false → reply.refused ≡ None → text ≡ []
-AreReasons Neither reply text = Unit {0}
+-- the checks of a question that is refused, in a session after it
+abbrev pub checks_refused : List TraceWord → Session → Option (List EvaluatedCheck)
+checks_refused q s = option_and_then (refused_checks q s.reply) s.machine
+
+-- What is told of a refused call: nothing if no call is refused, and else first the check that decides.
+abbrev pub IsRefusalText : List TraceWord → Session → List ℕ → Type 0
+IsRefusalText q s text = (s.reply.refused ≡ None → text ≡ []) × TellsDecision (checks_refused q s) text
+
+-- The lines below an answer, in a session after it. There are none below a remark, and below a question that is not
+-- refused. Those below a refused call begin with the check that decides.
+abbrev pub AreReasons : LineKind → List TraceWord → Session → List ℕ → Type 0
+AreReasons Remark q s text = text ≡ []
+AreReasons Question q s text = is_no_command s.reply ≡ false → IsRefusalText q s text
+AreReasons Neither q s text = Unit {0}
 
 -- a line with its answer, and reasons below it
-pub record IsExplained (bytes : List ℕ) (reply : TraceReply) (text : List ℕ) : Type 0 where
+pub record IsExplained (bytes : List ℕ) (after : Session) (text : List ℕ) : Type 0 where
   pub reasons : List ℕ
-  pub are_reasons : AreReasons (trace_line_of bytes).kind reply reasons
-  pub whole : text ≡ answered_text bytes (trace_line_of bytes) reply ++ reasons
+  pub are_reasons : AreReasons (trace_line_of bytes).kind (trace_line_of bytes).words.items after reasons
+  pub whole : text ≡ answered_text bytes (trace_line_of bytes) after.reply ++ reasons
 
 abbrev pub heading_text : List ℕ → ℕ → List ℕ → List ℕ
 heading_text source number verdict = source ++ codes ":" ++ decimal number ++ codes ": " ++ verdict ++ codes "\n"
@@ -109,7 +120,7 @@ IsLineText asks.Answer source bytes before after text = text ≡ answered_text b
 IsLineText (asks.Check asked) source bytes before after text =
     IsNote asked source bytes after (verdict_on asked bytes (performed before (trace_line_of bytes))) text
 IsLineText asks.Names source bytes before after text = text ≡ named_text bytes (trace_line_of bytes)
-IsLineText asks.Why source bytes before after text = IsExplained bytes after.reply text
+IsLineText asks.Why source bytes before after text = IsExplained bytes after text
 
 -- the session and the text after a line
 pub record TakesLine (asked : TraceSubcommand) (source bytes : List ℕ) (before after : Session) (old new : List ℕ) : Type 0 where

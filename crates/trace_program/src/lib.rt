@@ -3,9 +3,9 @@
 //!
 //! A `Session` takes the lines of a trace one after another. It has no RMM before the first `platform`, and a new one
 //! from each of these on. `run` reads the lines and writes their texts. What a line gets is proved, and so are the
-//! counts of a check, and the line and the answer in a note. The words below a refused call and the help below a line
-//! that is no command are tested. Nothing here depends on the process that it runs in: a caller hands in the request
-//! and the devices.
+//! counts of a check, the line and the answer in a note, and the check that decides a refused call. The other words
+//! below these are tested. Nothing here depends on the process that it runs in: a caller hands in the request and the
+//! devices.
 #![tactic(auto)]
 
 mod counts;

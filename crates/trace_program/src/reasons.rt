@@ -1,7 +1,9 @@
-//! The explanations of a trace's wrong lines and refused calls. A note's heading, line and answer are proved. The other
-//! words are tested.
-ghost use Rattle.std.specs.Prelude.{◌≡◌, ◌++◌, [], false, IfOk, OnOk, string_bytes};
+//! The explanations of a trace's wrong lines and refused calls. A note's heading, line and answer are proved, and the
+//! name of the check that decides. The other words are tested.
+ghost use Rattle.std.specs.Prelude.{◌≡◌, ◌++◌, [], true, false, IfOk, OnOk, string_bytes};
+ghost use Rattle.rmm_checks.specs.Evaluated.{first_failed, is_failure};
 ghost use Rattle.trace_program.specs.Judged.{is_no_command};
+ghost use Rattle.trace_program.specs.Refusal.{Extends, decision_text, failed_text, label_text};
 ghost use Rattle.trace_program.specs.Session.{IsDifference, heading_text, here_text};
 
 use crate::judging::{command_place, is_no_command};
@@ -11,6 +13,7 @@ use crate::phrases::requirement;
 use rmi_abi::Word;
 use rmm_answers::TraceReply;
 use rmm_checks::{CheckOutcome, EvaluatedCheck, EvaluatedChecks, condition_name};
+use rmm_model::Condition;
 use rmm_trace::TraceWord;
 use std::alloc::{AllocError, Global};
 use std::fmt::Write;
@@ -27,22 +30,70 @@ fn word_text(word: Word) -> (&'static str, u8) {
     }
 }
 
-// Appends a line on a failed check: the label, and the check's name, requirement and, in brackets, result word.
-fn push_failed(
-    text: &mut String,
-    label: &str,
-    command: usize,
-    row: &EvaluatedCheck,
-    word: Word,
-) -> Result<(), AllocError> {
-    let name = condition_name(row.condition);
-    let words = requirement(command, row.condition);
+// Appends a result word, with its index if the word always has one or the index is not 0.
+fn push_word(text: &mut String, word: Word) -> Result<(), AllocError>
+    ensures { OnOk result (Extends (string_bytes text.old) (string_bytes text.new)) }
+{
     let (status, index) = word_text(word);
-    write!(text, "    {label}: {name}: {words} ({status}")?;
+    text.push_str(status)?;
     if index > 0 || matches!(word, Word::ErrorRtt(_)) {
         write!(text, " {index}")?;
     }
-    text.push_str(")\n")
+    Ok(())
+}
+
+// The label of a failed check. The first one decides the answer.
+fn label(is_first: bool) -> &'static str
+    ensures { result.now ≡ label_text is_first }
+{
+    if is_first { "error" } else { "also" }
+}
+
+// Appends the beginning of the line on a failed check: its label, and the check's name.
+fn push_label(text: &mut String, is_first: bool, condition: Condition) -> Result<(), AllocError>
+    ensures { OnOk result (string_bytes text.new ≡ string_bytes text.old ++ failed_text is_first condition) }
+{
+    let label = label(is_first);
+    let name = condition_name(condition);
+    write!(text, "    {label}: {name}: ")?;
+    Ok(())
+}
+
+// Appends a line on a failed check: the label, and the check's name, requirement and, in brackets, result word.
+fn push_failed(
+    text: &mut String,
+    is_first: bool,
+    command: usize,
+    condition: Condition,
+    word: Word,
+) -> Result<(), AllocError>
+    ensures { OnOk result (Extends (string_bytes text.old ++ failed_text is_first condition) (string_bytes text.new)) }
+{
+    push_label(text, is_first, condition)?;
+    text.push_str(requirement(command, condition))?;
+    text.push_str(" (")?;
+    push_word(text, word)?;
+    text.push_str(")\n")?;
+    Ok(())
+}
+
+// Appends a check if it failed. Returns whether the next one that fails is the first.
+fn push_if_failed(
+    text: &mut String,
+    is_first: bool,
+    command: usize,
+    row: &EvaluatedCheck,
+) -> Result<bool, AllocError>
+    ensures failed { OnOk result (is_failure row.now.outcome ≡ true → Extends (string_bytes text.old ++ failed_text is_first row.now.condition) (string_bytes text.new)) }
+    ensures other { IfOk result (λ next. is_failure row.now.outcome ≡ false → (next ≡ is_first) × (string_bytes text.new ≡ string_bytes text.old)) }
+{
+    match row.outcome {
+        CheckOutcome::Failed(answer) => {
+            push_failed(text, is_first, command, row.condition, answer.word)?;
+            Ok(false)
+        }
+        _ => Ok(is_first),
+    }
 }
 
 // Appends each check that failed. The first decides the answer, and the result words of the others are allowed.
@@ -50,29 +101,35 @@ fn push_all_failed(
     text: &mut String,
     command: usize,
     rows: &[EvaluatedCheck],
-) -> Result<(), AllocError> {
-    let mut label = "error";
+) -> Result<(), AllocError>
+    ensures { OnOk result (Extends (string_bytes text.old ++ decision_text (first_failed rows.now)) (string_bytes text.new)) }
+{
+    let mut is_first = true;
     for row in rows {
-        if let CheckOutcome::Failed(answer) = row.outcome {
-            push_failed(text, label, command, row, answer.word)?;
-            label = "also";
-        }
+        is_first = push_if_failed(text, is_first, command, row)?;
     }
     Ok(())
 }
 
+// Appends a check if it passed.
+fn push_if_passed(text: &mut String, command: usize, row: &EvaluatedCheck) -> Result<(), AllocError>
+    ensures { OnOk result (Extends (string_bytes text.old) (string_bytes text.new)) }
+{
+    if !row.outcome.is_pass() {
+        return Ok(());
+    }
+    let name = condition_name(row.condition);
+    let words = requirement(command, row.condition);
+    write!(text, "    ok: {name}: {words}\n")?;
+    Ok(())
+}
+
 // Appends each check that passed.
-fn push_passed(
-    text: &mut String,
-    command: usize,
-    rows: &[EvaluatedCheck],
-) -> Result<(), AllocError> {
+fn push_passed(text: &mut String, command: usize, rows: &[EvaluatedCheck]) -> Result<(), AllocError>
+    ensures { OnOk result (Extends (string_bytes text.old) (string_bytes text.new)) }
+{
     for row in rows {
-        if row.outcome.is_pass() {
-            let name = condition_name(row.condition);
-            let words = requirement(command, row.condition);
-            write!(text, "    ok: {name}: {words}\n")?;
-        }
+        push_if_passed(text, command, row)?;
     }
     Ok(())
 }
@@ -83,7 +140,9 @@ pub(crate) fn checks_text(
     alloc: Global,
     question: &[TraceWord],
     checks: &EvaluatedChecks,
-) -> Result<String, AllocError> {
+) -> Result<String, AllocError>
+    ensures { IfOk result (λ text. Extends (decision_text (first_failed checks.now)) (string_bytes text)) }
+{
     let mut text = String::new(alloc);
     let command = command_place(question);
     push_all_failed(&mut text, command, checks.rows())?;

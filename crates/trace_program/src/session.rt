@@ -1,5 +1,5 @@
 //! A session that processes the lines of a trace one after another.
-ghost use Rattle.std.specs.Prelude.{◌≡◌, ◌++◌, ℕ, List, [], Err, None, IfOk, OnOk, string_bytes};
+ghost use Rattle.std.specs.Prelude.{◌≡◌, ◌++◌, ℕ, List, [], Err, IfOk, OnOk, string_bytes};
 ghost use Rattle.trace_program.specs.declared.fault.TraceError.TheVariants.{Device, TooLong};
 ghost use Rattle.rmm_trace.specs.declared.line.LineKind.TheVariants.{Remark};
 ghost use Rattle.rmm_trace.specs.Lines.{without_words};
@@ -80,7 +80,7 @@ impl Session {
 
     // Returns the lines that report the checks of a refused call; empty if no call is refused.
     fn refusal(&self, alloc: Global, question: &[TraceWord]) -> Result<String, AllocError>
-        ensures { IfOk result (λ text. self.now.reply.refused ≡ None → string_bytes text ≡ []) }
+        ensures { IfOk result (λ text. specs.IsRefusalText question.now self.now (string_bytes text)) }
     {
         match self.machine.checks(question, &self.reply) {
             Some(checks) => checks_text(alloc, question, &checks),
@@ -95,7 +95,7 @@ impl Session {
         bytes: &[u8],
         line: &RmmTraceLine,
     ) -> Result<String, AllocError>
-        ensures { IfOk result (λ text. specs.AreReasons line.now.kind self.now.reply (string_bytes text)) }
+        ensures { IfOk result (λ text. specs.AreReasons line.now.kind line.now.words.items self.now (string_bytes text)) }
     {
         match line.kind {
             LineKind::Remark => Ok(String::new(alloc)),
@@ -185,7 +185,7 @@ impl Session {
         text: &mut LineTexts,
     ) -> Result<(), AllocError>
         ensures session { OnOk result (self.new ≡ specs.performed self.old (trace_line_of bytes.now)) }
-        ensures text { OnOk result ((more : List ℕ) × specs.IsExplained bytes.now self.new.reply more × (text.new ≡ text.old ++ more)) }
+        ensures text { OnOk result ((more : List ℕ) × specs.IsExplained bytes.now self.new more × (text.new ≡ text.old ++ more)) }
     {
         words.line.parse(bytes);
         self.perform(alloc, &words.line)?;

@@ -1,0 +1,30 @@
+-- The reasons for a refused call.
+use Rattle.std.specs.Prelude.{◌≡◌, ℕ, Bool, true, false, List, [], ◌++◌, codes, Option, Some, None}
+use Rattle.rmm_model.specs.declared.answer.FailedCondition.{FailedCondition}
+use Rattle.rmm_model.specs.declared.condition.Condition.{Condition}
+use Rattle.rmm_checks.specs.declared.evaluated.EvaluatedCheck.{EvaluatedCheck}
+use Rattle.rmm_checks.specs.Evaluated.{first_failed}
+use Rattle.rmm_checks.specs.Names.{name_of}
+
+-- a text, and more at its end
+abbrev pub Extends : (old new : List ℕ) → Type 0
+Extends old new = (more : List ℕ) × (new ≡ old ++ more)
+
+-- the label of a failed check: of the first, and of each other
+abbrev pub label_text : (is_first : Bool) → List ℕ
+label_text true = codes "error"
+label_text false = codes "also"
+
+-- how the line on a failed check begins: with its label, and the check's name
+abbrev pub failed_text : (is_first : Bool) → Condition → List ℕ
+failed_text is_first condition = codes "    " ++ label_text is_first ++ codes ": " ++ name_of condition ++ codes ": "
+
+-- how the line on the check that decides begins; nothing if there is none
+abbrev pub decision_text : Option FailedCondition → List ℕ
+decision_text (Some failed) = failed_text true failed.condition
+decision_text None = []
+
+-- The reasons begin with the first of the checks that failed. Without checks there are none.
+abbrev pub TellsDecision : Option (List EvaluatedCheck) → List ℕ → Type 0
+TellsDecision (Some checks) text = Extends (decision_text (first_failed checks)) text
+TellsDecision None text = text ≡ []
