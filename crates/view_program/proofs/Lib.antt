@@ -17,6 +17,7 @@ mod Legal
 mod ApplyEnds
 mod Once
 mod CheckEnds
+mod OrderTexts
 mod ReorderEnds
 mod PlanEnds
 mod TurnTexts

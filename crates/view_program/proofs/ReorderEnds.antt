@@ -1,21 +1,41 @@
 -- The ends of the writing of a plan with another schedule.
-use Rattle.std.proofs.Common.{◌≡◌, ℕ, List, Option, Err, Bool, true, false, refl, string_bytes}
+use Rattle.std.proofs.Common.{◌≡◌, ℕ, List, Option, Ok, Err, Bool, true, false, refl, inr, string_bytes}
 use Rattle.std.specs.Prelude.{IfSome}
 use Rattle.checked_io.specs.Whole.{AppendsFront}
 use Rattle.checked_io.proofs.Read.{keeps_same}
-use Rattle.realm_plan.specs.Plan.{Plan}
+use Rattle.realm_plan.specs.Plan.{Plan, plan_of}
 use Rattle.realm_program.specs.Whole.{kept_of}
-use Rattle.realm_program.specs.Printed.{IsPlanOf}
+use Rattle.realm_program.proofs.KeptPlan.{plan_from_kept}
 use Rattle.realm_program.specs.declared.fault.Fault.TheVariants as run_fault
 use Rattle.checked_io.specs.declared.told.ReadError.{ReadError}
 use Rattle.checked_io.specs.declared.told.ReadError.TheVariants as read_error
 use Rattle.command_line.specs.declared.realmview.SchedulingPolicy.{SchedulingPolicy}
 use Rattle.view_program.specs.Stop.{view_fault_of_read}
 use Rattle.view_program.specs.Checked.{GivesNoPlan}
-use Rattle.view_program.specs.Reordered.{IsWholeText, IsReorderedIn, IsNotReordered, IsReorderEnd}
+use Rattle.view_program.specs.OrderText.{IsWithOrder}
+use Rattle.view_program.specs.Reordered.{IsOrderOf, IsNotWhole, IsWholeText, IsReorderedText, IsReorderedIn, IsNotReordered, HasNoOrder, IsReorderEnd}
 use Rattle.view_program.specs.declared.fault.ViewError.{ViewError}
 use Rattle.view_program.specs.declared.fault.ViewError.TheVariants.{NoPlan, Plan as OfPlan, NoOpening, NoEvent, Refused, EraseNamesNoBuild, OrderOutsideLimits, Memory, Device}
 use Rattle.view_program.proofs.CheckEnds.{errors_from_kept}
+use Rattle.view_program.proofs.OrderTexts.{input_has}
+
+-- a text that is not accepted is the plan's text with its schedule
+pub not_whole : (turns : SchedulingPolicy) (read : Plan) (bytes order text : List ℕ) (fault : ViewError) → IsOrderOf turns read order → IsWithOrder order bytes text
+    → IsNotWhole text fault → IsNotReordered turns read bytes fault
+not_whole turns read bytes order text (NoPlan errors) is_order is_text is = absurd is
+not_whole turns read bytes order text (OfPlan (run_fault.Plan fault)) is_order is_text is = absurd is
+not_whole turns read bytes order text (OfPlan run_fault.EraseNamesNoBuild) is_order is_text is = absurd is
+not_whole turns read bytes order text (OfPlan run_fault.Memory) is_order is_text is = absurd is
+not_whole turns read bytes order text (OfPlan (run_fault.Stuck build)) is_order is_text is = absurd is
+not_whole turns read bytes order text (OfPlan run_fault.Mismatch) is_order is_text is = tt
+not_whole turns read bytes order text (OfPlan run_fault.Device) is_order is_text is = absurd is
+not_whole turns read bytes order text NoOpening is_order is_text is = absurd is
+not_whole turns read bytes order text (NoEvent line) is_order is_text is = absurd is
+not_whole turns read bytes order text (Refused line why words) is_order is_text is = absurd is
+not_whole turns read bytes order text EraseNamesNoBuild is_order is_text is = absurd is
+not_whole turns read bytes order text OrderOutsideLimits is_order is_text is = (order, is_order, inr (text, is_text, is))
+not_whole turns read bytes order text Memory is_order is_text is = tt
+not_whole turns read bytes order text Device is_order is_text is = absurd is
 
 module _ (turns : SchedulingPolicy) (source : List ℕ) (unread : Bool) (input : Option (List ℕ)) where
   -- nothing was read
@@ -37,23 +57,42 @@ module _ (turns : SchedulingPolicy) (source : List ℕ) (unread : Bool) (input :
   no_plan_to_order output bytes Memory kept gives = keeps_same output
   no_plan_to_order output bytes Device kept gives = absurd gives
 
+  -- the plan is not reordered
+  no_order : (bytes : List ℕ) (plan : Plan) (fault : ViewError) → IfSome input (λ xs. bytes ≡ kept_of xs) → plan_of bytes ≡ Ok plan
+      → IsNotReordered turns plan bytes fault → HasNoOrder turns input fault
+  no_order bytes plan fault kept is_plan is = record {
+    read = plan;
+    of_input = plan_from_kept input bytes (Ok plan) kept is_plan;
+    not_reordered = input_has (λ (them : List ℕ). IsNotReordered turns plan them fault) input bytes plan kept is_plan is;
+  }
+
   -- nothing was written
-  pub not_reordered : (output : Option (List ℕ)) (plan : Plan) (fault : ViewError) → IsPlanOf input plan → IsNotReordered fault
-      → IsReorderEnd turns source unread input output output (Err fault)
-  not_reordered output plan (NoPlan errors) of_input is = absurd is
-  not_reordered output plan (OfPlan (run_fault.Plan fault)) of_input is = absurd is
-  not_reordered output plan (OfPlan run_fault.EraseNamesNoBuild) of_input is = absurd is
-  not_reordered output plan (OfPlan run_fault.Memory) of_input is = absurd is
-  not_reordered output plan (OfPlan (run_fault.Stuck build)) of_input is = absurd is
-  not_reordered output plan (OfPlan run_fault.Mismatch) of_input is = ((plan, of_input), keeps_same output)
-  not_reordered output plan (OfPlan run_fault.Device) of_input is = absurd is
-  not_reordered output plan NoOpening of_input is = absurd is
-  not_reordered output plan (NoEvent line) of_input is = absurd is
-  not_reordered output plan (Refused line why words) of_input is = absurd is
-  not_reordered output plan EraseNamesNoBuild of_input is = absurd is
-  not_reordered output plan OrderOutsideLimits of_input is = ((plan, of_input), keeps_same output)
-  not_reordered output plan Memory of_input is = keeps_same output
-  not_reordered output plan Device of_input is = absurd is
+  pub not_reordered : (output : Option (List ℕ)) (bytes : List ℕ) (plan : Plan) (fault : ViewError) → IfSome input (λ xs. bytes ≡ kept_of xs)
+      → plan_of bytes ≡ Ok plan → IsNotReordered turns plan bytes fault → IsReorderEnd turns source unread input output output (Err fault)
+  not_reordered output bytes plan (NoPlan errors) kept is_plan is = absurd is
+  not_reordered output bytes plan (OfPlan (run_fault.Plan fault)) kept is_plan is = absurd is
+  not_reordered output bytes plan (OfPlan run_fault.EraseNamesNoBuild) kept is_plan is = absurd is
+  not_reordered output bytes plan (OfPlan run_fault.Memory) kept is_plan is = absurd is
+  not_reordered output bytes plan (OfPlan (run_fault.Stuck build)) kept is_plan is = absurd is
+  not_reordered output bytes plan (OfPlan run_fault.Mismatch) kept is_plan is = (no_order bytes plan (OfPlan run_fault.Mismatch) kept is_plan is, keeps_same output)
+  not_reordered output bytes plan (OfPlan run_fault.Device) kept is_plan is = absurd is
+  not_reordered output bytes plan NoOpening kept is_plan is = absurd is
+  not_reordered output bytes plan (NoEvent line) kept is_plan is = absurd is
+  not_reordered output bytes plan (Refused line why words) kept is_plan is = absurd is
+  not_reordered output bytes plan EraseNamesNoBuild kept is_plan is = absurd is
+  not_reordered output bytes plan OrderOutsideLimits kept is_plan is = (no_order bytes plan OrderOutsideLimits kept is_plan is, keeps_same output)
+  not_reordered output bytes plan Memory kept is_plan is = keeps_same output
+  not_reordered output bytes plan Device kept is_plan is = absurd is
+
+  -- the plan is reordered
+  pub reordered_in : (bytes text : List ℕ) (plan : Plan) → IfSome input (λ xs. bytes ≡ kept_of xs) → plan_of bytes ≡ Ok plan → IsWholeText turns text
+      → IsReorderedText turns plan bytes text → IsReorderedIn turns input text
+  reordered_in bytes text plan kept is_plan whole is = record {
+    read = plan;
+    of_input = plan_from_kept input bytes (Ok plan) kept is_plan;
+    is_whole = whole;
+    is_reordered = input_has (λ (them : List ℕ). IsReorderedText turns plan them text) input bytes plan kept is_plan is;
+  }
 
   -- a prefix of the text was written
   pub cut_reordered : (old new : Option (List ℕ)) (text : List ℕ) → unread ≡ false → IsReorderedIn turns input text

@@ -19,6 +19,7 @@ pub mod Taking
 pub mod Calls
 pub mod Checked
 pub mod Why
+pub mod OrderText
 pub mod ToAnswer
 pub mod Schedules
 pub mod Reordered

@@ -1,5 +1,5 @@
 -- Plans with another schedule, which has all the turns that their builds need.
-use Rattle.std.specs.Prelude.{◌≡◌, ℕ, Bool, true, false, List, Option, Result, Ok, Err, string_bytes}
+use Rattle.std.specs.Prelude.{◌≡◌, ◌<◌, ◌⊎◌, ℕ, Bool, true, false, List, length, Option, IfSome, Result, Ok, Err, IfOk, string_bytes}
 use Rattle.std.specs.Io.KnownBytes.{Appends, Keeps}
 use Rattle.realm_plan.specs.Plan as plan
 use Rattle.realm_plan.specs.declared.fault.PlanFault.TheVariants as plan_fault
@@ -13,6 +13,7 @@ use Rattle.command_line.specs.declared.realmview.SchedulingPolicy.{SchedulingPol
 use Rattle.command_line.specs.declared.realmview.SchedulingPolicy.TheVariants.{InRotation, OneByOne}
 use Rattle.view_program.specs.declared.fault.ViewError.{ViewError}
 use Rattle.view_program.specs.Checked.{AreErrorsOf}
+use Rattle.view_program.specs.OrderText.{IsWithOrder}
 use Rattle.view_program.specs.declared.fault.ViewError.TheVariants.{NoPlan, Plan, OrderOutsideLimits, Memory, Device}
 
 -- ---- the schedule
@@ -34,6 +35,14 @@ pub record IsWholeText (turns : SchedulingPolicy) (text : List ℕ) : Type 0 whe
   pub is_plan : plan.plan_of text ≡ Ok it
   pub whole : IsOrderOf turns it it.order
 
+-- The text of a plan that was read, with the schedule of a complete run of that plan in it. Read back, the text has this
+-- schedule.
+pub record IsReorderedText (turns : SchedulingPolicy) (read : plan.Plan) (bytes text : List ℕ) : Type 0 where
+  pub order : List ℕ
+  pub is_order : IsOrderOf turns read order
+  pub is_text : IsWithOrder order bytes text
+  pub has_order : IfOk (plan.plan_of text) (λ it. it.order ≡ order)
+
 -- ---- the reasons why there is none
 
 -- the reason why a reordered text is not accepted: it exceeds a plan's limits, there is a mismatch, or allocation
@@ -44,21 +53,34 @@ IsNotWhole text (Plan run_fault.Mismatch) = Unit {0}
 IsNotWhole text Memory = Unit {0}
 IsNotWhole text fault = ⊥
 
--- the reason why a plan is not reordered: with its new schedule it exceeds a plan's limits, there is a mismatch, or
--- allocation failed
-abbrev pub IsNotReordered : ViewError → Type 0
-IsNotReordered OrderOutsideLimits = Unit {0}
-IsNotReordered (Plan run_fault.Mismatch) = Unit {0}
-IsNotReordered Memory = Unit {0}
-IsNotReordered fault = ⊥
+-- with this schedule the plan has too many turns, or the text with it exceeds a plan's limits
+abbrev pub IsOutsideLimits : List ℕ → List ℕ → Type 0
+IsOutsideLimits order bytes =
+    (16384 < length order) ⊎ ((text : List ℕ) × IsWithOrder order bytes text × (plan.plan_of text ≡ Err plan_fault.Limit))
+
+-- the reason why a plan is not reordered: with the schedule of a complete run it exceeds a plan's limits, there is a
+-- mismatch, or allocation failed
+abbrev pub IsNotReordered : SchedulingPolicy → plan.Plan → List ℕ → ViewError → Type 0
+IsNotReordered turns read bytes OrderOutsideLimits = (order : List ℕ) × IsOrderOf turns read order × IsOutsideLimits order bytes
+IsNotReordered turns read bytes (Plan run_fault.Mismatch) = Unit {0}
+IsNotReordered turns read bytes Memory = Unit {0}
+IsNotReordered turns read bytes fault = ⊥
 
 -- ---- the end
 
--- the input is a plan, and the text is a plan with a complete schedule under the policy
+-- The input is a plan, and the text is a plan with a complete schedule under the policy. It is the input with the
+-- schedule of a complete run of the plan that was read.
 pub record IsReorderedIn (turns : SchedulingPolicy) (input : Option (List ℕ)) (text : List ℕ) : Type 0 where
   pub read : plan.Plan
   pub of_input : IsPlanOf input read
   pub is_whole : IsWholeText turns text
+  pub is_reordered : IfSome input (λ bytes. IsReorderedText turns read bytes text)
+
+-- the input is a plan that is not reordered, for this reason
+pub record HasNoOrder (turns : SchedulingPolicy) (input : Option (List ℕ)) (fault : ViewError) : Type 0 where
+  pub read : plan.Plan
+  pub of_input : IsPlanOf input read
+  pub not_reordered : IfSome input (λ bytes. IsNotReordered turns read bytes fault)
 
 -- the whole text was written
 pub record IsReorderWritten (turns : SchedulingPolicy) (input old new : Option (List ℕ)) : Type 0 where
@@ -81,8 +103,8 @@ IsReorderEndOfDevice turns false input old new = IsReorderCut turns input old ne
 abbrev pub IsReorderEnd : SchedulingPolicy → List ℕ → Bool → Option (List ℕ) → Option (List ℕ) → Option (List ℕ) → Result (Unit {0}) ViewError → Type 0
 IsReorderEnd turns source unread input old new (Ok _) = IsReorderWritten turns input old new
 IsReorderEnd turns source unread input old new (Err (NoPlan errors)) = AreErrorsOf source input (string_bytes errors) × Keeps old new
-IsReorderEnd turns source unread input old new (Err (Plan run_fault.Mismatch)) = ((read : plan.Plan) × IsPlanOf input read) × Keeps old new
-IsReorderEnd turns source unread input old new (Err OrderOutsideLimits) = ((read : plan.Plan) × IsPlanOf input read) × Keeps old new
+IsReorderEnd turns source unread input old new (Err (Plan run_fault.Mismatch)) = HasNoOrder turns input (Plan run_fault.Mismatch) × Keeps old new
+IsReorderEnd turns source unread input old new (Err OrderOutsideLimits) = HasNoOrder turns input OrderOutsideLimits × Keeps old new
 IsReorderEnd turns source unread input old new (Err Memory) = Keeps old new
 IsReorderEnd turns source unread input old new (Err Device) = IsReorderEndOfDevice turns unread input old new
 IsReorderEnd turns source unread input old new (Err fault) = ⊥

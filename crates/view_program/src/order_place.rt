@@ -2,6 +2,8 @@
 //!
 //! The text is one that the reader of TOML has accepted, so only the next item is checked. If an unexpected item comes,
 //! the place after the last key that was read is returned.
+ghost use Rattle.std.specs.Prelude.{◌≡◌, false, true, IfOk};
+
 use std::alloc::{AllocError, Global};
 use toml_parser::text::{first, skip, skip_blank, skip_ws};
 use toml_parser::{Key, ParseError, dotted_key, quoted, starts_string, unquoted};
@@ -36,7 +38,10 @@ impl From<ParseError> for KeyReadError {
 
 /// Finds the value of the key `order` in a plan's text. If there is none, returns the place below the last key above
 /// the first header.
-pub fn order_place(alloc: Global, text: &str) -> Result<OrderPlace, AllocError> {
+pub fn order_place(alloc: Global, text: &str) -> Result<OrderPlace, AllocError>
+    // The place of a line that is more is between two bytes.
+    ensures { IfOk result (λ place. place.is_value ≡ false → place.from ≡ place.to) }
+{
     let mut below = 0;
     let mut rest = skip_blank(text.strip_prefix('\u{feff}').unwrap_or(text), true);
     for _ in 0..text.len() {
@@ -66,7 +71,9 @@ fn before(text: &str, rest: &str) -> usize {
 }
 
 // The part of the text from the beginning of the value to the text after it.
-fn part(text: &str, value: &str, after: &str) -> OrderPlace {
+fn part(text: &str, value: &str, after: &str) -> OrderPlace
+    ensures { result.is_value ≡ true }
+{
     OrderPlace {
         from: before(text, value),
         to: before(text, after),

@@ -1,6 +1,8 @@
 //! The text of a schedule: the value of a plan's key `order`.
+ghost use Rattle.std.specs.Prelude.{◌≡◌, ◌++◌, IfOk, OnOk, string_bytes};
+ghost use Rattle.view_program.specs.OrderText.{order_array, turn_in_lines, turns_in_lines, turns_on_one_line};
+
 use std::alloc::{AllocError, Global};
-use std::fmt;
 
 /// The maximum number of turns in a schedule whose text is a single line. Such a line has up to 100 columns.
 const MOST_ON_ONE: usize = 30;
@@ -9,39 +11,55 @@ const MOST_ON_ONE: usize = 30;
 /// too.
 const TURNS_A_LINE: usize = 32;
 
-/// The builds of a schedule's turns, displayed as numbers with commas between them.
-#[derive(Clone, Copy)]
-struct Turns<'a>(&'a [usize]);
-
-impl fmt::Display for Turns<'_> {
-    fn fmt<W: fmt::Write>(&self, f: &mut fmt::Formatter<W>) -> fmt::Result {
-        for (place, build) in self.0.iter().enumerate() {
-            if place > 0 {
-                f.write_str(", ")?;
-            }
-            write!(f, "{build}")?;
-        }
-        Ok(())
+// Appends the builds of turns as numbers, with commas between them.
+fn push_on_one_line(text: &mut String, order: &[usize]) -> Result<(), AllocError>
+    ensures { OnOk result (string_bytes text.new ≡ string_bytes text.old ++ turns_on_one_line order.now) }
+{
+    let Some((first, more)) = order.split_first() else {
+        return Ok(());
+    };
+    write!(text, "{first}")?;
+    for build in more {
+        write!(text, ", {build}")?;
     }
+    Ok(())
 }
 
-// Appends an array whose turns are on lines between the brackets.
-fn push_lines(text: &mut String, order: &[usize]) -> Result<(), AllocError> {
-    text.push_str("[\n")?;
-    for line in order.chunks(TURNS_A_LINE) {
-        writeln!(text, "    {},", Turns(line))?;
+// Appends the turn at a place, with a comma after it. Before each 32nd a line begins.
+fn push_in_lines(text: &mut String, place: usize, build: usize) -> Result<(), AllocError>
+    ensures { OnOk result (string_bytes text.new ≡ string_bytes text.old ++ turn_in_lines place build) }
+{
+    text.push_str(if place % TURNS_A_LINE == 0 {
+        "\n    "
+    } else {
+        " "
+    })?;
+    write!(text, "{build},")
+}
+
+// Appends turns, with a comma after each. Lines have up to 32 turns.
+fn push_lines(text: &mut String, order: &[usize]) -> Result<(), AllocError>
+    ensures { OnOk result (string_bytes text.new ≡ string_bytes text.old ++ turns_in_lines 0 order.now) }
+{
+    for (place, build) in order.iter().enumerate() {
+        push_in_lines(text, place, *build)?;
     }
-    text.push_str("]")
+    Ok(())
 }
 
 /// Returns the text of a schedule as a TOML array of build numbers. Up to 30 turns are on one line, and more turns are
 /// in lines of up to 32.
-pub fn order_array(alloc: Global, order: &[usize]) -> Result<String, AllocError> {
+pub fn order_array(alloc: Global, order: &[usize]) -> Result<String, AllocError>
+    ensures { IfOk result (λ text. string_bytes text ≡ order_array order.now) }
+{
     let mut text = String::new(alloc);
+    text.push_str("[")?;
     if order.len() > MOST_ON_ONE {
         push_lines(&mut text, order)?;
+        text.push_str("\n]")?;
     } else {
-        write!(text, "[{}]", Turns(order))?;
+        push_on_one_line(&mut text, order)?;
+        text.push_str("]")?;
     }
     Ok(text)
 }

@@ -1,18 +1,20 @@
 //! The subcommand `order`, which gives a plan a new schedule. The schedule gives each build all the turns that it
 //! needs.
-ghost use Rattle.std.specs.Prelude.{◌≡◌, ◌+◌, ◌≤◌, ◌↔◌, ◌⊎◌, false, true, Err, IfOk, IfErr, OnOk};
+ghost use Rattle.std.specs.Prelude.{◌≡◌, ◌+◌, ◌≤◌, ◌↔◌, ◌⊎◌, false, true, Err, IfOk, IfErr, OnOk, string_bytes};
+ghost use Rattle.realm_plan.specs.Plan.{plan_of};
 ghost use Rattle.realm_plan.specs.PlanView.{plan_view};
-ghost use Rattle.view_program.specs.Reordered.{IsOrderOf, IsWholeText, IsNotWhole, IsNotReordered, IsReorderEnd};
+ghost use Rattle.view_program.specs.OrderText.{order_part, IsWithOrder};
+ghost use Rattle.view_program.specs.Reordered.{IsOrderOf, IsWholeText, IsReorderedText, IsNotWhole, IsNotReordered, IsReorderEnd};
 ghost use Rattle.view_program.specs.declared.fault.ViewError.TheVariants.{Device};
 
 use crate::fault::ViewError;
-use crate::order_place::{OrderPlace, order_place};
+use crate::order_place::order_place;
 use crate::order_text::order_array;
 use crate::printing::plan_from;
 use crate::schedules::{schedule_in_rotation, schedule_one_by_one};
 use checked_io::Told;
 use command_line::realmview::SchedulingPolicy;
-use realm_plan::{Plan, PlanError, PlanFault};
+use realm_plan::{MOST_TURNS, Plan, PlanError, PlanFault};
 use realm_program::read_whole;
 use std::alloc::{AllocError, Global};
 use std::io::{Read, Write};
@@ -28,18 +30,19 @@ fn order_of(alloc: Global, plan: &Plan, turns: SchedulingPolicy) -> Result<Vec<u
     }
 }
 
-// The text to write at `place`: the schedule alone, or a line with the key `order` and the schedule.
+// The text to write below `front`: the schedule alone, or a line with the key `order` and the schedule.
 fn part_for(
     alloc: Global,
-    bytes: &[u8],
-    place: OrderPlace,
+    front: &[u8],
+    is_value: bool,
     order: &[usize],
-) -> Result<String, AllocError> {
+) -> Result<String, AllocError>
+    ensures { IfOk result (λ part. string_bytes part ≡ order_part is_value front.now order.now) }
+{
     let array = order_array(alloc, order)?;
-    if place.is_value {
+    if is_value {
         return Ok(array);
     }
-    let (front, _) = bytes.split_at(place.from.min(bytes.len()));
     let mut line = String::new(alloc);
     if !front.is_empty() && !front.ends_with(b"\n") {
         line.push_str("\n")?;
@@ -48,16 +51,19 @@ fn part_for(
     Ok(line)
 }
 
-// The bytes with `part` in place of those between two offsets.
-fn with_part(
+/// Returns a plan's text with `order` as its schedule. The plan's own schedule is left out. The one error is that
+/// allocation failed.
+pub(crate) fn with_order(
     alloc: Global,
     bytes: &[u8],
-    from: usize,
-    to: usize,
-    part: &str,
-) -> Result<Vec<u8>, AllocError> {
-    let (until, back) = bytes.split_at(to.min(bytes.len()));
-    let (front, _) = until.split_at(from.min(until.len()));
+    order: &[usize],
+) -> Result<Vec<u8>, AllocError>
+    ensures { IfOk result (λ text. IsWithOrder order.now bytes.now text.items) }
+{
+    let place = order_place(alloc, from_utf8(bytes).unwrap_or(""))?;
+    let (until, back) = bytes.split_at(place.to.min(bytes.len()));
+    let (front, _) = until.split_at(place.from.min(until.len()));
+    let part = part_for(alloc, front, place.is_value, order)?;
     let mut text = Vec::new(alloc);
     text.extend_from_slice(front)?;
     text.extend_from_slice(part.as_bytes())?;
@@ -65,42 +71,38 @@ fn with_part(
     Ok(text)
 }
 
-/// Returns a plan's text with `order` as its schedule. The plan's own schedule is left out. The one error is that
-/// allocation failed.
-pub(crate) fn with_order(
-    alloc: Global,
-    bytes: &[u8],
-    order: &[usize],
-) -> Result<Vec<u8>, AllocError> {
-    let place = order_place(alloc, from_utf8(bytes).unwrap_or(""))?;
-    let part = part_for(alloc, bytes, place, order)?;
-    with_part(alloc, bytes, place.from, place.to, &part)
-}
-
-// Whether a plan's own schedule is the one that `order_of` returns for the policy.
+// Whether a plan's own schedule is `order`, and the one that `order_of` returns for the policy.
 fn has_whole_schedule(
     alloc: Global,
     plan: &Plan,
     turns: SchedulingPolicy,
+    order: &[usize],
 ) -> Result<bool, AllocError>
-    ensures { IfOk result (λ whole. whole ≡ true → IsOrderOf turns (plan_view plan.now) (plan_view plan.now).order) }
+    ensures whole { IfOk result (λ whole. whole ≡ true → IsOrderOf turns (plan_view plan.now) (plan_view plan.now).order) }
+    ensures own { IfOk result (λ whole. whole ≡ true → (plan_view plan.now).order ≡ order.now) }
 {
-    let order = order_of(alloc, plan, turns)?;
+    let whole = order_of(alloc, plan, turns)?;
     let own: Vec<usize> = plan
         .order
         .iter()
         .map(|build| build.number() as usize)
         .collect(alloc)?;
-    Ok(own == order)
+    Ok(own == whole && own.as_slice() == order)
 }
 
-// Checks that a text is a plan whose schedule gives each build all the turns that it needs.
-fn read_back(alloc: Global, text: &[u8], turns: SchedulingPolicy) -> Result<(), ViewError>
+// Checks that a text is a plan with the schedule `order`, which gives each build all the turns that it needs.
+fn read_back(
+    alloc: Global,
+    text: &[u8],
+    turns: SchedulingPolicy,
+    order: &[usize],
+) -> Result<(), ViewError>
     ensures ok { OnOk result (IsWholeText turns text.now) }
+    ensures order { OnOk result (IfOk (plan_of text.now) (λ it. it.order ≡ order.now)) }
     ensures err { IfErr result (IsNotWhole text.now) }
 {
     match Plan::from_bytes(alloc, text) {
-        Ok(plan) if has_whole_schedule(alloc, &plan, turns)? => Ok(()),
+        Ok(plan) if has_whole_schedule(alloc, &plan, turns, order)? => Ok(()),
         Err(PlanError::Memory) => Err(ViewError::Memory),
         Err(PlanError::Fault(PlanFault::Limit)) => Err(ViewError::OrderOutsideLimits),
         _ => Err(ViewError::Plan(realm_program::Fault::Mismatch)),
@@ -115,11 +117,15 @@ fn reordered(
     turns: SchedulingPolicy,
 ) -> Result<Vec<u8>, ViewError>
     ensures ok { IfOk result (λ text. IsWholeText turns text.items) }
-    ensures err { IfErr result IsNotReordered }
+    ensures text { IfOk result (λ text. IsReorderedText turns (plan_view plan.now) bytes.now text.items) }
+    ensures err { IfErr result (IsNotReordered turns (plan_view plan.now) bytes.now) }
 {
     let order = order_of(alloc, plan, turns)?;
+    if order.len() > MOST_TURNS {
+        return Err(ViewError::OrderOutsideLimits);
+    }
     let text = with_order(alloc, bytes, &order)?;
-    read_back(alloc, &text, turns)?;
+    read_back(alloc, &text, turns, &order)?;
     Ok(text)
 }
 

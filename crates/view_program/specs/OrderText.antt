@@ -1,0 +1,52 @@
+-- The text of a schedule, and the text of a plan with another schedule.
+use Rattle.std.specs.Prelude.{◌≡◌, ℕ, ◌+◌, ◌%◌, ◌==◌, nat_eq, nat_lt, Bool, false, if◌then◌else◌, List, [], ◌∷◌, ◌++◌, length, codes}
+use Rattle.std.specs.List.{ends_with}
+use Rattle.std.specs.Fmt.{decimal}
+use Rattle.plan_states.specs.OrderText.{turns_after}
+
+-- ---- the schedule
+
+-- the builds of turns, with commas between them
+abbrev pub turns_on_one_line : List ℕ → List ℕ
+turns_on_one_line [] = []
+turns_on_one_line (build ∷ turns) = decimal build ++ turns_after turns
+
+-- the turn at this place, with a comma after it; before each 32nd a line begins
+abbrev pub turn_in_lines : ℕ → ℕ → List ℕ
+turn_in_lines place build = (if place % 32 == 0 then codes "\n    " else codes " ") ++ (decimal build ++ codes ",")
+
+-- the turns from this place on
+abbrev pub turns_in_lines : ℕ → List ℕ → List ℕ
+turns_in_lines place [] = []
+turns_in_lines place (build ∷ turns) = turn_in_lines place build ++ turns_in_lines (place + 1) turns
+
+-- The schedule as an array of TOML. Up to 30 turns are on one line, and more turns are in lines of up to 32.
+abbrev pub order_array : List ℕ → List ℕ
+order_array order =
+    if nat_lt 30 (length order) then codes "[" ++ (turns_in_lines 0 order ++ codes "\n]")
+    else codes "[" ++ (turns_on_one_line order ++ codes "]")
+
+-- ---- the plan
+
+-- a new line, unless the text before it is empty or ends with one
+abbrev pub line_break_after : List ℕ → List ℕ
+line_break_after [] = []
+line_break_after (byte ∷ bytes) = if ends_with nat_eq (byte ∷ bytes) (10 ∷ []) then [] else codes "\n"
+
+-- a line with the key and the schedule, below what comes before it
+abbrev pub order_line : List ℕ → List ℕ → List ℕ
+order_line front order = line_break_after front ++ (codes "order = " ++ (order_array order ++ codes "\n"))
+
+-- what stands below `front`: the schedule alone, if that is the value of a key, or else a line with the key
+abbrev pub order_part : Bool → List ℕ → List ℕ → List ℕ
+order_part is_value front order = if is_value then order_array order else order_line front order
+
+-- The text with this schedule in place of one value, or with one line more. The rest is as it was.
+pub record IsWithOrder (order bytes text : List ℕ) : Type 0 where
+  pub front : List ℕ
+  pub removed : List ℕ
+  pub back : List ℕ
+  pub is_value : Bool
+  pub line_is_more : is_value ≡ false → removed ≡ []
+  pub of_bytes : bytes ≡ front ++ (removed ++ back)
+  pub of_text : text ≡ front ++ (order_part is_value front order ++ back)
