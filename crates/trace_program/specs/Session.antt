@@ -65,7 +65,7 @@ after_line asks.Why s bytes = performed s (trace_line_of bytes)
 abbrev pub checks_refused : List TraceWord → Session → Option (List EvaluatedCheck)
 checks_refused q s = option_and_then (refused_checks q s.reply) s.machine
 
--- What is told of a refused call: nothing if no call is refused, and else first the check that decides.
+-- What is said of a refused call: nothing if no call is refused, and else first the check that decides.
 abbrev pub IsRefusalText : List TraceWord → Session → List ℕ → Type 0
 IsRefusalText q s text = (s.reply.refused ≡ None → text ≡ []) × TellsDecision (checks_refused q s) text
 

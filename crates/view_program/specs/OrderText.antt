@@ -37,7 +37,7 @@ line_break_after (byte ∷ bytes) = if ends_with nat_eq (byte ∷ bytes) (10 ∷
 abbrev pub order_line : List ℕ → List ℕ → List ℕ
 order_line front order = line_break_after front ++ (codes "order = " ++ (order_array order ++ codes "\n"))
 
--- what stands below `front`: the schedule alone, if that is the value of a key, or else a line with the key
+-- what comes after `front`: the schedule alone, if that is the value of a key, or else a line with the key
 abbrev pub order_part : Bool → List ℕ → List ℕ → List ℕ
 order_part is_value front order = if is_value then order_array order else order_line front order
 
