@@ -21,3 +21,4 @@ mod OrderTexts
 mod ReorderEnds
 mod PlanEnds
 mod TurnTexts
+mod CallsTexts

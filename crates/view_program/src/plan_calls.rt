@@ -1,7 +1,8 @@
 //! The RMM calls of a plan's run, as a trace or a C table.
-ghost use Rattle.std.specs.Prelude.{◌<◌, None, vec_len};
+ghost use Rattle.std.specs.Prelude.{◌≡◌, ◌<◌, ◌≤◌, ◌++◌, false, length, None, Some, IfOk, OnOk, string_bytes, vec_len};
+ghost use Rattle.realm_plan.specs.PlanView.{plan_view};
 ghost use Rattle.realm_program.specs.Replay.{IsWithoutText};
-ghost use Rattle.view_program.specs.Calls.{IsCallsText};
+ghost use Rattle.view_program.specs.Calls.{comment_start, is_refusal_of_rmm, AppendsTurnAndCalls, AppendsCallsOfTurn, IsCallsText};
 
 use crate::call_rows::{push_action_rows, push_platform_row};
 use crate::plan_text::ViewText;
@@ -37,6 +38,68 @@ fn is_beside_ram(host: &Host<BuddyArena>, event: &Event) -> bool {
     }
 }
 
+// Begins a comment that extends to the end of the line.
+fn begin_comment(text: &mut String, form: CallsForm) -> Result<(), AllocError>
+    ensures { OnOk result (string_bytes text.new ≡ string_bytes text.old ++ comment_start form) }
+{
+    match form {
+        CallsForm::Trace => text.push_str("# "),
+        CallsForm::Rows => text.push_str("// "),
+    }
+}
+
+// Appends the line or the row that describes the machine.
+fn push_opening(
+    text: &mut String,
+    form: CallsForm,
+    frame: Frame,
+    auxiliaries: u8,
+) -> Result<(), AllocError> {
+    match form {
+        CallsForm::Trace => push_platform(text, frame, auxiliaries),
+        CallsForm::Rows => push_platform_row(text, frame, auxiliaries),
+    }
+}
+
+// Appends an operation with its answer. A call is refused if there is a refusal.
+fn push_operation(
+    text: &mut String,
+    form: CallsForm,
+    action: &HostAction,
+    refusal: Option<Rmi>,
+) -> Result<(), AllocError> {
+    match form {
+        CallsForm::Trace => push_action(text, action, refusal),
+        CallsForm::Rows => push_action_rows(text, action, refusal),
+    }
+}
+
+// Appends the operations for the event that the host has just recorded. `runs` has the pages for the exits from running
+// RECs.
+fn push_event(
+    text: &mut String,
+    form: CallsForm,
+    frame: Frame,
+    runs: &mut RunPages,
+    host: &Host<BuddyArena>,
+    event: &Event,
+) -> Result<(), AllocError> {
+    if !host.ledger().has_build(event.build) {
+        return Ok(());
+    }
+    if is_beside_ram(host, event) {
+        begin_comment(text, form)?;
+        return text.push_str(BESIDE_RAM);
+    }
+    let subject = host.ledger().place(event.build, &event.act);
+    let run = runs.page_for(subject.rec, &event.act);
+    let actions = actions_of(frame, subject, run, &event.act);
+    for action in actions.as_slice() {
+        push_operation(text, form, action, None)?;
+    }
+    Ok(())
+}
+
 /// A text under construction that lists the RMM calls of a plan's run. `runs` has the pages for the exits from running
 /// RECs.
 #[derive(Drop)]
@@ -48,80 +111,63 @@ struct CallsText {
 }
 
 impl CallsText {
-    // Begins a comment that extends to the end of the line.
-    fn begin_comment(&mut self) -> Result<(), AllocError> {
-        match self.form {
-            CallsForm::Trace => self.text.push_str("# "),
-            CallsForm::Rows => self.text.push_str("// "),
-        }
-    }
-
-    // Appends the line or the row that describes the machine.
-    fn push_opening(&mut self, auxiliaries: u8) -> Result<(), AllocError> {
-        match self.form {
-            CallsForm::Trace => push_platform(&mut self.text, self.frame, auxiliaries),
-            CallsForm::Rows => push_platform_row(&mut self.text, self.frame, auxiliaries),
-        }
-    }
-
-    // Appends an operation with its answer. A call is refused if there is a refusal.
-    fn push_action(&mut self, action: &HostAction, refusal: Option<Rmi>) -> Result<(), AllocError> {
-        match self.form {
-            CallsForm::Trace => push_action(&mut self.text, action, refusal),
-            CallsForm::Rows => push_action_rows(&mut self.text, action, refusal),
-        }
-    }
-
-    // Appends the operations for the event that the host has just recorded.
-    fn push_event(&mut self, host: &Host<BuddyArena>, event: &Event) -> Result<(), AllocError> {
-        if !host.ledger().has_build(event.build) {
-            return Ok(());
-        }
-        if is_beside_ram(host, event) {
-            self.begin_comment()?;
-            return self.text.push_str(BESIDE_RAM);
-        }
-        let subject = host.ledger().place(event.build, &event.act);
-        let run = self.runs.page_for(subject.rec, &event.act);
-        let actions = actions_of(self.frame, subject, run, &event.act);
-        for action in actions.as_slice() {
-            self.push_action(action, None)?;
-        }
-        Ok(())
-    }
-
-    // Appends the call of a command that the RMM has refused, or a comment in its place.
+    // Appends to `below` the call of a command that the RMM has refused, or a comment in its place.
     fn push_refused(
-        &mut self,
+        &self,
+        below: &mut String,
         host: &Host<BuddyArena>,
         build: BuildId,
         cmd: &Cmd,
         rmi: Rmi,
     ) -> Result<(), AllocError> {
         let Some(actions) = refused_calls(self.frame, host, build, cmd, rmi) else {
-            self.begin_comment()?;
-            return self.text.push_str(OTHERWISE);
+            begin_comment(below, self.form)?;
+            return below.push_str(OTHERWISE);
         };
         for action in actions.as_slice() {
-            self.push_action(action, Some(rmi))?;
+            push_operation(below, self.form, action, Some(rmi))?;
         }
         Ok(())
     }
 
-    // Appends the call of a step, if the RMM has refused it.
+    // Appends to `below` the call of a step, if the RMM has refused it.
     fn push_if_refused(
-        &mut self,
+        &self,
+        below: &mut String,
         host: &Host<BuddyArena>,
         build: BuildId,
         step: &PlanStep,
         answer: &TurnAnswer,
-    ) -> Result<(), AllocError> {
+    ) -> Result<(), AllocError>
+        ensures { OnOk result (is_refusal_of_rmm answer.now ≡ false → string_bytes below.new ≡ string_bytes below.old) }
+    {
         let TurnAnswer::Refused(Refusal::Rmi(rmi)) = answer else {
             return Ok(());
         };
         match step.asked() {
-            Step::Ask(cmd) => self.push_refused(host, build, &cmd, *rmi),
+            Step::Ask(cmd) => self.push_refused(below, host, build, &cmd, *rmi),
             _ => Ok(()),
+        }
+    }
+
+    // Appends to `below` what is below the line of a turn: the operations for its event, or the call that the RMM
+    // refused. The history had `before` events.
+    fn push_below(
+        &mut self,
+        below: &mut String,
+        host: &Host<BuddyArena>,
+        before: usize,
+        build: BuildId,
+        step: &PlanStep,
+        answer: &TurnAnswer,
+    ) -> Result<(), AllocError>
+        ensures below { OnOk result (length host.now.history ≤ before → is_refusal_of_rmm answer.now ≡ false → string_bytes below.new ≡ string_bytes below.old) }
+        ensures text { self.new.text ≡ self.old.text }
+        ensures form { self.new.form ≡ self.old.form }
+    {
+        match host.history().get(before) {
+            Some(event) => push_event(below, self.form, self.frame, &mut self.runs, host, event),
+            None => self.push_if_refused(below, host, build, step, answer),
         }
     }
 
@@ -129,33 +175,41 @@ impl CallsText {
     // history had `before` events.
     fn push_answered(
         &mut self,
+        alloc: Global,
         host: &Host<BuddyArena>,
         before: usize,
         build: BuildId,
         step: &PlanStep,
         answer: TurnAnswer,
-    ) -> Result<(), AllocError> {
+    ) -> Result<(), AllocError>
+        ensures turn { OnOk result (AppendsTurnAndCalls before host.now (record { build = build; told = Some (step.now, answer) })
+            (string_bytes self.old.text) (string_bytes self.new.text)) }
+        ensures form { self.new.form ≡ self.old.form }
+    {
         push_turn(&mut self.text, build, step, answer)?;
-        match host.history().get(before) {
-            Some(event) => self.push_event(host, event),
-            None => self.push_if_refused(host, build, step, &answer),
-        }
+        let mut below = String::new(alloc);
+        self.push_below(&mut below, host, before, build, step, &answer)?;
+        self.text.push_str(below.as_str())
     }
 
     // Performs one turn of a build, and appends its line and its operations.
     fn push_turn(
         &mut self,
+        alloc: Global,
         host: &mut Host<BuddyArena>,
         plan: &Plan,
         places: &mut [PlanCursor; 8],
         build: BuildId,
     ) -> Result<(), AllocError>
         requires { build < vec_len plan.now.builds }
+        ensures turn { OnOk result (AppendsCallsOfTurn self.old.form (plan_view plan.now) (record { host = host.old; places = places.old }) build
+            (record { host = host.new; places = places.new }) (string_bytes self.old.text) (string_bytes self.new.text)) }
+        ensures form { self.new.form ≡ self.old.form }
     {
         let before = host.history().len();
-        self.begin_comment()?;
+        begin_comment(&mut self.text, self.form)?;
         match take_turn(host, plan, places, build.number() as usize) {
-            Some((step, answer)) => self.push_answered(host, before, build, step, answer),
+            Some((step, answer)) => self.push_answered(alloc, host, before, build, step, answer),
             None => push_idle(&mut self.text, build),
         }
     }
@@ -167,23 +221,28 @@ fn calls_text(
     plan: &Plan,
     form: CallsForm,
     frame: Frame,
-) -> Result<String, AllocError> {
+) -> Result<String, AllocError>
+    ensures { IfOk result (λ text. IsCallsText form (plan_view plan.now) (string_bytes text)) }
+{
     let mut host = boot::<BuddyArena>(alloc, plan)?;
+    let mut text = String::new(alloc);
+    push_opening(&mut text, form, frame, plan.aux)?;
     let mut calls = CallsText {
-        text: String::new(alloc),
+        text,
         form,
         frame,
         runs: RunPages::new(),
     };
-    calls.push_opening(plan.aux)?;
     let mut places = [PlanCursor::first(); 8];
     for build in &plan.order {
-        calls.push_turn(&mut host, plan, &mut places, *build)?;
+        calls.push_turn(alloc, &mut host, plan, &mut places, *build)?;
     }
     Ok(calls.text)
 }
 
-/// The text of the calls that a plan's run makes to an RMM. A plan has none only if allocation failed.
+/// The text of the calls that a plan's run makes to an RMM: a description of the machine, and each turn of the run as a
+/// comment. Below a turn are the calls for its event, or the call that the RMM refused. A plan has none only if
+/// allocation failed.
 #[derive(Drop)]
 pub struct Calls {
     /// The address of granule 0, in bytes.
@@ -192,7 +251,7 @@ pub struct Calls {
 }
 
 impl ViewText for Calls {
-    ghost is_text = { λ asked. IsCallsText };
+    ghost is_text = { λ asked. IsCallsText asked.form };
 
     ghost is_without = { λ asked. IsWithoutText None };
 
