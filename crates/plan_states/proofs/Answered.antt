@@ -1,6 +1,6 @@
 -- Turns that answer a question, in runs.
-use Rattle.std.proofs.Common.{◌≡◌, ◌≢◌, ℕ, zero, suc, ◌+◌, ◌<◌, ◌==◌, ◌&&◌, ◌||◌, Bool, true, false, not, List, [], ◌∷◌, ◌++◌, map, length, Option, Some, None, refl, sym, subst, ap, ◌∙◌, eq-eqb, zero-add, arith}
-use Rattle.std.specs.Prelude.{is_some, if◌then◌else◌, slice_get, sum}
+use Rattle.std.proofs.Common.{◌≡◌, ◌≢◌, ℕ, zero, suc, ◌+◌, ◌<◌, ◌==◌, ◌&&◌, ◌||◌, Bool, true, false, not, List, [], ◌∷◌, ◌++◌, map, length, Option, Some, None, inr, refl, sym, subst, ap, ◌∙◌, eq-eqb, ne_eqb, le-leb, zero-add, arith}
+use Rattle.std.specs.Prelude.{◌≤◌, is_some, if◌then◌else◌, slice_get, sum}
 use Rattle.std.specs.List.{list_any, range_with_len}
 use Rattle.std.proofs.lemmas.Bool.{eqb-true, leb-true}
 use Rattle.host_commands.specs.declared.refusal.Refusal.{Refusal}
@@ -9,7 +9,7 @@ use Rattle.realm_plan.specs.Plan.{Plan}
 use Rattle.plan_replay.specs.Run.{Position}
 use Rattle.plan_states.specs.Questions.{pages_of_builds, has_other_without_pages, is_answer, is_other_without_pages, is_of_shared, is_other_with, waits}
 use Rattle.plan_states.specs.Reached.{IsReached}
-use Rattle.plan_states.specs.Shortest.{EndsWithAnswer, IsRefusal, IsWait, Shows}
+use Rattle.plan_states.specs.Shortest.{EndsWithAnswer, EndsWithoutAnswer, IsRefusal, IsWait, Shows}
 use Rattle.plan_states.specs.LabelProperties.{refuses_step}
 use Rattle.plan_states.specs.Turned.{end_taken}
 use Rattle.plan_states.specs.TurnTaken.{IsTurnTaken}
@@ -140,4 +140,69 @@ answered_by plan question schedule front last at to it is_schedule reached is an
   is_taken = is.is_taken;
   shown = subst (λ refusal. Shows plan question (if it.before == it.after then None else Some (end_with last it.before refusal)) to.host) is.refusal
       (shows_by plan question (end_taken last it) to.host answers);
+}
+
+-- ---- turns that do not answer
+
+refuses_if : (build step : ℕ) (end : Option EndOfStep) → IsRefusal build step end → refuses_step build step end ≡ true
+refuses_if build step end it = ap (refuses_step build step) it.is_end ∙ (λ i. (true && eq-eqb build build refl i) && eq-eqb step step refl i)
+
+waits_if : (build step : ℕ) (end : Option EndOfStep) (it : IsRefusal build step end) → is_of_shared (Some it.refusal) ≡ true → waits build end ≡ true
+waits_if build step end it shared = ap (waits build) it.is_end ∙ (λ i. eq-eqb build build refl i && shared i)
+
+or_true : (b : Bool) → (b || true) ≡ true
+or_true true = refl
+or_true false = refl
+
+-- some number of a range passes a test if the one at a place does
+passes_if : (test : ℕ → Bool) (from count place at : ℕ) → at ≡ from + place → place < count → test at ≡ true → list_any test (range_with_len from count) ≡ true
+passes_if test from zero place at same inside is = absurd (omega arith)
+passes_if test from (suc count) zero at same inside is =
+    let here : at ≡ from = omega arith in ap (λ t. t || list_any test (range_with_len (from + 1) count)) (sym (ap test here) ∙ is)
+passes_if test from (suc count) (suc place) at same inside is =
+    let there : at ≡ from + 1 + place = omega arith in
+    let below : place < count = omega arith in
+    ap (λ t. test from || t) (passes_if test (from + 1) count place at there below is) ∙ or_true (test from)
+
+-- what a function gives for the number at a place of a range
+value_at : (f : ℕ → ℕ) (from count place at : ℕ) → at ≡ from + place → place < count → slice_get (map f (range_with_len from count)) place ≡ Some (f at)
+value_at f from zero place at same inside = absurd (omega arith)
+value_at f from (suc count) zero at same inside = let here : at ≡ from = omega arith in ap (λ n. Some (f n)) (sym here)
+value_at f from (suc count) (suc place) at same inside =
+    let there : at ≡ from + 1 + place = omega arith in
+    let below : place < count = omega arith in value_at f (from + 1) count place at there below
+
+rests_if : (host : HostView) (builds build other : ℕ) → builds ≤ 8 → other < builds → other ≢ build → pages_of_build host other ≡ []
+    → has_other_without_pages builds build (pages_of_builds host) ≡ true
+rests_if host builds build other few inside unlike rest =
+    let eight : other < 8 = omega arith in
+    passes_if (is_other_without_pages build (pages_of_builds host)) 0 builds other other (sym (zero-add other)) inside
+    (ap (is_other_with build other) (value_at (λ b. length (pages_of_build host b)) 0 8 other other (sym (zero-add other)) eight)
+    ∙ (λ i. not (ne_eqb other build unlike i) && length (rest i) == 0))
+
+answers_if : (plan : Plan) (question : TurnQuestion) (end : Option EndOfStep) (host : HostView) → length plan.builds ≤ 8
+    → Shows plan question end host → is_answer (length plan.builds) question end (pages_of_builds host) ≡ true
+answers_if plan (Refused build step) end host few shown = refuses_if build step end shown
+answers_if plan (Waiting build) end host few shown =
+    let waiting = waits_if build shown.step end shown.refused shown.shared in
+    let rests = rests_if host (length plan.builds) build shown.other few shown.of_plan shown.differs shown.at_rest in (λ i. waiting i && rests i)
+answers_if plan (Leased granules) end host few shown = le-leb granules (sum (pages_of_builds host)) shown
+
+-- a schedule whose last turn does not answer the question
+pub unanswered_by : (plan : Plan) (question : TurnQuestion) (schedule front : List ℕ) (last : ℕ) (at to : Position) (it : TurnTaken)
+    → schedule ≡ front ++ last ∷ [] → IsReached plan front at → IsTurnTaken plan at last it to → length plan.builds ≤ 8
+    → is_answer (length plan.builds) question (end_taken last it) (pages_of_builds to.host) ≡ false → EndsWithoutAnswer plan question schedule
+unanswered_by plan question schedule front last at to it is_schedule reached is few fails = record {
+  before = front;
+  last = last;
+  is_schedule = is_schedule;
+  at = at;
+  reached = reached;
+  none = inr (record {
+    taken = record { turn = record { build = last; told = is.told }; before = it.before; after = it.after };
+    to = to;
+    is_taken = is.is_taken;
+    not_shown = λ shown. absurd (cc (answers_if plan question (end_taken last it) to.host few
+        (subst (λ refusal. Shows plan question (if it.before == it.after then None else Some (end_with last it.before refusal)) to.host) (sym is.refusal) shown)));
+  });
 }

@@ -1,5 +1,5 @@
 -- The shortest schedules that answer a question.
-use Rattle.std.specs.Prelude.{◌≡◌, ◌≢◌, ◌≤◌, ◌<◌, ℕ, ◌+◌, Bool, true, false, List, [], ◌∷◌, ◌++◌, length, map, sum, take, Vec, vec_items, option_map, Option, Some, None, slice_index_or}
+use Rattle.std.specs.Prelude.{◌≡◌, ◌≢◌, ◌≤◌, ◌<◌, ℕ, ◌+◌, ◌⊎◌, Bool, true, false, List, [], ◌∷◌, ◌++◌, length, map, sum, take, Vec, vec_items, option_map, Option, Some, None, slice_index_or}
 use Rattle.std.specs.List.{list_any, position}
 use Rattle.std.specs.declared.alloc.Global.{Global}
 use Rattle.host_commands.specs.declared.refusal.Refusal.{Refusal}
@@ -10,7 +10,7 @@ use Rattle.schedule_graph.specs.Paths.{Layer, paths, shows}
 use Rattle.schedule_graph.specs.declared.graph.Edge.{Edge}
 use Rattle.plan_states.specs.Exploration.{IsGraphWithin}
 use Rattle.plan_states.specs.Questions.{is_answer_at, is_of_shared, pages_of_builds}
-use Rattle.plan_states.specs.Reached.{IsReached, IsTurnAt}
+use Rattle.plan_states.specs.Reached.{IsReached, IsTurnAt, is_left}
 use Rattle.plan_states.specs.Tallies.{PathCount, layers_of, tally_of}
 use Rattle.plan_states.specs.Turned.{Taken, end_of}
 use Rattle.plan_states.specs.declared.edges.Label.{Label}
@@ -56,6 +56,26 @@ pub record EndsWithAnswer (plan : Plan) (question : TurnQuestion) (schedule : Li
   pub to : Position
   pub is_taken : IsTurnAt plan at last taken to
   pub shown : Shows plan question (end_of taken) to.host
+
+-- A turn of the build at a position does not answer the question.
+pub record IsTurnWithoutAnswer (plan : Plan) (question : TurnQuestion) (at : Position) (build : ℕ) : Type 0 where
+  pub taken : Taken
+  pub to : Position
+  pub is_taken : IsTurnAt plan at build taken to
+  pub not_shown : ¬ (Shows plan question (end_of taken) to.host)
+
+-- The last turn of the schedule does not answer the question, or is of a build that has no step left.
+pub record EndsWithoutAnswer (plan : Plan) (question : TurnQuestion) (schedule : List ℕ) : Type 0 where
+  pub before : List ℕ
+  pub last : ℕ
+  pub is_schedule : schedule ≡ before ++ last ∷ []
+  pub at : Position
+  pub reached : IsReached plan before at
+  pub none : (is_left plan at.places last ≡ false) ⊎ IsTurnWithoutAnswer plan question at last
+
+-- no turn, or one that does not answer the question, ends the schedule
+abbrev pub IsUnanswered : Plan → TurnQuestion → List ℕ → Type 0
+IsUnanswered plan question schedule = (schedule ≡ []) ⊎ EndsWithoutAnswer plan question schedule
 
 -- ---- the graph
 

@@ -1,11 +1,11 @@
 //! Runs of a plan from boot, in a given schedule. Single turns can follow a run.
-ghost use Rattle.std.specs.Prelude.{◌≡◌, ◌<◌, [], IfOk, IfErr, IfSome, OnOk, length, option_map};
+ghost use Rattle.std.specs.Prelude.{◌≡◌, ◌<◌, [], false, IfOk, IfErr, IfNone, IfSome, OnOk, length, option_map};
 ghost use Rattle.std.specs.Bool.{OnFalse};
 ghost use Rattle.host_ledger.specs.View.{world_of, pages_of_build};
 ghost use Rattle.realm_host.specs.Readings.{realm_at};
 ghost use Rattle.realm_plan.specs.PlanView.{plan_view};
 ghost use Rattle.plan_states.specs.Exploration.{HasNoGraph};
-ghost use Rattle.plan_states.specs.Reached.{AreOver, IsReached};
+ghost use Rattle.plan_states.specs.Reached.{AreOver, IsReached, is_left};
 ghost use Rattle.plan_states.specs.Turned.{moved_after, moved_by, told_refusal};
 ghost use Rattle.plan_states.specs.TurnTaken.{IsTurnAfter, IsTurnTaken};
 
@@ -172,8 +172,9 @@ pub(crate) fn take<S: PageStore>(
     places: &mut [PlanCursor; 8],
     build: usize,
 ) -> Option<TurnTaken>
-    ensures { IfSome result (λ it. IsTurnTaken (plan_view plan.now) (record { host = host.old; places = places.old }) build it
+    ensures taken { IfSome result (λ it. IsTurnTaken (plan_view plan.now) (record { host = host.old; places = places.old }) build it
         (record { host = host.new; places = places.new })) }
+    ensures none { IfNone result (is_left (plan_view plan.now) places.old build ≡ false) }
 {
     if build >= plan.builds.len() {
         return None;

@@ -1,11 +1,11 @@
 //! The search for a shortest schedule whose last turn has a given property.
-ghost use Rattle.std.specs.Prelude.{◌≡◌, ◌<◌, true, [], map, length, option_map, slice_index_or, vec_items, IfOk, IfErr};
+ghost use Rattle.std.specs.Prelude.{◌≡◌, ◌<◌, true, false, [], map, length, option_map, slice_index_or, vec_items, IfOk, IfErr};
 ghost use Rattle.realm_plan.specs.PlanView.{plan_view};
 ghost use Rattle.schedule_graph.specs.First.{layers_in};
 ghost use Rattle.plan_states.specs.Exploration.{HasNoGraph};
 ghost use Rattle.schedule_graph.specs.Paths.{shows};
 ghost use Rattle.plan_states.specs.Questions.{is_answer_at};
-ghost use Rattle.plan_states.specs.Shortest.{any_layer_shows, cut_after, first_layer, is_answered, layer_shows, shortest_tally, EndsWithAnswer, IsWitness};
+ghost use Rattle.plan_states.specs.Shortest.{any_layer_shows, cut_after, first_layer, is_answered, layer_shows, shortest_tally, EndsWithAnswer, IsUnanswered, IsWitness};
 ghost use Rattle.plan_states.specs.Tallies.{count_of_tally};
 ghost use Rattle.plan_states.specs.Turned.{end_taken};
 
@@ -160,7 +160,8 @@ pub fn answers(
     schedule: &[usize],
     question: TurnQuestion,
 ) -> Result<bool, Fault>
-    ensures ok { IfOk result (λ does. does ≡ true → EndsWithAnswer (plan_view plan.now) question schedule.now) }
+    ensures yes { IfOk result (λ does. does ≡ true → EndsWithAnswer (plan_view plan.now) question schedule.now) }
+    ensures no { IfOk result (λ does. does ≡ false → IsUnanswered (plan_view plan.now) question schedule.now) }
     ensures err { IfErr result HasNoGraph }
 {
     let Some((last, before)) = schedule.split_last() else {

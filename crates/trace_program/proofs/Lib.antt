@@ -3,6 +3,7 @@ mod Refused
 mod Deciding
 mod Parts
 mod Kept
+mod Long
 mod Sessions
 mod Taken
 mod Fronts

@@ -1,5 +1,5 @@
 -- An input that is being read, and its end.
-use Rattle.std.proofs.Common.{◌≡◌, ℕ, Bool, true, false, not, Result, Ok, Err, IfOk, OnOk, OnErr, List, [], ◌∷◌, ◌++◌, ◌&&◌, map, Option, Some, None, refl, sym, ap, ◌∙◌, subst, append_assoc, append-nil, ◌⊎◌, inl, inr}
+use Rattle.std.proofs.Common.{◌≡◌, ℕ, ◌≤◌, Bool, true, false, not, Result, Ok, Err, IfOk, OnOk, OnErr, List, [], ◌∷◌, ◌++◌, ◌&&◌, length, map, Option, Some, None, refl, sym, ap, ◌∙◌, subst, append_assoc, append-nil, ◌⊎◌, inl, inr}
 use Rattle.std.proofs.lemmas.List.{map-append}
 use Rattle.std.proofs.lemmas.Result.{on_err_weaker}
 use Rattle.std.specs.Io.KnownBytes.{Appends, Consumes, IsAtEnd, Keeps}
@@ -13,7 +13,7 @@ use Rattle.trace_program.specs.declared.counts.TraceVerdict.{TraceVerdict}
 use Rattle.trace_program.specs.declared.fault.TraceError.{TraceError}
 use Rattle.trace_program.specs.declared.session.Session.{Session}
 use Rattle.trace_program.specs.Session.{IsSession, fresh_session, is_check_done}
-use Rattle.trace_program.specs.Reading.{AreTraceLinesTaken, IsCutShort, IsOver, IsTraceRun, IsTraceLineTaken, IsUnderway, ReadsOn, kept_of_line, last_text, taken_lines, verdict_asked}
+use Rattle.trace_program.specs.Reading.{AreTraceLinesTaken, HasRead, IsCutShort, IsOver, IsTraceRun, IsTraceLineTaken, IsUnderway, ReadsOn, kept_of_line, last_text, taken_lines, verdict_asked}
 use Rattle.trace_program.proofs.Parts.{grows_more, lines_are}
 use Rattle.trace_program.proofs.Taken.{taken_none, lines_split, done_all}
 
@@ -99,6 +99,11 @@ module _ (asked : TraceSubcommand) (source : List ℕ) (input left old new : Opt
       };
       appended = appends_more old new newer u.written told u.appended appended;
     }
+
+    -- a part more
+    pub read_more : (count : ℕ) (left_after : Option (List ℕ)) (part : List ℕ) → Consumes left left_after part → count ≤ length (u.read ++ part) → HasRead count input left_after
+    read_more count left_after part consumed at_least =
+        record { read = u.read ++ part; consumed = consumes_more input left left_after u.read part u.consumed consumed; at_least = at_least }
 
     -- ---- ends
 

@@ -1,5 +1,5 @@
 -- The reading of a trace.
-use Rattle.std.specs.Prelude.{◌≡◌, ℕ, ◌<◌, Bool, true, false, List, [], ◌∷◌, ◌++◌, length, map, take, Option, ◌⊎◌}
+use Rattle.std.specs.Prelude.{◌≡◌, ℕ, ◌<◌, ◌≤◌, Bool, true, false, List, [], ◌∷◌, ◌++◌, length, map, take, Option, ◌⊎◌}
 use Rattle.std.specs.Io.KnownBytes.{Appends, Consumes, IsAtEnd}
 use Rattle.checked_io.specs.Lines.{lines_in, parts_of}
 use Rattle.checked_io.specs.Whole.{AppendsFront}
@@ -48,6 +48,12 @@ pub record IsUnderway (asked : TraceSubcommand) (source : List ℕ) (input left 
   pub written : List ℕ
   pub taken : IsTraceLineTaken asked source read written s line []
   pub appended : Appends old new written
+
+-- at least so many bytes of the input were read
+pub record HasRead (count : ℕ) (input left : Option (List ℕ)) : Type 0 where
+  pub read : List ℕ
+  pub consumed : Consumes input left read
+  pub at_least : count ≤ length read
 
 -- ---- ends
 

@@ -1,9 +1,9 @@
 //! The loop that reads a trace and writes the texts of its lines.
-ghost use Rattle.std.specs.Prelude.{◌≡◌, ◌++◌, ◌⊎◌, ◌↔◌, ℕ, List, [], Option, true, false, Err, IfOk, OnOk, OnErr};
+ghost use Rattle.std.specs.Prelude.{◌≡◌, ◌+◌, ◌-◌, ◌^◌, ◌≤◌, ◌++◌, ◌⊎◌, ◌↔◌, ℕ, List, [], Option, true, false, length, Err, IfOk, OnOk, OnErr};
 ghost use Rattle.std.specs.Io.KnownBytes.{Appends};
 ghost use Rattle.checked_io.specs.Whole.{AppendsFront};
-ghost use Rattle.trace_program.specs.declared.fault.TraceError.TheVariants.{Device};
-ghost use Rattle.trace_program.specs.Session.{TakesLine, is_check_done};
+ghost use Rattle.trace_program.specs.declared.fault.TraceError.TheVariants.{Device, TooLong};
+ghost use Rattle.trace_program.specs.Session.{IsTooMany, TakesLine, is_check_done};
 ghost use Rattle.trace_program.specs.Reading as specs;
 
 use crate::line_text::LineTexts;
@@ -60,6 +60,7 @@ impl Reading {
         ensures ok { OnOk result (TakesLine request.entry.asked.now request.entry.source.now self.old.line.items self.old.session self.new.session self.old.text self.new.text) }
         ensures empty { OnOk result (self.new.line.items ≡ []) }
         ensures err { ¬ (result ≡ Err Device) }
+        ensures long { result ≡ Err TooLong → IsTooMany request.entry.asked.now self.old.line.items self.old.session }
     {
         self.session.take_line(
             request.alloc,
@@ -79,6 +80,8 @@ impl Reading {
         ensures ok { OnOk result ((read written : List ℕ) → specs.IsTraceLineTaken request.entry.asked.now request.entry.source.now read written self.old.session self.old.line.items self.old.text
             → specs.IsTraceLineTaken request.entry.asked.now request.entry.source.now (read ++ part.now) written self.new.session self.new.line.items self.new.text) }
         ensures err { ¬ (result ≡ Err Device) }
+        ensures long { result ≡ Err TooLong → (read written : List ℕ) → specs.IsTraceLineTaken request.entry.asked.now request.entry.source.now read written self.old.session self.old.line.items self.old.text
+            → 2 ^ 64 - 1 ≤ length (read ++ part.now) }
     {
         let mut rest = part;
         'lines: loop {
@@ -101,6 +104,8 @@ impl Reading {
         ensures ok { OnOk result ((read written : List ℕ) → specs.IsTraceLineTaken request.entry.asked.now request.entry.source.now read written self.old.session self.old.line.items self.old.text
             → specs.AreTraceLinesTaken request.entry.asked.now request.entry.source.now read written self.new.session self.new.text) }
         ensures err { ¬ (result ≡ Err Device) }
+        ensures long { result ≡ Err TooLong → (read written : List ℕ) → specs.IsTraceLineTaken request.entry.asked.now request.entry.source.now read written self.old.session self.old.line.items self.old.text
+            → 2 ^ 64 - 1 ≤ length read }
     {
         if self.line.is_empty() {
             return Ok(());
@@ -118,6 +123,7 @@ impl Reading {
         ensures err { OnErr result (AppendsFront (W.contents output.old.device) (W.contents output.new.device) self.old.text) }
         ensures told { (output.new.failed ≡ true) ↔ (result ≡ Err Device) }
         ensures fine { OnOk result (output.new.failed ≡ false) }
+        ensures short { ¬ (result ≡ Err TooLong) }
     {
         let text = self.text.as_slice();
         if text.is_empty() {
@@ -147,6 +153,10 @@ impl Reading {
             → OnErr result (specs.IsCutShort request.entry.asked.now request.entry.source.now begin (R.remaining input.new.device) start (W.contents output.new.device)) }
         ensures told { ((input.new.failed ≡ true) ⊎ (output.new.failed ≡ true)) ↔ (result ≡ Err Device) }
         ensures fine { OnOk result ((input.new.failed ≡ false) × (output.new.failed ≡ false)) }
+        ensures more { (count : ℕ) (begin : Option (List ℕ)) → specs.HasRead count begin (R.remaining input.old.device)
+            → IfOk result (λ more. more ≡ true → specs.HasRead (count + 1) begin (R.remaining input.new.device)) }
+        ensures long { result ≡ Err TooLong → (begin start : Option (List ℕ)) → specs.IsUnderway request.entry.asked.now request.entry.source.now begin (R.remaining input.old.device) start (W.contents output.old.device) self.old.session self.old.line.items
+            → specs.HasRead (2 ^ 64 - 1) begin (R.remaining input.new.device) }
     {
         let n = input.read(buf)?;
         if n == 0 {
@@ -170,6 +180,7 @@ impl Reading {
         ensures ok { OnOk result (Appends (W.contents output.old.device) (W.contents output.new.device) (specs.last_text request.entry.asked.now self.now.session)) }
         ensures err { OnErr result (AppendsFront (W.contents output.old.device) (W.contents output.new.device) (specs.last_text request.entry.asked.now self.now.session)) }
         ensures told { (output.new.failed ≡ true) ↔ (result ≡ Err Device) }
+        ensures short { ¬ (result ≡ Err TooLong) }
     {
         let TraceSubcommand::Check(_) = request.asked else {
             return Ok(TraceVerdict::Agrees);
@@ -201,6 +212,7 @@ pub fn run<R: Read, W: Write>(
     ensures err { OnErr result (specs.IsCutShort asked.now source.now (R.remaining input.old.device) (R.remaining input.new.device)
         (W.contents output.old.device) (W.contents output.new.device)) }
     ensures device { ((input.new.failed ≡ true) ⊎ (output.new.failed ≡ true)) ↔ (result ≡ Err Device) }
+    ensures long { result ≡ Err TooLong → specs.HasRead (2 ^ 64 - 1) (R.remaining input.old.device) (R.remaining input.new.device) }
 {
     let request = RunParameters {
         alloc,

@@ -2,6 +2,7 @@
 use Rattle.std.specs.Prelude.{◌≡◌, ℕ, ◌+◌, ◌%◌, ◌==◌, nat_eq, nat_lt, Bool, false, if◌then◌else◌, List, [], ◌∷◌, ◌++◌, length, codes}
 use Rattle.std.specs.List.{ends_with}
 use Rattle.std.specs.Fmt.{decimal}
+use Rattle.realm_plan.specs.Plan.{Plan}
 use Rattle.plan_states.specs.OrderText.{turns_after}
 
 -- ---- the schedule
@@ -27,6 +28,10 @@ order_array order =
     else codes "[" ++ (turns_on_one_line order ++ codes "]")
 
 -- ---- the plan
+
+-- the plan with this schedule in place of its own; a plan that was written does not give up
+abbrev pub with_schedule : List ℕ → Plan → Plan
+with_schedule order plan = record plan { order = order; gives_up = false }
 
 -- a new line, unless the text before it is empty or ends with one
 abbrev pub line_break_after : List ℕ → List ℕ

@@ -1,57 +1,55 @@
 -- The run of a plan with the reasons of its refusals, as text.
-use Rattle.std.specs.Prelude.{◌≡◌, ℕ, List, [], ◌∷◌, ◌++◌, map, string_bytes, Option, Some, None}
-use Rattle.std.specs.List.{filter_map, range_with_len}
+use Rattle.std.specs.Prelude.{◌≡◌, ℕ, Bool, List, [], ◌∷◌, ◌++◌, map, string_bytes, Option, Some, None}
+use Rattle.std.specs.List.{filter_map, flat_map, range_with_len}
 use Rattle.host_ledger.specs.View.{HostView}
 use Rattle.realm_plan.specs.Plan.{Plan}
 use Rattle.plan_replay.specs.Run.{map_text}
 use Rattle.explain.specs.Explained.{report_of, IsExplainedRun}
-use Rattle.explain.specs.Unfinished.{unfinished_abort}
+use Rattle.explain.specs.Unfinished.{unfinished_abort, abort_lines}
+use Rattle.explain.specs.Words.{AreReasonLines}
 use Rattle.explain.specs.declared.explained.ExplainedTurn.{ExplainedTurn}
 use Rattle.explain.specs.declared.explained.Explanation.{Explanation}
 use Rattle.realm_program.specs.Replay.{opening_host}
 
--- There is nothing below the line of a turn without an explanation; below one that has it there can be anything.
-abbrev pub IsBelow : Option Explanation → List ℕ → Type 0
-IsBelow None below = below ≡ []
-IsBelow (Some reason) below = Unit {0}
+-- the lines of a reason, with each check that passed if all are asked for; there are none where there is no reason
+abbrev pub AreLinesBelow : Bool → Option Explanation → List ℕ → Type 0
+AreLinesBelow all None below = below ≡ []
+AreLinesBelow all (Some reason) below = AreReasonLines reason all below
 
--- the line of a turn, and what is below it
-pub record IsTurnText (turn : ExplainedTurn) (text : List ℕ) : Type 0 where
+-- the line of a turn, and the lines of its reason below it
+pub record IsTurnText (all : Bool) (turn : ExplainedTurn) (text : List ℕ) : Type 0 where
   pub below : List ℕ
-  pub is_below : IsBelow turn.reason below
+  pub of_reason : AreLinesBelow all turn.reason below
   pub whole : text ≡ string_bytes turn.line ++ below
 
 -- such texts, one after the other
-abbrev pub AreTurnTexts : List ExplainedTurn → List ℕ → Type 0
-AreTurnTexts [] text = text ≡ []
-AreTurnTexts (turn ∷ turns) text =
-    (first : List ℕ) × (rest : List ℕ) × IsTurnText turn first × AreTurnTexts turns rest × (text ≡ first ++ rest)
+abbrev pub AreTurnTexts : Bool → List ExplainedTurn → List ℕ → Type 0
+AreTurnTexts all [] text = text ≡ []
+AreTurnTexts all (turn ∷ turns) text =
+    (first : List ℕ) × (rest : List ℕ) × IsTurnText all turn first × AreTurnTexts all turns rest × (text ≡ first ++ rest)
 
--- The text of some run of the plan: the line of each turn, with words below it if it is refused. Then the map of the
--- world that the run ends in, and words if an abort is under way.
-pub record IsWhyText (plan : Plan) (text : List ℕ) : Type 0 where
+-- the lines of the aborts that are under way
+abbrev pub unfinished_lines : HostView → List ℕ
+unfinished_lines host = flat_map abort_lines (filter_map (unfinished_abort host) (range_with_len 0 8))
+
+-- The text of some run of the plan: the line of each turn, with its reason below it if it is refused. Then the map of
+-- the world that the run ends in, and the lines of the aborts that are under way.
+pub record IsWhyText (all : Bool) (plan : Plan) (text : List ℕ) : Type 0 where
   pub last : HostView
   pub turns : List ExplainedTurn
   pub run : IsExplainedRun plan (opening_host plan) last (map report_of turns)
   pub lines : List ℕ
-  pub of_turns : AreTurnTexts turns lines
-  pub ends : List ℕ
-  pub ended : filter_map (unfinished_abort last) (range_with_len 0 8) ≡ [] → ends ≡ []
-  pub whole : text ≡ lines ++ (map_text last ++ ends)
+  pub of_turns : AreTurnTexts all turns lines
+  pub whole : text ≡ lines ++ (map_text last ++ unfinished_lines last)
 
--- ---- texts that get one more turn, or an end
+-- ---- texts that get one more turn, or turns
 
-pub record AppendsTurn (turn : ExplainedTurn) (old new : List ℕ) : Type 0 where
+pub record AppendsTurn (all : Bool) (turn : ExplainedTurn) (old new : List ℕ) : Type 0 where
   pub text : List ℕ
-  pub is_text : IsTurnText turn text
+  pub is_text : IsTurnText all turn text
   pub appended : new ≡ old ++ text
 
-pub record AppendsTurns (turns : List ExplainedTurn) (old new : List ℕ) : Type 0 where
+pub record AppendsTurns (all : Bool) (turns : List ExplainedTurn) (old new : List ℕ) : Type 0 where
   pub lines : List ℕ
-  pub of_turns : AreTurnTexts turns lines
+  pub of_turns : AreTurnTexts all turns lines
   pub appended : new ≡ old ++ lines
-
-pub record AppendsEnds (host : HostView) (old new : List ℕ) : Type 0 where
-  pub ends : List ℕ
-  pub ended : filter_map (unfinished_abort host) (range_with_len 0 8) ≡ [] → ends ≡ []
-  pub appended : new ≡ old ++ ends

@@ -1,8 +1,8 @@
 //! The text of a plan's run, with the reason for each refusal.
-ghost use Rattle.std.specs.Prelude.{◌≡◌, None, OnOk, IfOk, string_bytes};
+ghost use Rattle.std.specs.Prelude.{◌≡◌, ◌++◌, None, OnOk, IfOk, string_bytes};
 ghost use Rattle.realm_plan.specs.PlanView.{plan_view};
 ghost use Rattle.realm_program.specs.Replay.{IsWithoutText};
-ghost use Rattle.view_program.specs.Why.{AppendsTurn, AppendsTurns, AppendsEnds, IsWhyText};
+ghost use Rattle.view_program.specs.Why.{AppendsTurn, AppendsTurns, IsWhyText, unfinished_lines};
 
 use crate::plan_text::ViewText;
 use buddy::BuddyArena;
@@ -20,7 +20,7 @@ fn push_turn(
     turn: &ExplainedTurn,
     all: bool,
 ) -> Result<(), AllocError>
-    ensures { OnOk result (AppendsTurn turn.now (string_bytes text.old) (string_bytes text.new)) }
+    ensures { OnOk result (AppendsTurn all turn.now (string_bytes text.old) (string_bytes text.new)) }
 {
     text.push_str(turn.line.as_str())?;
     match &turn.reason {
@@ -39,7 +39,7 @@ fn push_turns(
     turns: &[ExplainedTurn],
     all: bool,
 ) -> Result<(), AllocError>
-    ensures { OnOk result (AppendsTurns turns.now (string_bytes text.old) (string_bytes text.new)) }
+    ensures { OnOk result (AppendsTurns all turns.now (string_bytes text.old) (string_bytes text.new)) }
 {
     for turn in turns {
         push_turn(alloc, text, turn, all)?;
@@ -47,28 +47,29 @@ fn push_turns(
     Ok(())
 }
 
-// Appends the lines about unfinished aborts, if there are any.
-fn push_ends(alloc: Global, text: &mut String, host: &Host<BuddyArena>) -> Result<(), AllocError>
-    ensures { OnOk result (AppendsEnds host.now (string_bytes text.old) (string_bytes text.new)) }
+// Appends the lines of the aborts that are under way.
+fn push_unfinished(
+    alloc: Global,
+    text: &mut String,
+    host: &Host<BuddyArena>,
+) -> Result<(), AllocError>
+    ensures { OnOk result (string_bytes text.new ≡ string_bytes text.old ++ unfinished_lines host.now) }
 {
     let aborts = unfinished_aborts(alloc, host)?;
-    if aborts.is_empty() {
-        return Ok(());
-    }
     let lines = unfinished_lines(alloc, aborts.as_slice())?;
     text.push_str(lines.as_str())
 }
 
 // The text of the plan's run on a fresh host, with the reasons for refusals.
 fn why_text(alloc: Global, plan: &Plan, all: bool) -> Result<String, AllocError>
-    ensures { IfOk result (λ text. IsWhyText (plan_view plan.now) (string_bytes text)) }
+    ensures { IfOk result (λ text. IsWhyText all (plan_view plan.now) (string_bytes text)) }
 {
     let mut host = boot::<BuddyArena>(alloc, plan)?;
     let turns = explain_turns(alloc, &mut host, plan)?;
     let mut text = String::new(alloc);
     push_turns(alloc, &mut text, turns.as_slice(), all)?;
     push_map(&mut text, &host)?;
-    push_ends(alloc, &mut text, &host)?;
+    push_unfinished(alloc, &mut text, &host)?;
     Ok(text)
 }
 
@@ -82,7 +83,7 @@ pub struct Reasons {
 }
 
 impl ViewText for Reasons {
-    ghost is_text = { λ asked. IsWhyText };
+    ghost is_text = { λ asked. IsWhyText asked.all };
 
     ghost is_without = { λ asked. IsWithoutText None };
 

@@ -19,7 +19,7 @@ returns-then-not-is_answered-clause-ok c = record {
 pub returns-clause-ok : goal.returns-clause-ok
 returns-clause-ok c = record {
   answers = subst (λ (schedule : List ℕ). EndsWithAnswer (plan_view c.args.plan.now) c.args.question schedule) c.deref.ensures.value
-      (c.in_ok-answers.ensures.ok c.if-not-branch.false);
+      (c.in_ok-answers.ensures.yes c.if-not-branch.false);
   graph = c.in-All.graph;
   within = subst (IsExploration (plan_view c.args.plan.now) c.args.most) c.in-All.is c.in_ok-graph.ensures.ok;
   is_first = ap (option_map (λ (tally : PathCount TurnQuestion). tally.first))

@@ -1,6 +1,8 @@
-use Rattle.std.proofs.Common.{◌≡◌, sym, refl}
+use Rattle.std.proofs.Common.{[], zero-le, arith}
 use Rattle.std.proofs.lemmas.Result.{err_from_is_err_and}
 use Rattle.checked_io.proofs.Read.{consumes_none, keeps_same}
+use Rattle.trace_program.specs.declared.fault.TraceError.TheVariants.{TooLong}
+use Rattle.trace_program.proofs.Long.{passed_on}
 use Rattle.trace_program.proofs.Underway.{fresh_going, underway_none, cut_after, reads_more, reads_no_more, run_ok, run_err}
 use Rattle.trace_program.proofs.reading.run.Goals as goal
 
@@ -11,6 +13,7 @@ reads-init g c = record {
   empty = c.new-4.ensures;
   going = rw c.new.ensures (fresh_going _);
   underway = rw (c.new.ensures, c.new-2.ensures.items) (underway_none _ _ _ _ _ _ (fresh_going _) (keeps_same _) (keeps_same _));
+  read = record { read = []; consumed = consumes_none _; at_least = zero-le };
 }
 
 pub reads-preserved : goal.reads-preserved
@@ -21,6 +24,7 @@ reads-preserved g c =
       empty = c.in_ok-read_on.ensures.empty;
       going = more.1;
       underway = more.0;
+      read = c.in_ok-read_on.ensures.more _ _ c.reads.invariant.read c.if-not-branch.false;
     }
 
 pub returns-in_err-read_on-clause-err : goal.returns-in_err-read_on-clause-err
@@ -36,3 +40,14 @@ returns-then-not-branch-clause-err g c = run_err _ _ _ _ _ _ _ (reads_no_more _ 
 
 pub returns-clause-err : goal.returns-clause-err
 returns-clause-err g c = cut_after _ _ _ _ _ _ _ _ c.reads.invariant.underway _ _ _ (consumes_none _) (keeps_same _)
+
+pub returns-in_err-read_on-clause-long : goal.returns-in_err-read_on-clause-long
+returns-in_err-read_on-clause-long g c = λ long.
+    c.in_err-read_on.ensures.long (passed_on _ _ TooLong c.from_residual.ensures.1 long) _ _ c.reads.invariant.underway
+
+pub returns-clause-long : goal.returns-clause-long
+returns-clause-long g c = λ long. let h = c.reads.invariant.read in record {
+  read = h.read;
+  consumed = h.consumed;
+  at_least = omega (arith, h.at_least, c.reads-test.false);
+}

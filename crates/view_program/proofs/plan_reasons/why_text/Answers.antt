@@ -3,7 +3,7 @@ use Rattle.host_ledger.specs.View.{HostView}
 use Rattle.realm_plan.specs.PlanView.{plan_view}
 use Rattle.plan_replay.specs.Run.{map_text}
 use Rattle.explain.specs.Explained.{report_of, IsExplainedRun}
-use Rattle.view_program.specs.Why.{AreTurnTexts}
+use Rattle.view_program.specs.Why.{AreTurnTexts, unfinished_lines}
 use Rattle.view_program.proofs.plan_reasons.why_text.Goals as goal
 
 pub returns : goal.returns
@@ -11,7 +11,6 @@ returns c =
     let last = c.explain_turns.new.host in
     let reports = map report_of c.in_ok-turns.turns.items in
     let lines = c.in_ok-push_turns.ensures in
-    let ends = c.in_ok-push_ends.ensures in
     let of_turns = lines.appended ∙ ap (λ (t : List ℕ). t ++ lines.lines) c.new-text.ensures.bytes in
     let of_map = c.in_ok-push_map.ensures ∙ ap (λ (t : List ℕ). t ++ map_text last) of_turns in
     record {
@@ -19,8 +18,7 @@ returns c =
       turns = c.in_ok-turns.turns.items;
       run = subst (λ (host : HostView). IsExplainedRun (plan_view c.args.plan.now) host last reports) c.in_ok-host.ensures c.in_ok-turns.ensures;
       lines = lines.lines;
-      of_turns = subst (λ them. AreTurnTexts them lines.lines) c.as_slice.ensures.value lines.of_turns;
-      ends = ends.ends;
-      ended = ends.ended;
-      whole = ends.appended ∙ ap (λ (t : List ℕ). t ++ ends.ends) of_map ∙ append_assoc lines.lines (map_text last) ends.ends;
+      of_turns = subst (λ them. AreTurnTexts c.args.all them lines.lines) c.as_slice.ensures.value lines.of_turns;
+      whole = c.in_ok-push_unfinished.ensures ∙ ap (λ (t : List ℕ). t ++ unfinished_lines last) of_map
+          ∙ append_assoc lines.lines (map_text last) (unfinished_lines last);
     }

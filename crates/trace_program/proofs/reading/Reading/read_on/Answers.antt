@@ -1,9 +1,13 @@
-use Rattle.std.proofs.Common.{◌≡◌, ℕ, List, [], ◌++◌, take, not, sym, ap, subst, ◌∙◌, arith}
+use Rattle.std.proofs.Common.{◌≡◌, ℕ, ◌-◌, ◌≤◌, List, [], ◌++◌, length, take, not, sym, ap, subst, ◌∙◌, arith, length-append}
+use Rattle.std.specs.Prelude.{◌^◌}
+use Rattle.std.proofs.lemmas.List.{length-take-le}
 use Rattle.std.proofs.lemmas.Result.{err_from_is_err_and}
-use Rattle.checked_io.proofs.Read.{keeps_same}
+use Rattle.checked_io.proofs.Read.{consumes_more, keeps_same}
+use Rattle.trace_program.specs.declared.fault.TraceError.TheVariants.{TooLong}
 use Rattle.trace_program.specs.declared.session.Session.{Session}
 use Rattle.trace_program.specs.Reading.{AreTraceLinesTaken, IsOver, IsTraceLineTaken, IsUnderway, ReadsOn}
-use Rattle.trace_program.proofs.Underway.{cut_in_read, cut_after, cut_at_end, cut_in_write, over_at_end, underway_more, reads_on, from_no_text}
+use Rattle.trace_program.proofs.Long.{longer, passed_on}
+use Rattle.trace_program.proofs.Underway.{cut_in_read, cut_after, cut_at_end, cut_in_write, over_at_end, underway_more, read_more, reads_on, from_no_text}
 use Rattle.trace_program.proofs.reading.Reading.read_on.Goals as goal
 
 pub returns-in_err-n-clause-err : goal.returns-in_err-n-clause-err
@@ -45,3 +49,25 @@ returns-clause-ok g c = λ begin start u.
     let more_s = subst (λ (s : Session). IsUnderway c.args.request.asked.now c.args.request.source.now begin (g.R.Read.remaining c.read.new.self.device) start (g.W.Write.contents c.write-2.new.output.device) s c.take_part.new.self.line.items) (sym c.in_ok-write-2.ensures.session) more in
     let more_l = subst (λ line. IsUnderway c.args.request.asked.now c.args.request.source.now begin (g.R.Read.remaining c.read.new.self.device) start (g.W.Write.contents c.write-2.new.output.device) c.write-2.new.self.session line.items) (sym c.in_ok-write-2.ensures.line) more_s in
     reads_on _ _ begin _ start _ _ _ more_l c.is_done.result c.is_done.ensures
+
+-- ---- how much was read
+
+pub returns-in_err-end-clause-long : goal.returns-in_err-end-clause-long
+returns-in_err-end-clause-long g c = λ long begin start u.
+    let takes = from_no_text _ _ _ _ _ (λ (read written : List ℕ). 2 ^ 64 - 1 ≤ length read) c.requires.empty
+    (c.in_err-end.ensures.long (passed_on _ _ TooLong c.from_residual-in_err-end.ensures.1 long)) in
+    read_more _ _ begin _ start _ _ _ u _ _ _ c.in_ok-n.ensures.bytes.0 (longer _ u.read _ (takes u.read u.written u.taken))
+
+pub returns-in_err-take_part-clause-long : goal.returns-in_err-take_part-clause-long
+returns-in_err-take_part-clause-long g c = λ long begin start u.
+    let takes = from_no_text _ _ _ _ _ (λ (read written : List ℕ). 2 ^ 64 - 1 ≤ length (read ++ take c.in_ok-n.n c.read.new.buf)) c.requires.empty
+    (c.in_err-take_part.ensures.long (passed_on _ _ TooLong c.from_residual-in_err-take_part.ensures.1 long)) in
+    read_more _ _ begin _ start _ _ _ u _ _ _ c.in_ok-n.ensures.bytes.0 (takes u.read u.written u.taken)
+
+pub returns-clause-more : goal.returns-clause-more
+returns-clause-more g c = λ count begin h more.
+    let part = take c.in_ok-n.n c.read.new.buf in record {
+      read = h.read ++ part;
+      consumed = consumes_more begin _ _ h.read part h.consumed c.in_ok-n.ensures.bytes.0;
+      at_least = omega (arith, h.at_least, length-append h.read part, length-take-le c.in_ok-n.n c.read.new.buf c.in_ok-n.ensures.bound.0, c.if-n-eq0.false);
+    }
