@@ -8,6 +8,7 @@ mod Smooth
 mod AllCounted
 mod Drawing
 mod Rotating
+mod SamePlans
 mod SameEnd
 mod Visits
 mod Samples

@@ -1,5 +1,5 @@
 -- Plans with another schedule, which has all the turns that their builds need.
-use Rattle.std.specs.Prelude.{◌≡◌, ◌<◌, ◌⊎◌, ℕ, Bool, true, false, List, length, Option, IfSome, Result, Ok, Err, IfOk, string_bytes}
+use Rattle.std.specs.Prelude.{◌≡◌, ◌<◌, ◌⊎◌, ℕ, Bool, true, false, List, length, Option, IfSome, Result, Ok, Err, string_bytes}
 use Rattle.std.specs.Io.KnownBytes.{Appends, Keeps}
 use Rattle.realm_plan.specs.Plan as plan
 use Rattle.realm_plan.specs.declared.fault.PlanFault.TheVariants as plan_fault
@@ -13,7 +13,7 @@ use Rattle.command_line.specs.declared.realmview.SchedulingPolicy.{SchedulingPol
 use Rattle.command_line.specs.declared.realmview.SchedulingPolicy.TheVariants.{InRotation, OneByOne}
 use Rattle.view_program.specs.declared.fault.ViewError.{ViewError}
 use Rattle.view_program.specs.Checked.{AreErrorsOf}
-use Rattle.view_program.specs.OrderText.{IsWithOrder}
+use Rattle.view_program.specs.OrderText.{IsWithOrder, with_schedule}
 use Rattle.view_program.specs.declared.fault.ViewError.TheVariants.{NoPlan, Plan, OrderOutsideLimits, Memory, Device}
 
 -- ---- the schedule
@@ -35,13 +35,13 @@ pub record IsWholeText (turns : SchedulingPolicy) (text : List ℕ) : Type 0 whe
   pub is_plan : plan.plan_of text ≡ Ok it
   pub whole : IsOrderOf turns it it.order
 
--- The text of a plan that was read, with the schedule of a complete run of that plan in it. Read back, the text has this
--- schedule.
+-- The text of a plan that was read, with the schedule of a complete run of that plan in it. Read back, it is that plan
+-- with this schedule.
 pub record IsReorderedText (turns : SchedulingPolicy) (read : plan.Plan) (bytes text : List ℕ) : Type 0 where
   pub order : List ℕ
   pub is_order : IsOrderOf turns read order
   pub is_text : IsWithOrder order bytes text
-  pub has_order : IfOk (plan.plan_of text) (λ it. it.order ≡ order)
+  pub is_plan : plan.plan_of text ≡ Ok (with_schedule order read)
 
 -- ---- the reasons why there is none
 

@@ -8,6 +8,7 @@ use Rattle.plan_states.specs.declared.question.TurnQuestion.{TurnQuestion}
 use Rattle.plan_states.specs.declared.question.TurnQuestion.TheVariants as search
 use Rattle.command_line.specs.declared.realmview.ScheduleQuestion.{ScheduleQuestion}
 use Rattle.command_line.specs.declared.realmview.ScheduleQuestion.TheVariants.{Refused, Waiting, Leased}
+use Rattle.view_program.specs.OrderText.{with_schedule}
 
 -- the question that the search gets for a question on the command line
 abbrev pub question_of_options : ScheduleQuestion → TurnQuestion
@@ -33,20 +34,18 @@ never_line (Leased granules) = never_leased_line granules
 
 -- ---- texts
 
--- The text is a plan with this schedule, whose last turn answers the question.
-pub record IsPlanTo (question : TurnQuestion) (schedule text : List ℕ) : Type 0 where
-  pub read : Plan
-  pub is_plan : plan_of text ≡ Ok read
-  pub has_order : read.order ≡ schedule
-  pub answers : EndsWithAnswer read question schedule
+-- The text is the plan with this schedule, whose last turn answers the question.
+pub record IsPlanTo (question : TurnQuestion) (plan : Plan) (schedule text : List ℕ) : Type 0 where
+  pub is_plan : plan_of text ≡ Ok (with_schedule schedule plan)
+  pub answers : EndsWithAnswer (with_schedule schedule plan) question schedule
 
--- the text is a plan with the first of the shortest schedules that answer the question
+-- the text is the plan with the first of the shortest schedules that answer the question
 pub record IsShortestPlan (most : ℕ) (question : TurnQuestion) (plan : Plan) (text : List ℕ) : Type 0 where
   pub schedule : List ℕ
   pub shortest : IsShortest plan most question schedule
-  pub is_plan : IsPlanTo question schedule text
+  pub is_plan : IsPlanTo question plan schedule text
 
--- The text is a plan with the first of the shortest schedules that answer the question. Or it is a line: no schedule
+-- The text is the plan with the first of the shortest schedules that answer the question. Or it is a line: no schedule
 -- does, or there are more than `most` states.
 abbrev pub IsAnswerText : ℕ → ScheduleQuestion → Plan → List ℕ → Type 0
 IsAnswerText most asked plan text =

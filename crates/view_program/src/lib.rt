@@ -33,6 +33,7 @@ mod plan_title;
 mod printing;
 mod refused_calls;
 mod running;
+mod same_plan;
 pub mod schedules;
 
 pub use applying::apply;

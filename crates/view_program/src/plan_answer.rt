@@ -3,6 +3,7 @@ ghost use Rattle.std.specs.Prelude.{◌≡◌, true, IfOk, IfErr, string_bytes};
 ghost use Rattle.realm_plan.specs.PlanView.{plan_view};
 ghost use Rattle.plan_states.specs.Exploration.{HasNoGraph};
 ghost use Rattle.plan_states.specs.Shortest.{EndsWithAnswer};
+ghost use Rattle.view_program.specs.OrderText.{with_schedule};
 ghost use Rattle.view_program.specs.ToAnswer.{
   never_leased_line,
   never_line,
@@ -14,6 +15,7 @@ ghost use Rattle.view_program.specs.ToAnswer.{
 };
 
 use crate::plan_order::with_order;
+use crate::same_plan::is_same_but_schedule;
 use command_line::realmview::{ScheduleQuestion, StepPlace};
 use plan_states::{TurnQuestion, Witness, answers, shortest_answer, too_many_text};
 use realm_plan::{Plan, PlanError};
@@ -38,42 +40,44 @@ fn question_of_options(asked: ScheduleQuestion) -> TurnQuestion
     }
 }
 
-// Whether `schedule` is the plan's own schedule and the last turn of that schedule answers the question.
+// Whether a plan is `plan` with this schedule, whose last turn answers the question.
 fn ends_with_answer(
     alloc: Global,
+    read: &Plan,
     plan: &Plan,
     schedule: &[usize],
     question: TurnQuestion,
 ) -> Result<bool, Fault>
-    ensures ok { IfOk result (λ goes. goes ≡ true
-        → ((plan_view plan.now).order ≡ schedule.now) × EndsWithAnswer (plan_view plan.now) question schedule.now) }
+    ensures plan { IfOk result (λ ends. ends ≡ true → plan_view read.now ≡ with_schedule schedule.now (plan_view plan.now)) }
+    ensures answers { IfOk result (λ ends. ends ≡ true → EndsWithAnswer (plan_view read.now) question schedule.now) }
     ensures err { IfErr result HasNoGraph }
 {
-    let own: Vec<usize> = plan
+    let own: Vec<usize> = read
         .order
         .iter()
         .map(|build| build.number() as usize)
         .collect(alloc)?;
-    if own.as_slice() != schedule {
+    if own.as_slice() != schedule || !is_same_but_schedule(read, plan) {
         return Ok(false);
     }
-    answers(alloc, plan, schedule, question)
+    answers(alloc, read, schedule, question)
 }
 
-// The text of a plan with `schedule` in place of its own. Read back, the text has to be a plan whose last turn answers
-// the question.
+// The text of a plan with `schedule` in place of its own. Read back, the text has to be the plan with this schedule,
+// whose last turn answers the question.
 fn plan_to(
     alloc: Global,
+    plan: &Plan,
     source: &[u8],
     schedule: &[usize],
     question: TurnQuestion,
 ) -> Result<Vec<u8>, Fault>
-    ensures ok { IfOk result (λ text. IsPlanTo question schedule.now text.items) }
+    ensures ok { IfOk result (λ text. IsPlanTo question (plan_view plan.now) schedule.now text.items) }
     ensures err { IfErr result HasNoGraph }
 {
     let text = with_order(alloc, source, schedule)?;
     match Plan::from_bytes(alloc, &text) {
-        Ok(plan) if ends_with_answer(alloc, &plan, schedule, question)? => Ok(text),
+        Ok(read) if ends_with_answer(alloc, &read, plan, schedule, question)? => Ok(text),
         Err(PlanError::Memory) => Err(Fault::Memory),
         _ => Err(Fault::Mismatch),
     }
@@ -137,7 +141,7 @@ pub(crate) fn answer_text(
 {
     let question = question_of_options(asked);
     match shortest_answer(alloc, plan, most as usize, question)? {
-        Witness::Found(schedule) => plan_to(alloc, source, &schedule, question),
+        Witness::Found(schedule) => plan_to(alloc, plan, source, &schedule, question),
         Witness::Never => Ok(never_text(alloc, asked)?.into_bytes()),
         Witness::TooMany => Ok(too_many_text(alloc, most as usize)?.into_bytes()),
     }

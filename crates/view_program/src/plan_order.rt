@@ -1,9 +1,9 @@
 //! The subcommand `order`, which gives a plan a new schedule. The schedule gives each build all the turns that it
 //! needs.
-ghost use Rattle.std.specs.Prelude.{◌≡◌, ◌+◌, ◌≤◌, ◌↔◌, ◌⊎◌, false, true, Err, IfOk, IfErr, OnOk, string_bytes};
+ghost use Rattle.std.specs.Prelude.{◌≡◌, ◌+◌, ◌≤◌, ◌↔◌, ◌⊎◌, false, true, Ok, Err, IfOk, IfErr, OnOk, string_bytes};
 ghost use Rattle.realm_plan.specs.Plan.{plan_of};
 ghost use Rattle.realm_plan.specs.PlanView.{plan_view};
-ghost use Rattle.view_program.specs.OrderText.{order_part, IsWithOrder};
+ghost use Rattle.view_program.specs.OrderText.{order_part, with_schedule, IsWithOrder};
 ghost use Rattle.view_program.specs.Reordered.{IsOrderOf, IsWholeText, IsReorderedText, IsNotWhole, IsNotReordered, IsReorderEnd};
 ghost use Rattle.view_program.specs.declared.fault.ViewError.TheVariants.{Device};
 
@@ -11,6 +11,7 @@ use crate::fault::ViewError;
 use crate::order_place::order_place;
 use crate::order_text::order_array;
 use crate::printing::plan_from;
+use crate::same_plan::is_same_but_schedule;
 use crate::schedules::{schedule_in_rotation, schedule_one_by_one};
 use checked_io::Told;
 use command_line::realmview::SchedulingPolicy;
@@ -90,19 +91,34 @@ fn has_whole_schedule(
     Ok(own == whole && own.as_slice() == order)
 }
 
-// Checks that a text is a plan with the schedule `order`, which gives each build all the turns that it needs.
+// Whether a plan is `plan` with the schedule `order`, and this schedule is the one that `order_of` returns for it.
+fn is_order_of_plan(
+    alloc: Global,
+    read: &Plan,
+    plan: &Plan,
+    turns: SchedulingPolicy,
+    order: &[usize],
+) -> Result<bool, AllocError>
+    ensures whole { IfOk result (λ is. is ≡ true → IsOrderOf turns (plan_view read.now) (plan_view read.now).order) }
+    ensures plan { IfOk result (λ is. is ≡ true → plan_view read.now ≡ with_schedule order.now (plan_view plan.now)) }
+{
+    Ok(is_same_but_schedule(read, plan) && has_whole_schedule(alloc, read, turns, order)?)
+}
+
+// Checks that a text is the plan with the schedule `order`, which gives each build all the turns that it needs.
 fn read_back(
     alloc: Global,
     text: &[u8],
+    plan: &Plan,
     turns: SchedulingPolicy,
     order: &[usize],
 ) -> Result<(), ViewError>
     ensures ok { OnOk result (IsWholeText turns text.now) }
-    ensures order { OnOk result (IfOk (plan_of text.now) (λ it. it.order ≡ order.now)) }
+    ensures plan { OnOk result (plan_of text.now ≡ Ok (with_schedule order.now (plan_view plan.now))) }
     ensures err { IfErr result (IsNotWhole text.now) }
 {
     match Plan::from_bytes(alloc, text) {
-        Ok(plan) if has_whole_schedule(alloc, &plan, turns, order)? => Ok(()),
+        Ok(read) if is_order_of_plan(alloc, &read, plan, turns, order)? => Ok(()),
         Err(PlanError::Memory) => Err(ViewError::Memory),
         Err(PlanError::Fault(PlanFault::Limit)) => Err(ViewError::OrderOutsideLimits),
         _ => Err(ViewError::Plan(realm_program::Fault::Mismatch)),
@@ -125,14 +141,14 @@ fn reordered(
         return Err(ViewError::OrderOutsideLimits);
     }
     let text = with_order(alloc, bytes, &order)?;
-    read_back(alloc, &text, turns, &order)?;
+    read_back(alloc, &text, plan, turns, &order)?;
     Ok(text)
 }
 
 /// Reads a plan, and writes it with a new schedule. The schedule gives each build all the turns that it needs. The
 /// turns include those of aborts and rollbacks. The value of `order` is replaced, and the rest of the text is as it
-/// was. The text is read back before it is written. Its schedule is that of a run of itself, in which each turn is of a
-/// build that has a step left, until none has.
+/// was. The text is read back before it is written: it has to be the plan with the new schedule. The schedule is that of
+/// a run of itself, in which each turn is of a build that has a step left, until none has.
 ///
 /// The text is complete before any of it is written. Errors. `NoPlan`, with the errors of an input that is no plan.
 /// `OrderOutsideLimits`: the plan would have too many turns or bytes. `Memory`: allocation failed. `Device`: a read
