@@ -6,8 +6,8 @@ ghost use Rattle.view_program.specs.OrderText.{with_schedule};
 use host_commands::{Cmd, Step};
 use realm_plan::{Plan, PlanStep};
 
-// Whether two commands are the same.
-fn is_same_cmd(one: &Cmd, other: &Cmd) -> bool
+// Whether two commands are the same command on pages.
+fn is_same_on_pages(one: &Cmd, other: &Cmd) -> bool
     ensures { result ≡ true → one.now ≡ other.now }
 {
     match (one, other) {
@@ -15,6 +15,15 @@ fn is_same_cmd(one: &Cmd, other: &Cmd) -> bool
         (Cmd::Fill { page: a, value: v }, Cmd::Fill { page: b, value: w }) => a == b && v == w,
         (Cmd::Peek { page: a, offset: o }, Cmd::Peek { page: b, offset: p }) => a == b && o == p,
         (Cmd::Delegate { page: a }, Cmd::Delegate { page: b }) => a == b,
+        _ => false,
+    }
+}
+
+// Whether two commands are the same command on a realm or its memory.
+fn is_same_on_realms(one: &Cmd, other: &Cmd) -> bool
+    ensures { result ≡ true → one.now ≡ other.now }
+{
+    match (one, other) {
         (
             Cmd::Realm {
                 rd: a,
@@ -53,6 +62,16 @@ fn is_same_cmd(one: &Cmd, other: &Cmd) -> bool
             },
         ) => a == b && i == j && s == t,
         (Cmd::Unknown { page: a, ipa: i }, Cmd::Unknown { page: b, ipa: j }) => a == b && i == j,
+        (Cmd::Activate, Cmd::Activate) => true,
+        _ => false,
+    }
+}
+
+// Whether two commands are the same command on RECs.
+fn is_same_on_recs(one: &Cmd, other: &Cmd) -> bool
+    ensures { result ≡ true → one.now ≡ other.now }
+{
+    match (one, other) {
         (
             Cmd::Rec {
                 page: a,
@@ -63,7 +82,6 @@ fn is_same_cmd(one: &Cmd, other: &Cmd) -> bool
                 auxiliaries: y,
             },
         ) => a == b && x.as_slice() == y.as_slice(),
-        (Cmd::Activate, Cmd::Activate) => true,
         (Cmd::Enter { number: a }, Cmd::Enter { number: b }) => a == b,
         (Cmd::Exit { number: a }, Cmd::Exit { number: b }) => a == b,
         (
@@ -84,6 +102,13 @@ fn is_same_cmd(one: &Cmd, other: &Cmd) -> bool
     }
 }
 
+// Whether two commands are the same.
+fn is_same_cmd(one: &Cmd, other: &Cmd) -> bool
+    ensures { result ≡ true → one.now ≡ other.now }
+{
+    is_same_on_pages(one, other) || is_same_on_realms(one, other) || is_same_on_recs(one, other)
+}
+
 // Whether two steps of plans are the same.
 fn is_same_step(one: &PlanStep, other: &PlanStep) -> bool
     ensures { result ≡ true → one.now ≡ other.now }
@@ -94,10 +119,9 @@ fn is_same_step(one: &PlanStep, other: &PlanStep) -> bool
         (PlanStep::Whole(Step::Abort), PlanStep::Whole(Step::Abort)) => true,
         (PlanStep::Whole(Step::Mark), PlanStep::Whole(Step::Mark)) => true,
         (PlanStep::Whole(Step::Back), PlanStep::Whole(Step::Back)) => true,
-        (
-            PlanStep::WidthLeftOut { rd: a, root: r },
-            PlanStep::WidthLeftOut { rd: b, root: s },
-        ) => a == b && r == s,
+        (PlanStep::WidthLeftOut { rd: a, root: r }, PlanStep::WidthLeftOut { rd: b, root: s }) => a
+            == b
+            && r == s,
         _ => false,
     }
 }
