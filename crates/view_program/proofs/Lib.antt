@@ -23,3 +23,4 @@ mod ReorderEnds
 mod PlanEnds
 mod TurnTexts
 mod CallsTexts
+mod CallsBelow

@@ -1,8 +1,11 @@
 //! The RMM calls of a plan's run, as a trace or a C table.
-ghost use Rattle.std.specs.Prelude.{◌≡◌, ◌<◌, ◌≤◌, ◌++◌, false, length, None, Some, IfOk, OnOk, string_bytes, vec_len};
+ghost use Rattle.std.specs.Prelude.{◌≡◌, ◌<◌, ◌≤◌, ◌++◌, false, true, length, slice_get, codes, None, Some, IfOk, IfSome, OnOk, string_bytes, vec_len};
+ghost use Rattle.std.specs.Bool.{OnTrue};
+ghost use Rattle.command_line.specs.declared.realmview.CallsForm.TheVariants.{Trace};
+ghost use Rattle.history_calls.specs.Lines.{action_line, platform_line};
 ghost use Rattle.realm_plan.specs.PlanView.{plan_view};
 ghost use Rattle.realm_program.specs.Replay.{IsWithoutText};
-ghost use Rattle.view_program.specs.Calls.{comment_start, is_refusal_of_rmm, AppendsTurnAndCalls, AppendsCallsOfTurn, IsCallsText};
+ghost use Rattle.view_program.specs.Calls.{action_lines, comment_start, is_poke, is_refusal_of_rmm, AppendsCallsOfEvent, AppendsTurnAndCalls, AppendsCallsOfTurn, IsCallsText};
 
 use crate::call_rows::{push_action_rows, push_platform_row};
 use crate::plan_text::ViewText;
@@ -28,7 +31,9 @@ const BESIDE_RAM: &str =
 const OTHERWISE: &str = "no call: RMM 1.0 has none for it, or may answer otherwise\n";
 
 // Whether an event is a guest's write at an address whose RIPAS is not RAM. RMM 1.0 has no write there.
-fn is_beside_ram(host: &Host<BuddyArena>, event: &Event) -> bool {
+fn is_beside_ram(host: &Host<BuddyArena>, event: &Event) -> bool
+    ensures { OnTrue result (is_poke event.now.act ≡ true) }
+{
     let Act::Poke { ipa, .. } = event.act else {
         return false;
     };
@@ -54,7 +59,9 @@ fn push_opening(
     form: CallsForm,
     frame: Frame,
     auxiliaries: u8,
-) -> Result<(), AllocError> {
+) -> Result<(), AllocError>
+    ensures { OnOk result (form ≡ Trace → string_bytes text.new ≡ string_bytes text.old ++ platform_line frame auxiliaries) }
+{
     match form {
         CallsForm::Trace => push_platform(text, frame, auxiliaries),
         CallsForm::Rows => push_platform_row(text, frame, auxiliaries),
@@ -67,11 +74,27 @@ fn push_operation(
     form: CallsForm,
     action: &HostAction,
     refusal: Option<Rmi>,
-) -> Result<(), AllocError> {
+) -> Result<(), AllocError>
+    ensures { OnOk result (form ≡ Trace → string_bytes text.new ≡ string_bytes text.old ++ action_line action.now refusal) }
+{
     match form {
         CallsForm::Trace => push_action(text, action, refusal),
         CallsForm::Rows => push_action_rows(text, action, refusal),
     }
+}
+
+// Appends operations with their answers. None of them is refused.
+fn push_operations(
+    text: &mut String,
+    form: CallsForm,
+    actions: &[HostAction],
+) -> Result<(), AllocError>
+    ensures { OnOk result (form ≡ Trace → string_bytes text.new ≡ string_bytes text.old ++ action_lines actions.now) }
+{
+    for action in actions {
+        push_operation(text, form, action, None)?;
+    }
+    Ok(())
 }
 
 // Appends the operations for the event that the host has just recorded. `runs` has the pages for the exits from running
@@ -83,7 +106,9 @@ fn push_event(
     runs: &mut RunPages,
     host: &Host<BuddyArena>,
     event: &Event,
-) -> Result<(), AllocError> {
+) -> Result<(), AllocError>
+    ensures { OnOk result (form ≡ Trace → AppendsCallsOfEvent frame runs.old runs.new host.now event.now (string_bytes text.old) (string_bytes text.new)) }
+{
     if !host.ledger().has_build(event.build) {
         return Ok(());
     }
@@ -94,10 +119,7 @@ fn push_event(
     let subject = host.ledger().place(event.build, &event.act);
     let run = runs.page_for(subject.rec, &event.act);
     let actions = actions_of(frame, subject, run, &event.act);
-    for action in actions.as_slice() {
-        push_operation(text, form, action, None)?;
-    }
-    Ok(())
+    push_operations(text, form, actions.as_slice())
 }
 
 /// A text under construction that lists the RMM calls of a plan's run. `runs` has the pages for the exits from running
@@ -161,9 +183,13 @@ impl CallsText {
         step: &PlanStep,
         answer: &TurnAnswer,
     ) -> Result<(), AllocError>
+        ensures event { OnOk result (self.old.form ≡ Trace → IfSome (slice_get host.now.history before)
+            (λ event. AppendsCallsOfEvent self.old.frame self.old.runs self.new.runs host.now event (string_bytes below.old) (string_bytes below.new))) }
         ensures below { OnOk result (length host.now.history ≤ before → is_refusal_of_rmm answer.now ≡ false → string_bytes below.new ≡ string_bytes below.old) }
+        ensures pages { length host.now.history ≤ before → self.new.runs ≡ self.old.runs }
         ensures text { self.new.text ≡ self.old.text }
         ensures form { self.new.form ≡ self.old.form }
+        ensures frame { self.new.frame ≡ self.old.frame }
     {
         match host.history().get(before) {
             Some(event) => push_event(below, self.form, self.frame, &mut self.runs, host, event),
@@ -182,9 +208,10 @@ impl CallsText {
         step: &PlanStep,
         answer: TurnAnswer,
     ) -> Result<(), AllocError>
-        ensures turn { OnOk result (AppendsTurnAndCalls before host.now (record { build = build; told = Some (step.now, answer) })
-            (string_bytes self.old.text) (string_bytes self.new.text)) }
+        ensures turn { OnOk result (AppendsTurnAndCalls self.old.form self.old.frame self.old.runs self.new.runs before host.now
+            (record { build = build; told = Some (step.now, answer) }) (string_bytes self.old.text) (string_bytes self.new.text)) }
         ensures form { self.new.form ≡ self.old.form }
+        ensures frame { self.new.frame ≡ self.old.frame }
     {
         push_turn(&mut self.text, build, step, answer)?;
         let mut below = String::new(alloc);
@@ -202,9 +229,11 @@ impl CallsText {
         build: BuildId,
     ) -> Result<(), AllocError>
         requires { build < vec_len plan.now.builds }
-        ensures turn { OnOk result (AppendsCallsOfTurn self.old.form (plan_view plan.now) (record { host = host.old; places = places.old }) build
-            (record { host = host.new; places = places.new }) (string_bytes self.old.text) (string_bytes self.new.text)) }
+        ensures turn { OnOk result (AppendsCallsOfTurn self.old.form self.old.frame (plan_view plan.now) self.old.runs self.new.runs
+            (record { host = host.old; places = places.old }) build (record { host = host.new; places = places.new })
+            (string_bytes self.old.text) (string_bytes self.new.text)) }
         ensures form { self.new.form ≡ self.old.form }
+        ensures frame { self.new.frame ≡ self.old.frame }
     {
         let before = host.history().len();
         begin_comment(&mut self.text, self.form)?;
@@ -215,15 +244,16 @@ impl CallsText {
     }
 }
 
-// The text of the calls of the plan's run on a fresh host.
+// The text of the calls of the plan's run on a fresh host, whose granule 0 is at the address `base`.
 fn calls_text(
     alloc: Global,
     plan: &Plan,
     form: CallsForm,
-    frame: Frame,
+    base: BaseAddress,
 ) -> Result<String, AllocError>
-    ensures { IfOk result (λ text. IsCallsText form (plan_view plan.now) (string_bytes text)) }
+    ensures { IfOk result (λ text. IsCallsText form base (plan_view plan.now) (string_bytes text)) }
 {
+    let frame = Frame::new(base.address(), plan.pages);
     let mut host = boot::<BuddyArena>(alloc, plan)?;
     let mut text = String::new(alloc);
     push_opening(&mut text, form, frame, plan.aux)?;
@@ -251,12 +281,11 @@ pub struct Calls {
 }
 
 impl ViewText for Calls {
-    ghost is_text = { λ asked. IsCallsText asked.form };
+    ghost is_text = { λ asked. IsCallsText asked.form asked.base };
 
     ghost is_without = { λ asked. IsWithoutText None };
 
     fn text_of(&self, alloc: Global, plan: Plan, _source: &[u8]) -> Result<Vec<u8>, Fault> {
-        let frame = Frame::new(self.base.address(), plan.pages);
-        Ok(calls_text(alloc, &plan, self.form, frame)?.into_bytes())
+        Ok(calls_text(alloc, &plan, self.form, self.base)?.into_bytes())
     }
 }
