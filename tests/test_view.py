@@ -92,6 +92,21 @@ def test_refused_calls(check):
     check("refused calls", found, list(REFUSED))
 
 
+# A plan of one build with two pages of memory, of which the first alone is RAM. The guest writes 7 to byte 8 of each.
+WRITES = ["take 4", "delegate 0", "delegate 1", "realm 0 1", "delegate 2", "delegate 3", "delegate 4", "rtt 2 0 2", "rtt 3 0 3", "ripas 0 1",
+          "delegate 5", "unknown 5 0", "unknown 4 1", "delegate 6", "delegate 7", "rec 6 7", "activate", "enter 0", "poke 0 0 8 7", "poke 0 1 8 7"]  # fmt: skip
+
+
+def test_writes_of_a_guest(check):
+    """A guest's write to RAM is a line of the trace. Elsewhere RMM 1.0 refuses it, and a comment takes its place."""
+    plan = f"pages = 16\naux = 1\norder = {[0] * len(WRITES)}\n[[build]]\nsteps = {WRITES}\n".encode()
+    status, calls, err = run(VIEW, ["calls"], plan)
+    check("calls", (status, err), (0, b""))
+    (there,), (elsewhere,) = [re.findall(rf"^# 0 poke 0 {page} 8 7 = ok\n((?:(?!# 0 ).*\n)*)", calls.decode(), re.M) for page in (0, 1)]
+    check("to RAM", [it for it in there.splitlines() if "write" in it], ["guest 0x80006000 write 0x8 0x7 = queued"])
+    check("elsewhere", elsewhere, "# no call: the RIPAS there is not RAM, and in RMM 1.0 the guest's write is refused\n")
+
+
 def rows_of(text):
     """The rows of a table of C, without what the trace alone has: the field of an exit, and zeros at an end."""
     rows = [it for it in text.splitlines() if it.startswith("{") and not re.search(r"LOAD.*, 0x1}, .out", it)]
