@@ -28,8 +28,7 @@ pub enum Ending {
     Done,
     /// The outcome when a request is refused. The rest of the list is not asked.
     Refused,
-    /// The outcome if a build's worker did not get a turn to ask its next question. The gate did not give the turn, and
-    /// the question was not asked.
+    /// The outcome if the gate withholds a turn. The next question is not asked.
     Cut,
 }
 
@@ -102,7 +101,7 @@ pub fn tell(report: &mut Report, asked: Asked, answer: Answer) -> Ending
 }
 
 /// Waits for a worker's next turn, and then asks the host to perform a command. The answer is added to the report. The
-/// command is borrowed and not copied: a copy between two calls would take time in which others wait for the lock.
+/// command is borrowed, so the caller keeps it.
 pub fn ask_command<T: Teller, G: Gate>(
     report: &mut Report,
     standing: &mut Standing,

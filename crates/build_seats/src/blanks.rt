@@ -3,7 +3,7 @@ ghost use Rattle.std.specs.Prelude.{◌≡◌};
 
 use std::sync::ledger::Blank;
 
-/// A blank ghost ledger for each build, whose type is chosen when it is opened. Each ledger has a single part.
+/// A blank ghost ledger for each build. Each ledger has a single part.
 #[derive(Drop)]
 pub struct Blanks {
     pub blank0: Blank,

@@ -120,10 +120,10 @@ fn take_steps<T: Teller, G: Gate>(
 
 /// Performs the steps of a build in sequence. Each answer is added to the report.
 ///
-/// After the first refusal the RECs that run exit, in rising number. Then all open operations are undone. Both follow
-/// from the replies that this worker got, and a refusal there ends the clearing too. Before each question the worker
-/// waits for its next turn from the gate. `Err` comes if a turn does not come; then the worker has not ended, and asks
-/// no more.
+/// After the first refusal, the running RECs exit, in ascending order of their numbers, and then all open operations
+/// are undone. The replies to this worker determine which RECs run and how many operations are open. A refusal of an
+/// exit or an undo ends the work. Before each question the worker waits for its next turn from the gate. If the gate
+/// withholds a turn, the result is `Err`, and the worker asks no more.
 pub fn work<T: Teller, G: Gate>(
     report: &mut Report,
     steps: &[Step],

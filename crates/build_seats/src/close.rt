@@ -13,15 +13,14 @@ use realm_model::Event;
 /// The reason why a shared host is not closed.
 #[derive(Clone, Copy, PartialEq, Eq)]
 pub enum CloseFault {
-    /// A build that does not have exactly one session handle (seat) on the shared host.
+    /// A build that does not have exactly one seat on the shared host.
     SeatMissing(BuildId),
-    /// A build whose session handle (seat) lists other events than the host's history. The seat's trail has to be the
-    /// build's part of the history.
+    /// A build whose seat lists other events than the host's history. The seat's trail has to be the build's part of
+    /// the history.
     RecordMismatch(BuildId),
 }
 
-/// Proves that the event count of each session handle (seat) in `seats` equals its build's count in `books`. Nothing
-/// changes.
+/// Proves that the event count of each seat in `seats` equals its build's count in `books`. Nothing changes.
 pub fn audit<L: Ledgers>(books: &mut Books<L>, seats: &mut [Seat<L>])
     ensures books { books.new ≡ books.old }
     ensures seats { seats.new ≡ seats.old }
@@ -32,7 +31,7 @@ pub fn audit<L: Ledgers>(books: &mut Books<L>, seats: &mut [Seat<L>])
     }
 }
 
-/// Finds the lowest-numbered build that does not have exactly one session handle (seat).
+/// Finds the lowest-numbered build that does not have exactly one seat.
 #[tactic(auto, unfolding(crate::specs::Close::AreSeatsWhole))]
 pub fn missing<L: Ledgers>(seats: &[Seat<L>], builds: u8) -> Option<BuildId>
     requires { builds ≤ 8 }
@@ -55,8 +54,8 @@ fn seat_count<L: Ledgers>(seats: &[Seat<L>], build: BuildId) -> usize
     seats.iter().filter(|seat| seat.build() == build).count()
 }
 
-/// Finds the lowest-numbered build whose session handle (seat) disagrees with the host's history. The seat's trail has
-/// to be the build's part of the history.
+/// Finds the lowest-numbered build whose seat disagrees with the host's history. The seat's trail has to be the build's
+/// part of the history.
 #[tactic(auto, unfolding(crate::specs::Close::FitsAll))]
 pub fn mismatch<L: Ledgers>(seats: &[Seat<L>], history: &[Event]) -> Option<BuildId>
     ensures some { IfSome result (λ build. Differs build history.now seats.now) }

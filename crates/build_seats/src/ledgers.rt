@@ -71,7 +71,7 @@ impl<L: Ledgers> Model for Books<L> {
     ghost view = { λ b. b.book0.total ∷ b.book1.total ∷ b.book2.total ∷ b.book3.total ∷ b.book4.total ∷ b.book5.total ∷ b.book6.total ∷ b.book7.total ∷ [] };
 }
 
-// Adds to the amount of a ledger's only share. Both totals are the same before.
+// Adds `amount` to a ledger's total and to the amount of its only share. The two are equal before.
 fn add_whole<L: Ledger>(book: &mut Book<L>, share: &mut Share<L>, amount: u64)
     requires parts { share.old.parts ≡ L.parts }
     requires some { 0 < share.old.parts }
@@ -85,7 +85,7 @@ fn add_whole<L: Ledger>(book: &mut Book<L>, share: &mut Share<L>, amount: u64)
 }
 
 impl<L: Ledgers> Books<L> {
-    // Adds to a build's event count, both in its `Pass` and in `Books`. Both are the same before.
+    // Adds `more` to a build's event count, both in its `Pass` and in `Books`. The two counts are equal before.
     fn add(&mut self, pass: &mut Pass<L>, more: u64)
         ensures book { self.new ≡ slice_set self.old pass.old.build (pass.old.count + more) }
         ensures pass { pass.new ≡ record pass.old { count = pass.old.count + more } }

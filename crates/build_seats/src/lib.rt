@@ -1,16 +1,16 @@
-//! A shared host, with a session handle (seat) for each build. The work of a build is here too. Nothing in this crate
-//! depends on locks or threads.
+//! A shared host, with a seat for each of its builds. A seat is the session handle of a build. The work of a build is
+//! here too. Nothing in this crate depends on locks or threads.
 //!
-//! `Kept` is what a lock protects: the host, and for each build the number of its events in the history. A `Seat` is a
-//! session handle of one build: it has the same number, and a list of these events. A call of `Kept` asks the host, and
-//! notes in the seat the one event that ends the history. `Kept::close` gives the host back, and compares the lists
-//! with the history.
+//! `Kept` is what a lock protects: the host, and for each build the number of its events in the history. A `Seat` has
+//! the same number for its build, and a list of these events. A call of `Kept` asks the host. For an accepted command
+//! or undo, the event that now ends the history is appended to the seat's list. `Kept::close` gives the host back, and
+//! compares the lists with the history.
 //!
-//! `work` performs a build's part of a plan for its worker, over any `Teller` and any `Gate`. A `Teller` is the client
-//! side of a host, and a `Gate` the scheduler of turns. The worker asks the teller for the steps in sequence, and waits
-//! at the gate before each question. After the first refusal it stops the RECs that run, undoes the open operations,
-//! and ends. Its contract says which questions were asked, in which sequence, and that the report has the teller's own
-//! answers (`specs/Report.antt`). It takes no memory.
+//! `work` performs the steps of a build, over any `Teller` and any `Gate`. A `Teller` is the client side of a host, and
+//! a `Gate` the scheduler of turns. The worker asks the teller for the steps in sequence, and waits at the gate before
+//! each question. After the first refusal it stops the RECs that run, undoes the open operations, and ends. Its
+//! contract says which questions were asked, in which sequence, and that the report has the teller's own answers
+//! (`specs/Report.antt`). It takes no memory.
 #![tactic(auto)]
 
 mod ask;

@@ -42,7 +42,8 @@ pub(crate) fn undo_each<T: Teller, G: Gate>(
     Ending::Done
 }
 
-// Performs the undos of a step. If there are none, its line says so.
+// Performs the `count` undos of the step at index `place`. A step without undos gets one line, with the answer
+// `Nothing`.
 fn undo_step<T: Teller, G: Gate>(
     report: &mut Report,
     standing: &mut Standing,

@@ -11,8 +11,8 @@ use host_ledger::Mark;
 /// A client of a host, which passes on the requests of one build's worker. A teller asks the host the worker's
 /// questions, and returns the answers. A seat with its shared host is a teller.
 pub trait Teller {
-    /// Whether a list has all questions to this host client so far, with their answers. The list is in sequence. An
-    /// exchange is a question that the teller was asked, with its answer.
+    /// Whether a list has all exchanges of the teller so far, in sequence. An exchange is a question to the teller,
+    /// with its answer.
     ghost tells: { Self → List Exchange → Type 0 };
 
     /// A number that identifies the mutable borrow through which this host client writes. A teller need not have such a

@@ -1,9 +1,9 @@
 //! A realm host that the threads of its builds share under a lock. Each build of the host has a seat, and workers run
 //! the builds in threads.
 //!
-//! A call through `Shared` takes the lock, and asks the host that is kept behind it (`build_seats::Kept`). So a caller
-//! knows that each of its calls is in one legal history, once and in sequence. `Shared::close` gives the host back, if
-//! the seats' lists are the history.
+//! A call through `Shared` takes the lock, and asks the host under it (`build_seats::Kept`). `Shared::close` gives the
+//! host back, with an error if the seats' lists are not the history. Without one, a caller knows that each of its
+//! accepted commands and undos is in one legal history, once and in sequence.
 //!
 //! A `Worker` has a build's seat, its steps and its report. `run_builds` runs each worker in a thread of its own: it
 //! performs `work` over a `SeatTeller`, with its turns from a gate.

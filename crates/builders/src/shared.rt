@@ -23,9 +23,9 @@ pub struct Shared<S: PageStore, L: Ledgers> {
 }
 
 impl<S: PageStore, L: Ledgers> Shared<S, L> {
-    /// Puts a host under a lock, and returns a session (seat) for each build. The host has no history. The seat of the
-    /// lowest build comes first. All memory for the builds' events is taken here. If there is none, blanks and host
-    /// come back.
+    /// Puts a host under a lock, and returns a seat for each build. The host has no history. The seat of the lowest
+    /// build comes first. All memory for the builds' events is taken here. If an allocation fails, the blanks and the
+    /// host are returned.
     pub fn start(
         alloc: Global,
         blanks: Blanks,
@@ -46,8 +46,7 @@ impl<S: PageStore, L: Ledgers> Shared<S, L> {
         }
     }
 
-    /// Performs a command on the shared host for the build with the session `seat`. Returns the reply, or the host's
-    /// refusal.
+    /// Performs a command of the seat's build on the shared host. Returns the reply, or the host's refusal.
     pub fn call(&self, rt: &impl Wait, seat: &mut Seat<L>, cmd: Cmd) -> Result<Reply, Refusal>
         ensures told { IfOk result (λ reply. IsCallTold L.opened (Ask cmd) (Replied reply) seat.old seat.new) }
         ensures refused { IfErr result (λ refusal. IsCallRefused L.opened (Ask cmd) refusal seat.old × (seat.new ≡ seat.old)) }
@@ -55,8 +54,7 @@ impl<S: PageStore, L: Ledgers> Shared<S, L> {
         self.kept.lock(rt).call(seat, cmd)
     }
 
-    /// Undoes a build's newest open operation: the newest that has a reverse and is not undone yet. The build is that
-    /// of the session `seat`.
+    /// Undoes the newest open operation of the seat's build: the newest that has a reverse and is not undone yet.
     pub fn undo(&self, rt: &impl Wait, seat: &mut Seat<L>) -> Result<Undone, Refusal>
         ensures told { IfOk result (λ done. IsCallTold L.opened Undo (WasUndone done) seat.old seat.new) }
         ensures refused { IfErr result (λ refusal. IsCallRefused L.opened Undo refusal seat.old × (seat.new ≡ seat.old)) }
@@ -64,9 +62,8 @@ impl<S: PageStore, L: Ledgers> Shared<S, L> {
         self.kept.lock(rt).undo(seat)
     }
 
-    /// Sets a mark to which a build can later be rolled back. The build is that of the session `seat`. Returns the
-    /// mark, or the host's refusal. The seat is borrowed mutably, since its count is compared with the one under the
-    /// lock; it stays as it is.
+    /// Sets a mark to which the seat's build can later be rolled back. Returns the mark, or the host's refusal. The
+    /// seat is borrowed mutably, since its count is compared with the one under the lock; it stays as it is.
     pub fn mark(&self, rt: &impl Wait, seat: &mut Seat<L>) -> Result<Mark, Refusal>
         ensures told { IsMarkTold L.opened seat.old result }
         ensures seat { seat.new ≡ seat.old }
@@ -74,8 +71,8 @@ impl<S: PageStore, L: Ledgers> Shared<S, L> {
         self.kept.lock(rt).mark(seat)
     }
 
-    /// Returns the number of undos that would roll a build back to a mark. The build is that of the session `seat`. The
-    /// error is the host's refusal. The seat is borrowed as for `mark`.
+    /// Returns the number of undos that would roll the seat's build back to a mark. The error is the host's refusal.
+    /// The seat is borrowed as for `mark`.
     pub fn check_back(&self, rt: &impl Wait, seat: &mut Seat<L>, mark: Mark) -> Result<u16, Refusal>
         ensures told { IsBackTold L.opened seat.old mark result }
         ensures seat { seat.new ≡ seat.old }
@@ -83,10 +80,11 @@ impl<S: PageStore, L: Ledgers> Shared<S, L> {
         self.kept.lock(rt).check_back(seat, mark)
     }
 
-    /// Ends the sharing: takes back each build's session (seat) and returns the host. Each build has to have one seat,
-    /// with the events that the history has of the build. At `Err` the host comes back too. Its limits and its room are
-    /// those of the host that was handed to `start`. Its world is a function of the seats' lists alone. The schedule in
-    /// which the builds took the lock is in the history, and leaves nothing behind in the world.
+    /// Ends the sharing: takes back each build's seat and returns the host. Each build has to have one seat, with the
+    /// events that the history has of the build. At `Err` the host is returned too. Either way the host has the limits
+    /// and the capacity of the host that was handed to `start`. At `Ok` its world is a function of the limits and the
+    /// seats' lists alone. The schedule in which the builds took the lock is in the history, and leaves nothing behind
+    /// in the world.
     pub fn close(self, seats: Vec<Seat<L>>) -> Result<Host<S>, (CloseFault, Host<S>)>
         ensures closed { IfOk result (λ host. IsClosed host seats.items) }
         ensures order { IfOk result (λ host. IsWorldOfSeats host seats.items) }

@@ -129,8 +129,8 @@ pub struct Ends<L: Ledgers> {
     pub reports: Vec<(Report, Vec<Step>)>,
 }
 
-/// Ends the workers of a plan's builds, and returns their results. The results are the workers' sessions on the host
-/// (seats) and their reports, in the order of the workers.
+/// Ends the workers of a plan's builds, and returns their results. The results are the workers' seats and reports, in
+/// the order of the workers.
 pub(crate) fn ends_of<L: Ledgers>(
     alloc: Global,
     workers: Vec<Worker<L>>,
