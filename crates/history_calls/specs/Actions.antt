@@ -1,4 +1,4 @@
--- A host's operations for an event, on an RMM that is called by registers. RMM 1.0, RMI commands.
+-- A host's actions for an event, on an RMM that is called by registers. RMM 1.0, RMI commands.
 use Rattle.std.specs.Prelude.{ℕ, ◌+◌, ◌-◌, ◌*◌, ◌/◌, ◌%◌, ◌^◌, List, [], ◌∷◌, ◌++◌, map, Option, Some, None}
 use Rattle.std.specs.Option.{unwrap_or, option_to_list}
 use Rattle.granule_addr.specs.declared.width.Root.{Root}
@@ -37,8 +37,8 @@ plain_call call = host.Call call None
 abbrev pub with_x1 : Call → ℕ → HostAction
 with_x1 call x1 = host.Call call (Some x1)
 
--- The operations of the host and the guest for an event about a REC that runs or is to run. A byte is written
--- between two entries.
+-- The actions of the host and the guest for an event about a REC that runs or is to run. A byte is written between two
+-- entries.
 abbrev pub on_rec : ℕ → ℕ → Act → List HostAction
 on_rec rec run (Enter number) = host.Spin rec ∷ host.Enter rec run ∷ []
 on_rec rec run (Exit number) = host.Interrupt rec ∷ []
@@ -57,7 +57,7 @@ call_in_realm place rd (UnData granule ipa) = Some (with_x1 (DataDestroy rd (ipa
 call_in_realm place rd Activate = Some (plain_call (RealmActivate rd))
 call_in_realm place rd _ = None
 
--- The host's operations for the creation or the destruction of a REC.
+-- The host's actions for the creation or the destruction of a REC.
 abbrev pub on_rec_granule : Place → ℕ → Act → List HostAction
 on_rec_granule place rd (Rec granule auxiliaries number) =
     host.RecParams (rec_params place) (mpidr_of number) (record { items = map (address place) auxiliaries.items })
@@ -65,7 +65,7 @@ on_rec_granule place rd (Rec granule auxiliaries number) =
 on_rec_granule place rd (UnRec granule auxiliaries number) = plain_call (RecDestroy (address place granule)) ∷ []
 on_rec_granule place rd _ = []
 
--- The host's operations for an event about pages, or about a realm's descriptor.
+-- The host's actions for an event about pages, or about a realm's descriptor.
 abbrev pub on_granules : Place → Act → List HostAction
 on_granules place (UnTake order first) = host.Fill (address place first) (2 ^ order) 0 ∷ []
 on_granules place (Fill granule value) = host.Fill (address place granule) 1 value ∷ []
@@ -78,8 +78,8 @@ on_granules place (Realm rd root vmid) =
 on_granules place (UnRealm rd root vmid) = plain_call (RealmDestroy (address place rd)) ∷ []
 on_granules place _ = []
 
--- The host's operations for an event about a realm and a REC in it. The exits of the REC's run go to the page of the
--- given number. An event is of one of the four kinds; a take has none.
+-- The host's actions for an event about a realm and a REC in it. The exits of the REC's run go to the page of the given
+-- number. An event is of one of the four kinds; a take has none.
 abbrev pub actions_of : Place → RealmAndRec → ℕ → Act → List HostAction
 actions_of place subject run act =
     on_granules place act

@@ -1,4 +1,4 @@
--- The lines of a trace for the operations of a host: a question, and its answer after ` = `. TRACES.md has their grammar.
+-- The lines of a trace for the actions of a host: a question, and its answer after ` = `. TRACES.md has their grammar.
 use Rattle.std.specs.Prelude.{ℕ, ◌+◌, ◌*◌, ◌==◌, nat_lt, Bool, true, false, if◌then◌else◌, List, [], ◌∷◌, ◌++◌, codes, Option, Some, None}
 use Rattle.std.specs.List.{flat_map}
 use Rattle.std.specs.Fmt.{decimal, digits}
@@ -81,7 +81,7 @@ status_text Rtt index = codes " = RMI_ERROR_RTT" ++ then_decimal index
 abbrev pub refused_text : Rmi → List ℕ
 refused_text rmi = status_text rmi.status rmi.index
 
--- ---- operations
+-- ---- actions
 
 -- a byte in one granule, or in consecutive ones: the first, and the distance of the next
 abbrev pub fill_text : ℕ → ℕ → ℕ → List ℕ
@@ -94,7 +94,7 @@ abbrev pub aux_field : List ℕ → List ℕ
 aux_field [] = []
 aux_field (first ∷ more) = codes " aux" ++ (then_hex first ++ flat_map then_hex more)
 
--- what the host or a guest does. Fields that are left out are 0. RMM 1.0, RmiRealmParams, RmiRecParams
+-- the text of an action of the host or a guest. Fields that are left out are 0. RMM 1.0, RmiRealmParams, RmiRecParams
 abbrev pub question_text : HostAction → List ℕ
 question_text (host.Fill address granules value) = fill_text address granules value
 question_text (host.Load address byte) = codes "load" ++ then_hex address
@@ -113,7 +113,7 @@ question_text (host.Write rec ipa value) = codes "guest" ++ (then_hex rec ++ (co
 question_text (host.Spin rec) = codes "guest" ++ (then_hex rec ++ codes " spin")
 question_text (host.Saw rec) = codes "saw" ++ then_hex rec
 
--- the answer to an operation that is done. A word that is loaded has the same byte eight times
+-- the answer to an action that is done. A word that is loaded has the same byte eight times
 abbrev pub done_text : HostAction → List ℕ
 done_text (host.Fill address granules value) = codes " = done"
 done_text (host.Load address byte) = codes " =" ++ then_hex (byte * 0x0101010101010101)
@@ -126,7 +126,7 @@ done_text (host.Write rec ipa value) = codes " = queued"
 done_text (host.Spin rec) = codes " = queued"
 done_text (host.Saw rec) = codes " = done"
 
--- whether an operation is a call, which the RMM may refuse
+-- whether an action is a call, which the RMM may refuse
 abbrev pub is_call : HostAction → Bool
 is_call (host.Call call x1) = true
 is_call (host.Enter rec run) = true
@@ -142,7 +142,7 @@ abbrev pub is_step_left_out : HostAction → Option Rmi → Bool
 is_step_left_out (host.Spin rec) (Some rmi) = true
 is_step_left_out _ _ = false
 
--- the line of an operation, and of its refusal if there is one
+-- the line of an action, and of its refusal if there is one
 abbrev pub action_line : HostAction → Option Rmi → List ℕ
 action_line action refusal = if is_step_left_out action refusal then [] else question_text action ++ (answer_to action refusal ++ 10 ∷ [])
 

@@ -1,4 +1,4 @@
--- The operations of a host on an RMM for a command, or for an undo, that is not performed yet.
+-- The actions of a host on an RMM for a command, or for an undo, that is not performed yet.
 use Rattle.std.specs.Prelude.{◌≡◌, ℕ, [], ◌∷◌, Bool, true, false, Option, Some, None, Result, Ok, Err, unwrap_or, option_map, option_and_then, if◌then◌else◌}
 use Rattle.std.specs.List.{last_or}
 use Rattle.arrayvec.specs.ArrayVec.{ArrayVec}
@@ -38,14 +38,14 @@ use Rattle.rmi_monitor.specs.Attributes.{RecAttributes}
 abbrev pub subject_of : HostView → ℕ → Act → RealmAndRec
 subject_of host build act = subject_in (world_of host) build act
 
--- the host's operations on the RMM; the exits of a run go to the run page with that number
+-- the host's actions on the RMM; the exits of a run go to the run page with that number
 abbrev pub actions_for : Place → HostView → ℕ → ℕ → Act → ArrayVec HostAction
 actions_for place host build run act = record { items = actions_of place (subject_of host build act) run act }
 
 -- ---- a command
 
--- What is allocated for a command before it is performed: the lowest free VMID, and the next number of a REC. The byte
--- of a Peek is not known yet.
+-- The numbers allocated for a command before it is performed: the lowest free VMID, and the next number of a REC. The
+-- byte of a Peek is not known yet.
 abbrev pub allocated_before : HostView → ℕ → Allocated
 allocated_before host build = record {
   vmid = unwrap_or (lowest_vmid host) 1;
@@ -101,7 +101,7 @@ refused_before host build (Exit number) = exit_refusal (rec_at (world_of host) b
 refused_before host build (Poke number ipa offset value) = entry_refusal (rec_at (world_of host) build number)
 refused_before host build _ = None
 
--- ---- the operations for a command
+-- ---- the actions for a command
 
 -- the refusal if there is one, else the given result, which may be a refusal too
 abbrev pub unless_refused : Option Refusal → Result (ArrayVec HostAction) Refusal → Result (ArrayVec HostAction) Refusal
@@ -112,11 +112,11 @@ abbrev pub actions_of_act : Place → HostView → ℕ → ℕ → Cmd → Optio
 actions_of_act place host build run cmd (Some act) = Ok (actions_for place host build run act)
 actions_of_act place host build run cmd None = without_act cmd
 
--- the operations, or the refusal of the model that comes before
+-- the actions, or the refusal of the model that comes before
 abbrev pub actions_or_refusal : Place → HostView → ℕ → ℕ → Cmd → Option Act → Result (ArrayVec HostAction) Refusal
 actions_or_refusal place host build run cmd act = unless_refused (refused_before host build cmd) (actions_of_act place host build run cmd act)
 
--- The operations on the RMM for a command; or the refusal of the host, or of its model, that comes before the call.
+-- The actions on the RMM for a command; or the refusal of the host, or of its model, that comes before the call.
 abbrev pub actions_asked : Place → HostView → ℕ → ℕ → Cmd → Result (ArrayVec HostAction) Refusal
 actions_asked place host build run cmd =
     unless_refused (first_that_holds (checks_of (summary_of host) build cmd)) (actions_or_refusal place host build run cmd (act_before host build cmd))
@@ -136,7 +136,7 @@ makes_no_call (Peek page offset) = true
 makes_no_call (Exit number) = true
 makes_no_call _ = false
 
--- If operations are prepared for a command that makes no call, the host does not refuse the command.
+-- If actions are prepared for a command that makes no call, the host does not refuse the command.
 abbrev pub IsDecidedBefore : Place → HostView → ℕ → ℕ → Cmd → Type 0
 IsDecidedBefore place host build run cmd =
     makes_no_call cmd ≡ true → (actions : ArrayVec HostAction) → actions_asked place host build run cmd ≡ Ok actions
@@ -152,7 +152,7 @@ abbrev pub actions_of_back : Place → HostView → ℕ → Option Act → Resul
 actions_of_back place host build (Some back) = Ok (actions_for place host build 0 back)
 actions_of_back place host build None = Err NothingToUndo
 
--- The operations on the RMM for an undo, or its refusal.
+-- The actions on the RMM for an undo, or its refusal.
 abbrev pub actions_back : Place → HostView → ℕ → Result (ArrayVec HostAction) Refusal
 actions_back place host build = unless_refused (refusal_of host build Undo) (actions_of_back place host build (newest_back host build))
 

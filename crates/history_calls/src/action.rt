@@ -1,4 +1,4 @@
-//! Operations that a host or a guest performs on an RMM.
+//! Actions of a host or a guest on an RMM.
 use arrayvec::ArrayVec;
 use rmi_abi::Call;
 

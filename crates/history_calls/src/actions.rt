@@ -54,7 +54,7 @@ fn addresses(frame: Frame, granules: &ArrayVec<Gran, 16>) -> ArrayVec<u64, 16>
     addresses
 }
 
-// Appends an operation.
+// Appends an action.
 fn push(actions: &mut Actions, action: HostAction)
     requires { length actions.old.items < 5 }
     ensures { actions.new.items ≡ actions.old.items ++ action ∷ [] }
@@ -86,7 +86,7 @@ fn fill(frame: Frame, first: Gran, granules: u16, value: u8) -> HostAction
     }
 }
 
-// The operation that writes the parameters of a realm.
+// The action that writes the parameters of a realm.
 fn realm_params(frame: Frame, root: Root, vmid: Vmid) -> HostAction
     ensures { result ≡ RealmParams (frames.realm_params frame) root.width vmid (frames.address frame root.first) (2 ^ (root.width - 39)) }
 {
@@ -99,7 +99,7 @@ fn realm_params(frame: Frame, root: Root, vmid: Vmid) -> HostAction
     }
 }
 
-// The operation that writes the parameters of a REC.
+// The action that writes the parameters of a REC.
 fn rec_params(frame: Frame, number: RecNo, auxiliaries: &ArrayVec<Gran, 16>) -> HostAction
     ensures { result ≡ RecParams (frames.rec_params frame) (specs.mpidr_of number) (record { items = map (frames.address frame) auxiliaries.now.items }) }
 {
@@ -110,7 +110,7 @@ fn rec_params(frame: Frame, number: RecNo, auxiliaries: &ArrayVec<Gran, 16>) -> 
     }
 }
 
-// Appends the operations for an event about pages or a realm's descriptor.
+// Appends the actions for an event about pages or a realm's descriptor.
 fn push_on_granules(actions: &mut Actions, frame: Frame, act: &Act)
     requires { actions.old.items ≡ [] }
     ensures { actions.new.items ≡ specs.on_granules frame act.now }
@@ -227,7 +227,7 @@ fn push_on_rec_granule(actions: &mut Actions, frame: Frame, rd: u64, act: &Act)
     }
 }
 
-// Appends the operations for an event about a REC that runs or is to run.
+// Appends the actions for an event about a REC that runs or is to run.
 fn push_on_rec(actions: &mut Actions, rec: u64, run: u64, act: &Act)
     requires { actions.old.items ≡ [] }
     ensures { actions.new.items ≡ specs.on_rec rec run act.now }
@@ -259,7 +259,7 @@ fn push_on_rec(actions: &mut Actions, rec: u64, run: u64, act: &Act)
 /// the REC of the build's operation. The exits of a run go to the page with the number `run`, which is below
 /// `RUN_PAGE_COUNT`.
 ///
-/// A take and its reverse are the host's own: a take needs no operation, and what is given back is cleared.
+/// A take and its reverse are the host's own: a take needs no action, and what is given back is cleared.
 pub fn actions_of(frame: Frame, subject: RealmAndRec, run: u16, act: &Act) -> Actions
     requires { run < 64 }
     ensures { result.items ≡ specs.actions_of frame subject run act.now }

@@ -2,10 +2,10 @@
 //! history, and the commands and undos are prepared first. A call passes its arguments in registers.
 //!
 //! An event names granules by their numbers in the machine of the history. A frame places that machine at an address.
-//! After it are granules of the host: one for the parameters of realms, one for those of RECs, and one for each REC
-//! that runs at a time.
+//! After it are granules of the host: one for the parameters of realms, one for those of RECs, and 64 for the runs of
+//! RECs.
 //!
-//! The operations for an event are a function of the frame, of the event, of its realm and REC, and of the page for the
+//! The actions for an event are a function of the frame, of the event, of its realm and REC, and of the page for the
 //! exits of its run (`specs/Actions.antt`). No function but those of texts takes memory.
 #![tactic(auto)]
 

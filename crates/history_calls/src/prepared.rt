@@ -63,7 +63,7 @@ fn subject<S: PageStore>(host: &Host<S>, build: BuildId, act: &Act) -> RealmAndR
     }
 }
 
-// The operations on an RMM that perform one operation of a build.
+// The actions on an RMM that perform an operation of a build.
 fn actions_for<S: PageStore>(
     frame: Frame,
     host: &Host<S>,
@@ -78,7 +78,7 @@ fn actions_for<S: PageStore>(
     actions_of(frame, subject(host, build, act), run, act)
 }
 
-// Returns the result for a command that has no operation: an empty list for a Take, or else RMI_ERROR_INPUT.
+// Returns the result for a command that has no operation: no actions for a Take, and RMI_ERROR_INPUT for any other.
 fn without_act(cmd: &Cmd) -> Result<Actions, Refusal>
     ensures { result ≡ prepared.without_act cmd.now }
 {
@@ -144,7 +144,7 @@ pub(crate) fn refused_before<S: PageStore>(
     }
 }
 
-// Returns the operations on an RMM for a command whose operation is `act`, or the model's refusal.
+// Returns the actions on an RMM for a command whose operation is `act`, or the model's refusal.
 fn actions_of_act<S: PageStore>(
     frame: Frame,
     host: &Host<S>,
@@ -187,7 +187,7 @@ pub fn actions_asked<S: PageStore>(
     actions_of_act(frame, host, build, run, cmd, act)
 }
 
-// Returns the operations on an RMM for the reverse of a build's newest open operation. An open operation has a reverse.
+// Returns the actions on an RMM for the reverse of a build's newest open operation. An open operation has a reverse.
 fn actions_of_newest<S: PageStore>(
     frame: Frame,
     host: &Host<S>,

@@ -139,7 +139,7 @@ fn push_at(text: &mut String, word: &str, address: u64) -> Result<(), AllocError
     write!(text, "{word}{}", Hexadecimal(address))
 }
 
-// Appends the operation that fills granules.
+// Appends the action that fills granules.
 fn push_fill(text: &mut String, address: u64, granules: u16, value: u8) -> Result<(), AllocError>
     ensures { OnOk result (string_bytes text.new ≡ string_bytes text.old ++ lines.fill_text address granules value) }
 {
@@ -151,7 +151,7 @@ fn push_fill(text: &mut String, address: u64, granules: u16, value: u8) -> Resul
     }
 }
 
-// Appends the operation that writes a realm's parameters.
+// Appends the action that writes a realm's parameters.
 fn push_realm_params(
     text: &mut String,
     page: u64,
@@ -169,7 +169,7 @@ fn push_realm_params(
     )
 }
 
-// Appends the operation that writes a REC's parameters.
+// Appends the action that writes a REC's parameters.
 fn push_rec_params(
     text: &mut String,
     page: u64,
@@ -183,7 +183,7 @@ fn push_rec_params(
     write!(text, "rec_params{page} flags 0x1 mpidr{mpidr}{auxiliaries}")
 }
 
-// Appends an operation, without its answer.
+// Appends an action, without its answer.
 fn push_question(text: &mut String, action: &HostAction) -> Result<(), AllocError>
     ensures { OnOk result (string_bytes text.new ≡ string_bytes text.old ++ lines.question_text action.now) }
 {
@@ -240,7 +240,7 @@ fn success_with_x1(call: Call, x1: u64) -> (&'static str, Number)
     }
 }
 
-// The answer to an operation that is done, as words and a number.
+// The answer to an action that is done, as words and a number.
 fn done(action: &HostAction) -> (&'static str, Number)
     ensures { result.0.now ++ lines.number_text result.1 ≡ lines.done_text action.now }
 {
@@ -272,14 +272,14 @@ fn refused(rmi: Rmi) -> (&'static str, Number)
     }
 }
 
-// Whether an operation is a call of the RMM, which may be refused.
+// Whether an action is a call of the RMM, which may be refused.
 fn is_call(action: &HostAction) -> bool
     ensures { result ≡ lines.is_call action.now }
 {
     matches!(action, HostAction::Call { .. } | HostAction::Enter { .. })
 }
 
-// The answer to an operation, as words and a number. A call is refused if there is a refusal.
+// The answer to an action, as words and a number. A call is refused if there is a refusal.
 fn answer_to(action: &HostAction, refusal: Option<Rmi>) -> (&'static str, Number)
     ensures { result.0.now ++ lines.number_text result.1 ≡ lines.answer_to action.now refusal }
 {
@@ -289,7 +289,7 @@ fn answer_to(action: &HostAction, refusal: Option<Rmi>) -> (&'static str, Number
     }
 }
 
-// Whether an operation is a step of a guest whose REC is not entered.
+// Whether an action is a step of a guest whose REC is not entered.
 fn is_step_left_out(action: &HostAction, refusal: Option<Rmi>) -> bool
     ensures { result ≡ lines.is_step_left_out action.now refusal }
 {
