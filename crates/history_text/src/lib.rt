@@ -1,8 +1,8 @@
 //! The text of a history: a line for the machine's size, and one for each event.
 //!
 //! A line is an event exactly when it is the event's own text (`specs/Events.antt`): the build, a word and its numbers,
-//! with nothing before or after. Each event has one text, no two have the same, and the text of an event is read as the
-//! event. Whether a history is legal is for a host to say. Memory is taken for a written text alone.
+//! with nothing before or after. No two events have the same text, and the text of an event is read as the event.
+//! Whether a history is legal is for a host to say. Memory is taken for a written text alone.
 #![tactic(auto)]
 
 mod act;

@@ -74,20 +74,21 @@ build_after build act = points_after (record build {
 
 -- ---- the operations that can be followed
 
--- a new REC has room and a number above the others', and at an exit some REC runs
+-- the build has capacity for a new REC, whose number is above the others', and at an exit some REC runs
 abbrev pub CanFollowRec : Build → Act → Type 0
 CanFollowRec build (Rec granule auxiliaries number) = (length build.recs < 512) × IsAbove build.recs number
 CanFollowRec build (Exit number) = 1 ≤ build.running
 CanFollowRec build _ = Unit {0}
 
--- the journal has room after the operation, the build's counts stay in bounds, and its RECs allow the operation
+-- the journal has at most 512 entries after the operation, the build's counts stay in bounds, and its RECs allow the
+-- operation
 pub record CanFollow (build : Build) (act : Act) : Type 0 where
   pub entries : length (pushed build.journal act) ≤ 512
   pub events : build.events < 16384
   pub running : build.running ≤ 16384
   pub rec : CanFollowRec build act
 
--- a taken block has room and lies below granule 4096; a returned one is no larger than the stack
+-- the stack has capacity for a taken block, which lies below granule 4096; a returned block is no larger than the stack
 abbrev pub CanFollowPages : Stacks → ℕ → Act → Type 0
 CanFollowPages leases build (Take order first) = (length (stack_of leases build) + 2 ^ order ≤ leases.room) × (first + 2 ^ order ≤ 4096)
 CanFollowPages leases build (UnTake order first) = 2 ^ order ≤ length (stack_of leases build)

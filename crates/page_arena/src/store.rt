@@ -31,8 +31,7 @@ pub trait PageStore {
     fn free_count(&self) -> u16
         ensures { result ≡ length (filter (λ flag. flag) (free_flags self.now)) };
 
-    /// Chooses and takes a free block of the given order. `None` comes exactly when there is no free block of the
-    /// order.
+    /// Chooses and takes a free block of the given order. Returns `None` if and only if no block of the order is free.
     fn take(&mut self, order: Order) -> Option<Gran>
         ensures first { result ≡ choice self.old order }
         ensures block { IfSome result (IsFreeBlock (free_flags self.old) order) }

@@ -20,7 +20,7 @@ AreTurns-more plan (b ∷ order) from [] at build turn to run of_build is_turn =
 AreTurns-more plan (b ∷ order) from (t ∷ turns) at build turn to run of_build is_turn =
     (run.0, run.1, run.2, AreTurns-more plan order run.1 turns at build turn to run.3 of_build is_turn)
 
--- ---- the front of an order: of a run that tells one thing or another of its turns
+-- ---- the first turns of a schedule, with a text of each
 
 -- The turns of these builds lead here, and the text of each was appended.
 pub record IsFront {T : Type 0} (Lead : List ℕ → List T → Position → Type 0) (text_of : T → List ℕ) (order : List ℕ) (to : Position) (old new : List ℕ) : Type 0 where

@@ -81,7 +81,7 @@ peek_outcome host build (Peek page offset) (granule ∷ others) rmi e = e
 peek_outcome host build (Peek page offset) [] rmi e = absurd e
 peek_outcome host build _ granules rmi e = absurd e
 
--- ---- what was picked is what is there
+-- ---- what was allocated is what is there
 
 number_fits : (o : Option Seen) → ((rd : Seen) → o ≡ Some rd → is_some rd.cell.descriptor ≡ true) → is_some (option_map (λ (rd : Seen). rd.number) o) ≡ true
     → realm_is o (λ d r. next_number o == r.next) ≡ true
@@ -143,7 +143,7 @@ module _ (host : HostView) (legal : IsLegal host.limits host.history) (build : �
           leased_to (Some build) world.leases granule
           (sym (is_in-pages_of host.limits build host.history world legal (world_is host legal) granule) ∙ is_in_at (pages_of build host.history) page granule at)
 
-  -- ---- what was picked is what is there
+  -- ---- what was allocated is what is there
 
   wanted : IsWanted (needs_of cmd).realm (is_some (rd_of build world))
   wanted = realm_wanted (summary_of host) build cmd none

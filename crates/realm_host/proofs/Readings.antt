@@ -36,7 +36,7 @@ row_by_rd : (world : World) (build rd ipa level : ℕ) → rd_of build world ≡
 row_by_rd world build rd ipa level is = ap (λ o. option_map (row_view ipa) (option_and_then (λ (realm : RealmRow). walk_of realm ipa level) o)) (row_at_rd world build rd is)
 
 module _ (ledger : HostView) (monitor : MonitorView) (whole : IsWhole ledger monitor) (now : HostView) (view_is : ledger ≡ now) where
-  -- a reading of the world in which the monitor has its machine
+  -- a reading of the world in which the RMM has its machine
   told : {A : Type 0} (read : World → A) → read (world_of ledger) ≡ read (world_of now)
   told read = ap (λ (h : HostView). read (world_of h)) view_is
 

@@ -21,7 +21,7 @@ pub record HasRoomFor (host : HostView) (build : ℕ) (act : Act) : Type 0 where
   pub room : 0 < room_taken act → used host build + room_taken act ≤ host.capacity
   pub few_open : is_paired act ≡ true → length (open_of host build) < 512
 
--- the operation is asked for, in turn, and there is room for it
+-- the operation is asked for, in turn, and the build has capacity for it
 pub record CanAct (host : HostView) (build : ℕ) (act : Act) : Type 0 where
   pub asked : IsAsked host.limits (world_of host) build act
   pub turn : IsInTurn host.history (by build act)

@@ -123,7 +123,7 @@ module _ (limits : Limits) (b : ℕ) (u v w : World) (order first : ℕ) (clean 
             ] refl);
       }
 
--- ---- the law
+-- ---- the theorem
 
 pub part_back : (limits : Limits) (b : ℕ) (u v w x : World) (act : Act) → IsClean u → IsSquare u → IsSquare w → IsSoundPart u → IsSoundPart w → is_paired act ≡ true
     → step limits u (by b act) ≡ Some v → OwnsSame v w → step limits w (by b (rev act)) ≡ Some x → OwnsSame u x

@@ -12,22 +12,22 @@ use granule_addr::{BuildId, Gran, IpaGran, Level, Order, PageOff, RecNo, Root, V
 /// of `Unknown`.
 #[derive(PartialEq, Eq, Drop)]
 pub enum Act {
-    /// The host leases a block of free pages to a build.
+    /// The lease of a block of free pages to a build.
     Take {
         order: Order,
         first: Gran,
     },
-    /// A build gives back a leased block of pages, and the block is cleared.
+    /// The return of a leased block by its build. The block is cleared.
     UnTake {
         order: Order,
         first: Gran,
     },
-    /// The host writes one value to all bytes of a page.
+    /// The host's write of one value to all bytes of a page.
     Fill {
         granule: Gran,
         value: u8,
     },
-    /// The host reads a byte of a page.
+    /// The host's read of a byte of a page.
     Peek {
         granule: Gran,
         offset: PageOff,

@@ -25,7 +25,8 @@ fn array_at<'a>(table: &'a Table, key: &str) -> Option<&'a Array>
     value_at(table, key)?.as_array()
 }
 
-/// Returns the integer at a key, or the default if the TOML table lacks the key.
+/// Returns the integer at a key, or the default if the TOML table lacks the key. Returns `None` if the value is not an
+/// integer, or if key and default are both missing.
 fn integer_at(table: &Table, key: &str, default: Option<i64>) -> Option<i64>
     ensures { result ≡ whole_of default (get_member key.now (table_view table.now)) }
 {

@@ -5,7 +5,8 @@ ghost use Rattle.realm_plan.specs.declared.fault.PlanError.TheVariants.{Memory};
 use std::alloc::{AllocError, AllocFailed};
 use thiserror::Error;
 
-/// The reason why bytes are not a valid plan. Of several reasons, it is the first in this list.
+/// The reason why bytes are not a valid plan. Of several reasons, it is the first in this list; but too many bytes come
+/// before all.
 #[derive(Clone, Copy, Debug, PartialEq, Eq, Error)]
 pub enum PlanFault {
     /// Bytes of a plan that are not UTF-8, or not TOML.
@@ -22,8 +23,7 @@ pub enum PlanFault {
     /// counted from 0.
     #[error("plan 23 order {place}")]
     Order { place: usize },
-    /// A limit that the plan violates. It is a limit on a number, a list's length or the plan's size in bytes. If there
-    /// are too many bytes, this fault comes before all others.
+    /// A limit that the plan violates. It is a limit on a number, a list's length or the plan's size in bytes.
     #[error("plan 24 limit")]
     Limit,
 }

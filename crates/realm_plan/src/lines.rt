@@ -1,5 +1,5 @@
 //! The output lines for idle turns, pages, realms and the number of free pages. They are the lines of a run's text that
-//! hold no answer. Each is appended whole; at an `Err` the text may have a part of it.
+//! hold no answer. Each `push_` function appends one line. If allocation fails, the text may have a part of the line.
 ghost use Rattle.std.specs.Prelude.{◌≡◌, ◌++◌, OnOk, string_bytes};
 ghost use Rattle.realm_plan.specs.Lines.{state_word, sum_numbers, realm_word, idle_line, page_line, realm_line, free_line};
 
@@ -25,7 +25,7 @@ pub fn state_word(state: GranuleState) -> &'static str
     }
 }
 
-// The sum of a granule's bytes, if the granule's state is one whose line in the map has the sum.
+// The sum of a page's bytes if the page is UNDELEGATED or DATA, and else no number.
 fn sum_numbers(state: GranuleState, sum: u32) -> ArrayVec<u32, MOST_NUMBERS>
     ensures { result.items ≡ sum_numbers state sum }
 {

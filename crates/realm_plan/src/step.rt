@@ -16,7 +16,7 @@ use host_commands::{Cmd, Step};
 pub enum PlanStep {
     /// A step that is written with all its numbers.
     Whole(Step),
-    /// A `realm` step without the width of the realm's IPA space. Its width is the smallest one, 39. RMI_REALM_CREATE
+    /// A `realm` step without an IPA width. The realm gets the smallest width, 39. RMM 1.0, RMI_REALM_CREATE.
     WidthLeftOut { rd: u16, root: u16 },
 }
 

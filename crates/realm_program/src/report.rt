@@ -44,7 +44,7 @@ fn answer_of_line(answer: Answer, ends: bool) -> TurnAnswer
     }
 }
 
-// Appends a line of a step. The next line says only whether this step goes on.
+// Appends the line of a step. `next` shows only whether the line is the last of its step.
 fn push_step_line(
     text: &mut String,
     build: BuildId,
@@ -58,7 +58,8 @@ fn push_step_line(
     push_turn(text, build, step, answer_of_line(line.answer, ends))
 }
 
-// Appends a line, if its step is in the plan. The next line says only whether the step goes on.
+// Appends the text of a report line. The line of a step that the plan does not have is left out. `next` shows only
+// whether the line is the last of its step.
 fn push_line(
     text: &mut String,
     build: BuildId,

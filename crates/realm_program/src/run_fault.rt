@@ -12,7 +12,7 @@ pub enum RunFault {
     /// A failed allocation.
     #[error("memory")]
     Memory,
-    /// The lowest-numbered build whose worker thread the scheduler did not let continue.
+    /// The lowest-numbered build whose worker was denied a turn by the scheduler (gate).
     #[error("thread")]
     Stuck(BuildId),
     /// A mismatch between the records of a build and the history of events. A build's report, or the list of events of

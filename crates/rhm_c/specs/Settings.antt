@@ -5,7 +5,8 @@ use Rattle.rhm_c.specs.declared.placed_host.PlacedHost.{PlacedHost}
 use Rattle.rhm_c.specs.declared.settings.HostSettings.{HostSettings}
 
 -- Each number is in its range. There are 1 to 4,096 pages, 1 to 255 VMIDs, and at most 16 auxiliary granules of a REC.
--- There are 1 to 8 builds, with room for 16 to 16,384 events of each. Granule 0 is at a multiple of 4,096 below 2^46.
+-- There are 1 to 8 builds, with capacity for 16 to 16,384 events of each. Granule 0 is at a multiple of 4,096 below
+-- 2^46.
 abbrev pub are_settings : HostSettings → Bool
 are_settings s =
     nat_le 1 s.pages && nat_le s.pages 4096 && nat_le 1 s.vmids && nat_le s.vmids 255 && nat_le s.aux 16

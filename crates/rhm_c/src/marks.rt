@@ -59,11 +59,11 @@ pub extern "C" fn rhm_mark(
     call_build(alloc, handle, build, BuildCall::Mark, value)
 }
 
-/// Rolls a build back to its marked point, by undoing what it has opened since. All are undone in one
-/// call, the newest first. Returns 0, with the number of operations in `value`. The mark stays.
+/// Rolls a build back to its mark: undoes the operations opened since then, in one call, the newest first. Returns 0,
+/// with the number of operations in `value`. The mark stays.
 ///
-/// Else nothing changes: 1, 2, 7 and 8 are the refusals, of which the first that holds comes, and 14 a closed handle. 7
-/// comes if the build has no mark.
+/// Any other status changes nothing: 1, 2, 7 and 8 are refusals, and the first that applies is returned. 7 means that
+/// the build has no mark. 14 is a closed handle.
 #[unsafe(no_mangle)]
 pub extern "C" fn rhm_roll_back(
     alloc: Global,

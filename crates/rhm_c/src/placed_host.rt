@@ -11,8 +11,7 @@ use std::alloc::Global;
 /// A host that keeps the pages of its granules in a `PlainStore`.
 pub(crate) type PlainHost = Host<PlainStore>;
 
-/// A host, together with the physical address of its first granule and the granule count. The frame has the address of
-/// granule 0 and the number of granules.
+/// A host, and the frame of its granules: the physical address of granule 0, and the number of granules.
 #[derive(Drop)]
 pub struct PlacedHost {
     pub(crate) host: Host<PlainStore>,

@@ -42,8 +42,8 @@ fn write_mappings<S: PageStore>(
     granules.write_rising(table, kind, parent.descriptor(), step);
 }
 
-// Fills a table with the children of an entry, which together replace it. The children of an entry that is not mapped
-// are one byte throughout.
+// Fills a new table with entries that together replace the parent entry. If the parent entry is not live, all bytes of
+// the table are the same.
 #[tactic(auto, unfolding(rmm_model::specs::Table::children_page))]
 fn write_children<S: PageStore>(
     granules: &mut Granules<S>,

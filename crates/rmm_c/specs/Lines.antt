@@ -24,7 +24,7 @@ line_answered line m = answered_by line.kind line.words.items m
 abbrev pub on_line : List ℕ → Option Machine → TraceReply × Option Machine
 on_line bytes m = line_answered (line_in GROUPS START bytes) m
 
--- a text in a buffer, as snprintf of C11 puts it there: as much as there is room for before a zero
+-- a text in a buffer, as snprintf of C11 puts it there: as much as fits before a zero
 abbrev pub put_text : List ℕ → List ℕ → List ℕ
 put_text text [] = []
 put_text text (b ∷ bs) = let kept = take (length bs) text in kept ++ 0 ∷ drop (length kept) bs

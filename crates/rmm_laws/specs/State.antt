@@ -39,7 +39,7 @@ IsBrought m (Some (RealmActivate of)) rd Active = (rd ≡ number_of m of) × IsR
 IsBrought m (Some (RecEnter rec run)) rd SystemOff = ((granule_at m (number_of m rec)).owner ≡ Some rd) × IsRealmIn m rd Active
 IsBrought m call rd state = ⊥
 
--- what a realm keeps from its creation on: all but its state, its RIM and its RECs
+-- the attributes that a realm keeps from its creation on: all but its state, its RIM and its RECs
 abbrev pub fixed : RmmRealm → RmmRealm
 fixed realm = record realm { state = New; rim = []; next_rec = 0; rec_count = 0 }
 

@@ -29,7 +29,7 @@ pub enum Extension {
     },
 }
 
-// A SHA-256 digest with zeros up to 64 bytes.
+// A SHA-256 digest, zero-padded to 64 bytes.
 #[tactic(auto, unfolding(crate::specs::Bytes::zeros))]
 fn padded(digest: [u8; 32]) -> [u8; 64]
     ensures { result ≡ digest ++ bytes.zeros 32 }

@@ -58,8 +58,8 @@ pub enum LastExit {
 
 /// The attributes of a REC. RMM 1.0, REC attributes.
 ///
-/// Its registers and the addresses of its auxiliary granules are words of its page. While it is RUNNING, `run` is the
-/// address of its run page. The steps that its guest has yet to perform are a ring in its page.
+/// A REC's page holds its registers, the addresses of its auxiliary granules, and a ring of its guest's pending steps.
+/// While the REC is RUNNING, `run` is the address of its run page.
 #[derive(Clone, Copy)]
 pub struct RmmRec {
     pub mpidr: u64,

@@ -1,8 +1,8 @@
 //! Text traces of RMI calls, each with its operands as register values. The crate reads lines, prints words as text,
 //! and compares answers.
 //!
-//! A line is words with one space between two. A word is a name or a number, with what may stand after it: a mask after
-//! `/`, a step after `+`, and a comma. A number keeps its base, so words and their texts determine each other: what is
+//! A line is words with one space between two. A word is a name or a number, with what may follow it: a mask after `/`,
+//! a step after `+`, and a comma. A number keeps its base, so words and their texts determine each other: what is
 //! printed is read back as itself, and no two sentences are written alike (`law.rt`). No function takes memory.
 //!
 //! | Module | It has |
