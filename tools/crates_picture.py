@@ -8,8 +8,8 @@ from drawing import HEAD, MARKER, path, picture, rect, text
 CRATES = Path(__file__).resolve().parent.parent / "crates.txt"
 TITLE = "The crates"
 # The place of each group: those of the main column one above the other, and the others beside it.
-MAIN = ["Programs", "Plans", "Threads", "Host", "Monitor", "Stores", "Model"]
-BESIDE = {"Traces": ("Programs", "Programs"), "Texts": ("Host", "Host"), "RMM by registers": ("Monitor", "Monitor")}
+MAIN = ["Programs", "Plans", "Threads", "Host", "RMM", "Stores", "Model"]
+BESIDE = {"Traces": ("Programs", "Programs"), "Texts": ("Host", "Host"), "RMM by registers": ("RMM", "RMM")}
 LEFT, WIDE, RIGHT, NARROW, GAP, LINE = 16, 476, 540, 274, 26, 16
 
 

@@ -64,12 +64,12 @@ class Build:
             self.realm = self.realm.replace("NEW", "ACTIVE")
         if word == "mark":
             self.mark = len(self.open)
-            check(told == [str(self.mark)], f"{self.mark} acts are open")
+            check(told == [str(self.mark)], f"{self.mark} operations are open")
 
     def undo(self, told):
         """Takes back the newest open operation, which is of the kind that the line has."""
         kind, made = self.open.pop() if self.open else ("none", {})
-        check(told == [kind], f"the newest open act is {kind}")
+        check(told == [kind], f"the newest open operation is {kind}")
         self.states |= dict.fromkeys(made, BEFORE[kind])
         self.states = {page: state for page, state in self.states.items() if state}
         self.realm = None if kind == "realm" else self.realm
@@ -86,7 +86,7 @@ class Build:
                 self.do(word, map(int, numbers), told)
             elif told or status == "ok":
                 self.undo(told)
-            check((status == "done") == (word in end and len(self.open) == end[word]), f"{len(self.open)} acts are open")
+            check((status == "done") == (word in end and len(self.open) == end[word]), f"{len(self.open)} operations are open")
         if self.steps and not (word in end and status == "ok"):
             del self.steps[0]
         return step, status == "no"

@@ -10,7 +10,7 @@ SAID = (
 )
 ROW, TOP, BELOW = 26, 112, 276
 NUMBERS = ("0", "1", "..", "511")
-# The state of each page, what it is, where it stands with which width, and what its rows are for.
+# The state of each page, what it is, its place and width, and what its rows are for.
 PLACES = (
     ("RD", "page 0", 22, TOP, 104, ("descriptor",)),
     ("RTT", "page 1: level 1", 176, TOP, 204, ("0 to 262143", "262144 to 524287", "", "133955584 to 134217727")),
