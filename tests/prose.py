@@ -44,6 +44,7 @@ KNOWN = set("CCA CPU HTML JSON KVM LLVM PATH QEMU TF TOML VM FEATURES LICENSE PS
 PHRASES = {
     r"\b(stands?|standing|stood) on\b": "depends on",
     r"\b(stands?|standing|stood) (in|at|there|below|above|beside|behind|before|for)\b": "is in, is below, means",
+    r"\b(stands?|stood) after\b": "follows",
     r"\b(tells?|telling|told)\b": "prints, reports, returns, says, distinguishes",
     r"(?<!nothing )\bbehind\b(?! (a|the|one|this) (lock|mutex))": "after",
     r"\b(lends?|lent)\b": "borrows, returns a reference",
