@@ -11,6 +11,7 @@ The schema has to accept what the program takes for a plan, and to refuse what i
 What no schema can find is in `BEYOND`, with why.
 """
 import json
+import re
 import tomllib
 
 import jsonschema
@@ -97,6 +98,15 @@ def test_limits(check):
 def test_steps(check):
     check.all((f"the step {step}", is_accepted(plan_of([[step]], pages=1))) for step in GREATEST)
     check.all((f"no step: {step!r}", is_accepted(plan_of([[step]], pages=1)), False) for step in no_steps())
+
+
+def test_words_of_steps():
+    """The steps that `plan_lint` knows, and those that its help lists, are these too."""
+    source = (TOP / "crates/plan_lint/src/forms.rt").read_text()
+    help_text = source[source.index("const ALL_STEPS") : source.index("macro_rules! form")]
+    known = re.findall(r'form!\("(\w+)"', source)
+    assert known == re.findall(r"`(\w+)`", help_text)
+    assert set(known) == {step.split(" ")[0] for step in GREATEST}
 
 
 @needs(HOST)

@@ -1,11 +1,11 @@
-//! The error message of a refused step. It says the required fact, the found fact, and the name of the refusal.
+//! The error message of a refused step. It has the required fact, the found fact, and the name of the refusal.
 use crate::check::{Check, Fact};
 use crate::host_facts::{BuildFact, RoomFact, UndoFact};
 use crate::names::{entry_state, granule_state, realm_state, rec_state, refusal_name};
 use crate::phrase::Value::{self, Many, Number, Page, Word};
 use crate::phrase::{Phrase, four, one, pages, plain, three, two};
 use crate::readings::{
-    count_of_recs, first_entry, ipa_of, newest_rec, page_of, served, size_of_order,
+    Recs, count_of_recs, first_entry, ipa_of, newest_rec, page_of, served, size_of_order,
 };
 use crate::rmi_facts::{InputFact, RealmFact, RecFact, WalkFact};
 use crate::roles::{role_by_state, role_of};
@@ -16,7 +16,8 @@ use realm_host::{GranuleState, Host};
 use realm_plan::{realm_word, state_word};
 use std::alloc::AllocError;
 
-/// Appends the error message for a failed check. It is the words, then the name of the refusal in parentheses.
+/// Appends the error message for a failed check: the words, then the name of the refusal in parentheses. For a `fill`
+/// or `peek` of a page in another state, the hardware's fault takes the name's place.
 pub(crate) fn push_error(
     text: &mut String,
     words: Phrase,
@@ -27,7 +28,7 @@ pub(crate) fn push_error(
     text.push_str(" (")?;
     match (check.fact, access_of(step)) {
         // A fill or a peek is no RMI command: the hardware refuses the access.
-        (Fact::Input(InputFact::Page(..)), Some(_)) => {
+        (Fact::Input(InputFact::Page { .. }), Some(_)) => {
             text.push_str("on hardware: a granule protection fault")?
         }
         _ => refusal_name(check.refusal).push(text)?,
@@ -97,7 +98,7 @@ fn of_build<S: PageStore>(host: &Host<S>, build: BuildId, step: &Step, fact: Bui
             "the order of a block must be at most 9; it is {}",
             Number(order as u64),
         ),
-        BuildFact::Page(page, _, count) => missing_page(step, page, count),
+        BuildFact::Page { page, count, .. } => missing_page(step, page, count),
         BuildFact::Realm(_) => plain("the build must have a realm; it has none"),
         BuildFact::NoRealm(rd) => second_realm(host, build, rd),
     }
@@ -137,13 +138,13 @@ fn of_room(machine: u16, fact: RoomFact) -> Phrase {
             "fewer than 512 operations of the build must be open; {} are",
             Number(open as u64),
         ),
-        RoomFact::History(left, needed) => two(
+        RoomFact::History { left, needed } => two(
             "the build's history must have room for {}; it has room for {}",
             Many(needed as usize, "more event", "more events"),
             Number(left as u64),
         ),
         RoomFact::Vmid(_) => plain("a VMID must be free; all are in use"),
-        RoomFact::Block(order, free) => block_error(machine, order, free),
+        RoomFact::Block { order, free } => block_error(machine, order, free),
     }
 }
 
@@ -162,7 +163,7 @@ fn running_error<S: PageStore>(
     of_one: &'static str,
     of_many: &'static str,
 ) -> Phrase {
-    match count_of_recs(host, build, true) {
+    match count_of_recs(host, build, Recs::Running) {
         (1, only) => one(of_one, Number(only as u64)),
         (count, _) => one(of_many, Number(count as u64)),
     }
@@ -206,29 +207,33 @@ fn access_of(step: &Step) -> Option<&'static str> {
 fn page_error(
     step: &Step,
     page: Value,
-    wanted: GranuleState,
+    required: GranuleState,
     found: Option<GranuleState>,
 ) -> Phrase {
-    let (wanted, found) = (Word(state_word(wanted)), Word(granule_state(found)));
+    let (required, found) = (Word(state_word(required)), Word(granule_state(found)));
     match access_of(step) {
         Some(access) => four(
             "{} must be {} to be {}; it is {}",
             page,
-            wanted,
+            required,
             Word(access),
             found,
         ),
-        None => three("{} must be {}; it is {}", page, wanted, found),
+        None => three("{} must be {}; it is {}", page, required, found),
     }
 }
 
 fn of_input(step: &Step, fact: InputFact) -> Phrase {
     match fact {
-        InputFact::Page(page, wanted, found) => {
-            let role = role_by_state(step, page, wanted);
-            page_error(step, Page(role, page), wanted, found)
+        InputFact::Page {
+            page,
+            required,
+            found,
+        } => {
+            let role = role_by_state(step, page, required);
+            page_error(step, Page(role, page), required, found)
         }
-        InputFact::Protected(ipa, width) => three(
+        InputFact::Protected { ipa, width } => three(
             "IPA granule {} must be below {}, in the protected half at IPA width {}",
             Number(ipa as u64),
             Number(protected_end(width)),
@@ -238,7 +243,7 @@ fn of_input(step: &Step, fact: InputFact) -> Phrase {
             "the level of a table must be 2 or 3; it is {}",
             Number(level as u64),
         ),
-        InputFact::Start(ipa, level) => three(
+        InputFact::Start { ipa, level } => three(
             "a table of level {} must start at a multiple of {}; IPA granule {} is none",
             Number(level as u64),
             Number(served(level) as u64),
@@ -248,7 +253,7 @@ fn of_input(step: &Step, fact: InputFact) -> Phrase {
             "the count of pages must be 1 to 512; it is {}",
             Number(count as u64),
         ),
-        InputFact::OneTable(ipa, count) => three(
+        InputFact::OneTable { ipa, count } => three(
             "{} pages from IPA granule {} must lie in one table of level 3; the next begins at {}",
             Number(count as u64),
             Number(ipa as u64),
@@ -295,9 +300,9 @@ fn of_realm<S: PageStore>(host: &Host<S>, build: BuildId, step: &Step, fact: Rea
             "the RD must not be a starting table; {} is both",
             Page("", rd),
         ),
-        RealmFact::State(wanted, found) => two(
+        RealmFact::State { required, found } => two(
             "the realm must be {}; it is {}",
-            Word(realm_word(wanted)),
+            Word(realm_word(required)),
             Word(realm_state(found)),
         ),
     }
@@ -321,7 +326,7 @@ fn repeated_page(step: &Step) -> Option<u16> {
     None
 }
 
-fn distinct_error<S: PageStore>(host: &Host<S>, build: BuildId, step: &Step) -> Phrase {
+fn distinct_error(step: &Step) -> Phrase {
     match repeated_page(step) {
         Some(page) => one(
             "the REC and its auxiliaries must differ; {} is named twice",
@@ -334,7 +339,7 @@ fn distinct_error<S: PageStore>(host: &Host<S>, build: BuildId, step: &Step) -> 
 // The error for a REC that the realm lacks, with the realm's only REC or the number of its RECs.
 fn no_rec_error<S: PageStore>(host: &Host<S>, build: BuildId, number: u16) -> Phrase {
     let number = Number(number as u64);
-    match count_of_recs(host, build, false) {
+    match count_of_recs(host, build, Recs::All) {
         (0, _) => one("the realm must have REC {}; it has none", number),
         (1, only) => two(
             "the realm must have REC {}; it has only REC {}",
@@ -351,17 +356,21 @@ fn no_rec_error<S: PageStore>(host: &Host<S>, build: BuildId, number: u16) -> Ph
 
 fn of_rec<S: PageStore>(host: &Host<S>, build: BuildId, step: &Step, fact: RecFact) -> Phrase {
     match fact {
-        RecFact::Distinct => distinct_error(host, build, step),
+        RecFact::Distinct => distinct_error(step),
         RecFact::There(number) => no_rec_error(host, build, number.number()),
-        RecFact::Auxiliaries(given, wanted) => two(
+        RecFact::Auxiliaries { named, needed } => two(
             "a REC must have {}; {} named",
-            Many(wanted as usize, "auxiliary page", "auxiliary pages"),
-            Many(given, "is", "are"),
+            Many(needed as usize, "auxiliary page", "auxiliary pages"),
+            Many(named, "is", "are"),
         ),
-        RecFact::State(number, wanted, found) => three(
+        RecFact::State {
+            number,
+            required,
+            found,
+        } => three(
             "REC {} must be {}; it is {}",
             Number(number.number() as u64),
-            Word(rec_state(Some(wanted))),
+            Word(rec_state(Some(required))),
             Word(rec_state(found)),
         ),
     }
@@ -391,20 +400,28 @@ fn free_error<S: PageStore>(host: &Host<S>, build: BuildId, ipa: u32, count: u16
 
 fn of_walk<S: PageStore>(host: &Host<S>, build: BuildId, ipa: u32, fact: WalkFact) -> Phrase {
     match fact {
-        WalkFact::Walk(ipa, to, ended) => three(
+        WalkFact::Walk {
+            ipa,
+            required,
+            ended,
+        } => three(
             "the walk of IPA granule {} must end at level {}; it ends at level {}",
             Number(ipa as u64),
-            Number(to as u64),
+            Number(required as u64),
             Number(ended as u64),
         ),
-        WalkFact::Entry(level, wanted, found) => four(
+        WalkFact::Entry {
+            level,
+            required,
+            found,
+        } => four(
             "the entry of IPA granule {} at level {} must be {}; it is {}",
             Number(ipa as u64),
             Number(level as u64),
-            Word(entry_state(Some(wanted))),
+            Word(entry_state(Some(required))),
             Word(entry_state(found)),
         ),
-        WalkFact::NoTable(level, _) => three(
+        WalkFact::NoTable { level, .. } => three(
             "IPA granule {} must have no table below level {} yet; its entry at level {} is TABLE",
             Number(ipa as u64),
             Number(level as u64),
@@ -414,6 +431,6 @@ fn of_walk<S: PageStore>(host: &Host<S>, build: BuildId, ipa: u32, fact: WalkFac
             "the entry of IPA granule {} must lead to a page; it leads to none",
             Number(ipa as u64),
         ),
-        WalkFact::Free(ipa, count) => free_error(host, build, ipa, count),
+        WalkFact::Free { ipa, count } => free_error(host, build, ipa, count),
     }
 }

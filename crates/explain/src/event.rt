@@ -96,7 +96,8 @@ fn first_foreign<S: PageStore>(host: &Host<S>, build: BuildId, granules: &[Gran]
     None
 }
 
-// The first granule that an operation names and that the build does not lease. A block that is taken is nobody's yet.
+// The first granule that an operation names and that the build does not lease. A `take` is left out, since nobody
+// leases its block yet.
 fn foreign_granule<S: PageStore>(host: &Host<S>, build: BuildId, act: &Act) -> Option<Gran> {
     match act {
         Act::Fill { granule, .. }
@@ -148,8 +149,23 @@ fn number_of<S: PageStore>(host: &Host<S>, build: BuildId, granule: Gran) -> u16
     page_of(host, build, granule).unwrap_or(0)
 }
 
-// The command for an operation that takes, fills, reads or delegates pages, or `None` for any other operation.
-fn page_command<S: PageStore>(host: &Host<S>, build: BuildId, act: &Act) -> Option<Cmd> {
+// The build's page numbers for the given granules, at most 16.
+fn numbers_of<S: PageStore>(
+    host: &Host<S>,
+    build: BuildId,
+    granules: &[Gran],
+) -> ArrayVec<u16, 16> {
+    let mut pages = ArrayVec::new();
+    for granule in granules {
+        if !pages.is_full() {
+            pages.push(number_of(host, build, *granule));
+        }
+    }
+    pages
+}
+
+// The command that performs an operation, with the build's page numbers, or `None` for a reverse.
+fn command_of<S: PageStore>(host: &Host<S>, build: BuildId, act: &Act) -> Option<Cmd> {
     let cmd = match act {
         Act::Take { order, .. } => Cmd::Take {
             order: order.number(),
@@ -169,15 +185,6 @@ fn page_command<S: PageStore>(host: &Host<S>, build: BuildId, act: &Act) -> Opti
         Act::Delegate { granule } => Cmd::Delegate {
             page: number_of(host, build, *granule),
         },
-        _ => return None,
-    };
-    Some(cmd)
-}
-
-// The command for an operation that creates or activates a realm, or creates a table, or `None` for any other
-// operation.
-fn realm_command<S: PageStore>(host: &Host<S>, build: BuildId, act: &Act) -> Option<Cmd> {
-    let cmd = match act {
         Act::Realm { rd, root, .. } => Cmd::Realm {
             rd: number_of(host, build, *rd),
             root: number_of(host, build, root.first),
@@ -193,14 +200,6 @@ fn realm_command<S: PageStore>(host: &Host<S>, build: BuildId, act: &Act) -> Opt
             ipa: ipa.number(),
             level: level.number(),
         },
-        _ => return None,
-    };
-    Some(cmd)
-}
-
-// The command for an operation on a realm's memory, or `None` for any other operation.
-fn memory_command<S: PageStore>(host: &Host<S>, build: BuildId, act: &Act) -> Option<Cmd> {
-    let cmd = match act {
         Act::Ripas { ipa, count } => Cmd::Ripas {
             ipa: ipa.number(),
             count: *count,
@@ -218,14 +217,14 @@ fn memory_command<S: PageStore>(host: &Host<S>, build: BuildId, act: &Act) -> Op
             page: number_of(host, build, *granule),
             ipa: ipa.number(),
         },
-        _ => return None,
-    };
-    Some(cmd)
-}
-
-// The command for an operation on an existing REC, or `None` for any other operation.
-fn rec_command(act: &Act) -> Option<Cmd> {
-    let cmd = match act {
+        Act::Rec {
+            granule,
+            auxiliaries,
+            ..
+        } => Cmd::Rec {
+            page: number_of(host, build, *granule),
+            auxiliaries: numbers_of(host, build, auxiliaries.as_slice()),
+        },
         Act::Enter { number } => Cmd::Enter { number: *number },
         Act::Exit { number } => Cmd::Exit { number: *number },
         Act::Poke {
@@ -239,43 +238,14 @@ fn rec_command(act: &Act) -> Option<Cmd> {
             offset: *offset,
             value: *value,
         },
-        _ => return None,
+        Act::UnTake { .. }
+        | Act::Undelegate { .. }
+        | Act::UnRealm { .. }
+        | Act::UnRtt { .. }
+        | Act::UnData { .. }
+        | Act::UnRec { .. } => return None,
     };
     Some(cmd)
-}
-
-// The build's page numbers for the given granules, at most 16.
-fn numbers_of<S: PageStore>(
-    host: &Host<S>,
-    build: BuildId,
-    granules: &[Gran],
-) -> ArrayVec<u16, 16> {
-    let mut pages = ArrayVec::new();
-    for granule in granules {
-        if !pages.is_full() {
-            pages.push(number_of(host, build, *granule));
-        }
-    }
-    pages
-}
-
-// The command that performs an operation, with the build's page numbers, or `None` for a reverse.
-fn command_of<S: PageStore>(host: &Host<S>, build: BuildId, act: &Act) -> Option<Cmd> {
-    let Act::Rec {
-        granule,
-        auxiliaries,
-        ..
-    } = act
-    else {
-        return page_command(host, build, act)
-            .or(realm_command(host, build, act))
-            .or(memory_command(host, build, act))
-            .or(rec_command(act));
-    };
-    Some(Cmd::Rec {
-        page: number_of(host, build, *granule),
-        auxiliaries: numbers_of(host, build, auxiliaries.as_slice()),
-    })
 }
 
 // The error for a block that cannot be leased, or `None` if the block can be leased.

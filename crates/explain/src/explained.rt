@@ -28,7 +28,7 @@ impl Drop for Explanation {
 }
 
 impl Explanation {
-    /// The error message and the help message.
+    /// Consumes the explanation, and returns its error message and its help message.
     pub fn into_messages(self) -> (String, String)
         ensures error { result.0 ≡ self.error }
         ensures help { result.1 ≡ self.help }
@@ -58,7 +58,7 @@ impl Drop for ExplainedTurn {
 }
 
 impl ExplainedTurn {
-    /// The reason for the refusal, if the host refuses the step.
+    /// Consumes the turn, and returns the reason for the refusal, if any.
     pub fn into_reason(self) -> Option<Explanation>
         ensures { result ≡ self.reason }
     {

@@ -118,8 +118,8 @@ fn explain_turn<S: PageStore>(
 }
 
 /// Runs a plan on a host, and explains each step that the host refuses. Returns the output line of each turn, and the
-/// reason if the turn is refused. A reason has the checks up to and including the first failed check. At an `Err`
-/// allocation failed.
+/// reason if the turn is refused. A reason has the checks up to and including the first failed check. The one error is
+/// that allocation failed.
 pub fn explain_turns<S: PageStore>(
     alloc: Global,
     host: &mut Host<S>,

@@ -5,7 +5,7 @@ use crate::help_input::input_help;
 use crate::help_realm::{realm_help, rec_help, walk_help};
 use crate::phrase::Value::Number;
 use crate::phrase::{Phrase, one, page_or};
-use crate::readings::{has_rec, named_pages, next_rec, other_pages};
+use crate::readings::{Recs, has_rec, named_pages, next_rec, other_pages};
 use granule_addr::BuildId;
 use host_commands::Step;
 use page_arena::PageStore;
@@ -19,9 +19,13 @@ pub(crate) enum Help {
     Say(Phrase),
     /// Help that consists of two phrases.
     Both(Phrase, Phrase),
-    /// Help that proposes to undo a number of operations. The phrase comes before the proposal, and the string after
-    /// it. An `exit` step for each RUNNING REC comes before the undos.
-    Undo(Phrase, usize, &'static str),
+    /// Help that proposes to undo `count` operations, with words before and after the proposal. An `exit` step for each
+    /// RUNNING REC comes before the undos.
+    Undo {
+        before: Phrase,
+        count: usize,
+        after: &'static str,
+    },
     /// Help that proposes an `exit` step for each RUNNING REC.
     Exit,
     /// Help that proposes a `rec` step with all the pages that a REC needs. The words come before the step.
@@ -55,8 +59,12 @@ pub(crate) fn push_help<S: PageStore>(
             words.push(text)?;
             more.push(text)
         }
-        Help::Undo(words, count, after) => {
-            words.push(text)?;
+        Help::Undo {
+            before,
+            count,
+            after,
+        } => {
+            before.push(text)?;
             push_undos(text, host, build, count)?;
             text.push_str(after)
         }
@@ -82,7 +90,7 @@ fn push_exits<S: PageStore>(
 ) -> Result<(), AllocError> {
     let mut words = first;
     for number in 0..next_rec(host, build) {
-        if has_rec(host, build, number, true) {
+        if has_rec(host, build, number, Recs::Running) {
             one(words, Number(number as u64)).push(text)?;
             words = next;
         }

@@ -88,14 +88,16 @@ pub(crate) fn build_help<S: PageStore>(
             ),
             None => plain("a block has at most 512 pages: `take 9`"),
         }),
-        BuildFact::Page(page, _, count) => more_pages(host, build, page, count),
+        BuildFact::Page { page, count, .. } => more_pages(host, build, page, count),
         BuildFact::Realm(_) => Help::Say(realm_first(host, build, step)),
         BuildFact::NoRealm(_) => match undos_of_realm(host, build) {
-            Some(count) => Help::Undo(
-                plain("put the second realm into a [[build]] of its own, or undo the first: "),
+            Some(count) => Help::Undo {
+                before: plain(
+                    "put the second realm into a [[build]] of its own, or undo the first: ",
+                ),
                 count,
-                "",
-            ),
+                after: "",
+            },
             None => Help::Say(plain("put the second realm into a [[build]] of its own")),
         },
     }
@@ -134,14 +136,14 @@ pub(crate) fn room_help<S: PageStore>(host: &Host<S>, fact: RoomFact) -> Help {
         RoomFact::Journal(_) => plain(
             "`undo` some, or put a part of the steps into a [[build]] of its own",
         ),
-        RoomFact::History(..) => one(
+        RoomFact::History { .. } => one(
             "set a larger `history`: it is {} events a build, and at most 16384",
             Number(host.capacity() as u64),
         ),
         RoomFact::Vmid(_) => plain(
             "set a larger `vmids`, at most 255; or undo the realm of another build",
         ),
-        RoomFact::Block(order, _) => other_block(host, order),
+        RoomFact::Block { order, .. } => other_block(host, order),
     })
 }
 

@@ -46,7 +46,11 @@ fn undelegating_help<S: PageStore>(
     words: Phrase,
 ) -> Help {
     match undos_of_delegation(host, build, page) {
-        Some(count) => Help::Undo(words, count, " undelegates it"),
+        Some(count) => Help::Undo {
+            before: words,
+            count,
+            after: " undelegates it",
+        },
         None => Help::Say(words),
     }
 }
@@ -159,20 +163,26 @@ pub(crate) fn input_help<S: PageStore>(
     fact: InputFact,
 ) -> Help {
     match fact {
-        InputFact::Page(page, GranuleState::Undelegated, found) => {
-            undelegated_help(host, build, step, page, found)
-        }
-        InputFact::Page(page, _, Some(GranuleState::Undelegated)) if !is_source(step, page) => {
+        InputFact::Page {
+            page,
+            required: GranuleState::Undelegated,
+            found,
+        } => undelegated_help(host, build, step, page, found),
+        InputFact::Page {
+            page,
+            found: Some(GranuleState::Undelegated),
+            ..
+        } if !is_source(step, page) => {
             Help::Say(one("`delegate {}` first", Number(page as u64)))
         }
-        InputFact::Page(..) => other_page(host, build, step),
-        InputFact::Protected(ipa, width) => protected_help(ipa, width),
+        InputFact::Page { .. } => other_page(host, build, step),
+        InputFact::Protected { ipa, width } => protected_help(ipa, width),
         InputFact::Level(1) => Help::Say(plain(
             "tables of level 1 are the starting tables, which `realm` creates",
         )),
         InputFact::Level(_) | InputFact::Count(0) => Help::Nothing,
-        InputFact::Start(ipa, level) => Help::Say(covering_table(step, ipa, level)),
+        InputFact::Start { ipa, level } => Help::Say(covering_table(step, ipa, level)),
         InputFact::Count(_) => Help::Say(plain("use a `ripas` for each table of 512 pages")),
-        InputFact::OneTable(ipa, count) => Help::Say(two_runs(ipa, count)),
+        InputFact::OneTable { ipa, count } => Help::Say(two_runs(ipa, count)),
     }
 }

@@ -21,7 +21,11 @@ fn new_again<S: PageStore>(host: &Host<S>, build: BuildId) -> Help {
         Some(count) => {
             let words =
                 "put this step before `activate`; an ACTIVE realm becomes NEW only by undoing it: ";
-            Help::Undo(plain(words), count, "")
+            Help::Undo {
+                before: plain(words),
+                count,
+                after: "",
+            }
         }
         None => Help::Say(plain(
             "put this step before `activate`; an ACTIVE realm becomes NEW only by undoing it",
@@ -63,6 +67,22 @@ fn other_width(rd: u16, root: u16, width: u8) -> Phrase {
     two(words, Number(rd as u64), Number(root as u64))
 }
 
+// The help for a realm that is not in the required state.
+fn state_help<S: PageStore>(
+    host: &Host<S>,
+    build: BuildId,
+    step: &Step,
+    required: RealmState,
+) -> Help {
+    match (required, step) {
+        (RealmState::Active, _) => Help::Say(plain("`activate` first")),
+        (RealmState::New, Step::Ask(Cmd::Activate)) => {
+            Help::Say(plain("leave this step out: the realm is ACTIVE already"))
+        }
+        (RealmState::New, _) => new_again(host, build),
+    }
+}
+
 /// Returns the help for a failed check on a realm. The check is on the realm's state, or on the operands of its
 /// creation.
 pub(crate) fn realm_help<S: PageStore>(
@@ -79,11 +99,7 @@ pub(crate) fn realm_help<S: PageStore>(
             other_tables(host, build, *rd, *width)
         }
         (RealmFact::Apart, _) => other_page(host, build, step),
-        (RealmFact::State(RealmState::Active, _), _) => Help::Say(plain("`activate` first")),
-        (RealmFact::State(RealmState::New, _), Step::Ask(Cmd::Activate)) => {
-            Help::Say(plain("leave this step out: the realm is ACTIVE already"))
-        }
-        (RealmFact::State(RealmState::New, _), _) => new_again(host, build),
+        (RealmFact::State { required, .. }, _) => state_help(host, build, step, required),
         _ => Help::Nothing,
     }
 }
@@ -113,13 +129,17 @@ pub(crate) fn rec_help<S: PageStore>(
     let is_new = matches!(host.realm_view(build), Some((RealmState::New, _)));
     match fact {
         RecFact::Distinct => other_page(host, build, step),
-        RecFact::Auxiliaries(..) => Help::Rec(""),
+        RecFact::Auxiliaries { .. } => Help::Rec(""),
         RecFact::There(number) if is_new => missing_rec(host, build, number.number()),
         RecFact::There(_) => Help::Say(plain(
             "RECs are created before `activate`, and numbered from 0",
         )),
-        RecFact::State(number, wanted, _) => {
-            let words = match wanted {
+        RecFact::State {
+            number,
+            required,
+            ..
+        } => {
+            let words = match required {
                 RecState::Ready => "`exit {}` first",
                 RecState::Running if is_new => "`activate`, then `enter {}` first",
                 RecState::Running => "`enter {}` first",
@@ -159,16 +179,17 @@ fn missing_tables<S: PageStore>(
     host: &Host<S>,
     build: BuildId,
     step: &Step,
-    fact: (u32, u8, u8),
+    ipa: u32,
+    required: u8,
+    ended: u8,
 ) -> Help {
-    let (ipa, to, ended) = fact;
-    let needed = to.saturating_sub(ended) as usize;
+    let needed = required.saturating_sub(ended) as usize;
     let others = other_pages(host, build, step, GranuleState::Delegated);
     let others = others.as_slice();
     let first = page_at(others, needed, 0);
     let level_2 = Number(first_served(ipa, 2) as u64);
     let level_3 = Number(first_served(ipa, 3) as u64);
-    let words = match (ended, to) {
+    let words = match (ended, required) {
         (0 | 1, 0..=2) => two(
             "create the missing table first: `rtt {} {} 2`",
             first,
@@ -251,16 +272,21 @@ pub(crate) fn walk_help<S: PageStore>(
     fact: WalkFact,
 ) -> Help {
     match fact {
-        WalkFact::Walk(ipa, to, ended) => missing_tables(host, build, step, (ipa, to, ended)),
-        WalkFact::Entry(_, EntryState::Unassigned, _) => {
-            other_entry(host, build, step, ipa_of(step))
-        }
-        WalkFact::Entry(level, _, _) => mapping(host, build, step, ipa_of(step), level),
-        WalkFact::NoTable(..) => {
+        WalkFact::Walk {
+            ipa,
+            required,
+            ended,
+        } => missing_tables(host, build, step, ipa, required, ended),
+        WalkFact::Entry {
+            required: EntryState::Unassigned,
+            ..
+        } => other_entry(host, build, step, ipa_of(step)),
+        WalkFact::Entry { level, .. } => mapping(host, build, step, ipa_of(step), level),
+        WalkFact::NoTable { .. } => {
             Help::Say(plain("leave this step out: the table is there already"))
         }
         WalkFact::Leads(_) => Help::Nothing,
-        WalkFact::Free(ipa, _) => match first_entry(host, build, ipa, false) {
+        WalkFact::Free { ipa, .. } => match first_entry(host, build, ipa, false) {
             Some(taken) => Help::Say(one(
                 "put this step before the one that maps IPA granule {}",
                 Number(taken as u64),

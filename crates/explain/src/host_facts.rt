@@ -10,9 +10,14 @@ pub enum BuildFact {
     NotAborting,
     /// Requires that the order of a block is at most 9. The value is the order.
     Order(u8),
-    /// Requires that the build has a given page. The values are the page's number, the page's granule, if any, and how
-    /// many pages the build has.
-    Page(u16, Option<Gran>, u16),
+    /// Requires that the build has a given page.
+    Page {
+        page: u16,
+        /// The granule that was found, if any.
+        granule: Option<Gran>,
+        /// The number of pages of the build.
+        count: u16,
+    },
     /// Requires that the build has a realm. The value is the RD that was found, if any.
     Realm(Option<Gran>),
     /// Requires that the build has no realm. The value is the RD that was found, if any.
@@ -26,14 +31,19 @@ pub enum RoomFact {
     /// Requires that the build has fewer than 512 open operations: reversible ones that are not undone yet. The value
     /// is the number of open operations.
     Journal(usize),
-    /// Requires that the history has enough free entries for the build. The values are the numbers of entries left and
-    /// needed.
-    History(u16, u16),
+    /// Requires that the history has enough free entries for the build. The fields are numbers of entries.
+    History {
+        left: u16,
+        needed: u16,
+    },
     /// Requires that a VMID is free. The value is the lowest free VMID, if any.
     Vmid(Option<Vmid>),
-    /// Requires that an aligned block of a given order is free. The values are the block's order and the number of free
-    /// pages.
-    Block(u8, u16),
+    /// Requires that an aligned block of a given order is free.
+    Block {
+        order: u8,
+        /// The number of free pages.
+        free: u16,
+    },
 }
 
 /// A fact that an undo, an abort or a `back` step requires. Refusals 7 (`NothingToUndo`) and 8 (`RecRunning`) depend on
@@ -49,7 +59,6 @@ pub enum UndoFact {
     AllAreReady(u16),
     /// Requires that the build has a valid mark.
     Mark,
-    /// Requires that no REC created after the mark, the target of the rollback, is RUNNING. RECs count only if the
-    /// operation that created them is still open.
+    /// Requires that no open operation since the mark created a REC that is RUNNING.
     NoneRunsAboveMark,
 }

@@ -1,10 +1,10 @@
 //! Explains why a host refuses a step of a plan, from the first check that fails. Each check is evaluated on the host.
 //!
-//! A `Check` of a step's turn has the fact that it requires, whether it fails on the host as it is, and the refusal
-//! that it gives then. `step_checks` makes the checks of a step in their order. `law` says for which refusals the first
-//! that fails is the one that the host gives. `explain_turns` runs a plan as `plan_replay` does, and keeps the checks
-//! of each turn that is refused, up to the first that fails. These are proved. The words are tested: `error`, `help`,
-//! `passed` and `event` choose phrases, and `phrase` writes them.
+//! A `Check` has a required fact, whether the fact fails on the host, and the refusal for that. `step_checks` makes the
+//! checks of a step in their order. `law` names the refusals for which the first failed check gives the host's refusal.
+//! `explain_turns` runs a plan as `plan_replay` does, and keeps the checks of each refused turn, up to the first that
+//! fails. These are proved. The words are tested: `error`, `help`, `passed` and `event` choose phrases, and `phrase`
+//! writes them.
 #![tactic(auto)]
 
 mod check;

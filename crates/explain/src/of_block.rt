@@ -12,7 +12,7 @@ use realm_host::{Host, Refusal};
 fn is_unleased<S: PageStore>(host: &Host<S>, number: u16) -> bool
     ensures { result ≡ is_unleased host.now number }
 {
-    // (the contract of `history` says that the machine has at most 4,096 pages)
+    // (called only for its contract, which says that the machine has at most 4,096 pages)
     let _history = host.history();
     match Gran::new(number, host.pages()) {
         Some(granule) => host.ledger().holder(granule).is_none(),
@@ -46,6 +46,7 @@ fn is_free_at<S: PageStore>(host: &Host<S>, order: Order, first: u16) -> bool
 pub(crate) fn has_block<S: PageStore>(host: &Host<S>, order: Order) -> bool
     ensures { result ≡ has_block host.now order }
 {
+    // (called only for its contract, as above)
     let _history = host.history();
     for first in 0..host.pages() {
         if is_free_at(host, order, first) {
@@ -61,7 +62,10 @@ pub(crate) fn block_check<S: PageStore>(host: &Host<S>, order: Order) -> Check
 {
     let free = host.free_count();
     Check {
-        fact: Fact::Room(RoomFact::Block(order.number(), free)),
+        fact: Fact::Room(RoomFact::Block {
+            order: order.number(),
+            free,
+        }),
         fails: !has_block(host, order),
         refusal: Refusal::NoBlock(order),
     }

@@ -6,7 +6,7 @@ ghost use Rattle.explain.specs.OfBuild.{build_there, not_aborting, checks_of_bui
 use crate::check::{Check, Fact, add, add_some};
 use crate::host_facts::{BuildFact, RoomFact};
 use granule_addr::BuildId;
-use host_commands::{BuildsView, Needs, RealmRequirement};
+use host_commands::{BuildsView, RealmRequirement};
 use page_arena::PageStore;
 use realm_host::{Cmd, Host, Refusal};
 use realm_model::JOURNAL_ROOM;
@@ -62,7 +62,11 @@ fn page_there<S: PageStore>(host: &Host<S>, build: BuildId, page: u16) -> Check
 {
     let granule = host.page_granule(build, page);
     Check {
-        fact: Fact::Build(BuildFact::Page(page, granule, host.page_count(build))),
+        fact: Fact::Build(BuildFact::Page {
+            page,
+            granule,
+            count: host.page_count(build),
+        }),
         fails: granule.is_none(),
         refusal: Refusal::NotLeased(page),
     }
@@ -101,7 +105,7 @@ fn realm_check<S: PageStore>(
         }),
         RealmRequirement::Realm => Some(Check {
             fact: Fact::Build(BuildFact::Realm(rd)),
-            fails: !rd.is_some(),
+            fails: rd.is_none(),
             refusal: Refusal::NoRealm,
         }),
     }
@@ -139,7 +143,7 @@ fn room_check<S: PageStore>(host: &Host<S>, build: BuildId, needed: u16) -> Chec
 {
     let left = room_left(host, build);
     Check {
-        fact: Fact::Room(RoomFact::History(left, needed)),
+        fact: Fact::Room(RoomFact::History { left, needed }),
         fails: left < needed,
         refusal: Refusal::HistoryFull,
     }
@@ -155,13 +159,12 @@ fn vmid_check<S: PageStore>(host: &Host<S>, wanted: bool) -> Option<Check>
     let lowest = host.ledger().lowest_vmid();
     Some(Check {
         fact: Fact::Room(RoomFact::Vmid(lowest)),
-        fails: !lowest.is_some(),
+        fails: lowest.is_none(),
         refusal: Refusal::NoVmid,
     })
 }
 
-/// Appends the checks that the host makes before it calls the page store or the RMM. They are for refusals 1 to 6, 9,
-/// 10 and 12.
+/// Appends the checks of a command on these pages, in the order of their refusals' numbers.
 pub(crate) fn add_needs<S: PageStore>(
     host: &Host<S>,
     build: BuildId,

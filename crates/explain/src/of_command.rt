@@ -34,7 +34,7 @@ fn add_take<S: PageStore>(
     }
 }
 
-// The checks of a write that the guest on a REC makes. This profile's own.
+// The checks of a write that the guest on a REC makes. RMM 1.0 has no such command.
 fn guest_write<S: PageStore>(host: &Host<S>, build: BuildId, rec: RecNo, ipa: u32) -> [Check; 5]
     ensures { result ≡ guest_write_checks host.now build rec ipa }
 {

@@ -24,10 +24,14 @@ pub(crate) fn input_check(fact: Fact, fails: bool) -> Check
 }
 
 // A check of the found state of a page's granule against the required state.
-fn page_check(page: u16, found: Option<GranuleState>, wanted: GranuleState, fails: bool) -> Check
-    ensures { result ≡ page_check page found wanted fails }
+fn page_check(page: u16, found: Option<GranuleState>, required: GranuleState, fails: bool) -> Check
+    ensures { result ≡ page_check page found required fails }
 {
-    let fact = InputFact::Page(page, wanted, found);
+    let fact = InputFact::Page {
+        page,
+        required,
+        found,
+    };
     input_check(Fact::Input(fact), fails)
 }
 
@@ -90,7 +94,7 @@ pub(crate) fn protected<S: PageStore>(host: &Host<S>, build: BuildId, ipa: u32) 
 {
     let width = width_of(host, build);
     input_check(
-        Fact::Input(InputFact::Protected(ipa, width)),
+        Fact::Input(InputFact::Protected { ipa, width }),
         !is_protected_at(ipa, width),
     )
 }
@@ -101,7 +105,7 @@ pub(crate) fn table_level(level: u8) -> Check
 {
     input_check(
         Fact::Input(InputFact::Level(level)),
-        !(level == 2 || level == 3),
+        level != 2 && level != 3,
     )
 }
 
@@ -111,8 +115,8 @@ pub(crate) fn table_start(ipa: u32, level: u8) -> Check
 {
     let served = if level == 2 { 262_144 } else { 512 };
     input_check(
-        Fact::Input(InputFact::Start(ipa, level)),
-        !(ipa % served == 0),
+        Fact::Input(InputFact::Start { ipa, level }),
+        ipa % served != 0,
     )
 }
 
@@ -122,7 +126,7 @@ pub(crate) fn run_count(count: u16) -> Check
 {
     input_check(
         Fact::Input(InputFact::Count(count)),
-        !(1 <= count && count <= 512),
+        count < 1 || count > 512,
     )
 }
 
@@ -133,7 +137,7 @@ pub(crate) fn one_table(ipa: u32, count: u16) -> Check
 {
     let behind = ipa as u64 + count as u64;
     input_check(
-        Fact::Input(InputFact::OneTable(ipa, count)),
-        !(ipa as u64 / 512 == behind.saturating_sub(1) / 512),
+        Fact::Input(InputFact::OneTable { ipa, count }),
+        ipa as u64 / 512 != behind.saturating_sub(1) / 512,
     )
 }

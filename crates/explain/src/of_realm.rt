@@ -22,10 +22,10 @@ fn state_of_realm<S: PageStore>(host: &Host<S>, build: BuildId) -> Option<RealmS
 }
 
 // A check of the found state of a realm against the required state.
-fn state_check(found: Option<RealmState>, wanted: RealmState, fails: bool) -> Check
-    ensures { result ≡ state_check found wanted fails }
+fn state_check(found: Option<RealmState>, required: RealmState, fails: bool) -> Check
+    ensures { result ≡ state_check found required fails }
 {
-    let fact = Fact::Realm(RealmFact::State(wanted, found));
+    let fact = Fact::Realm(RealmFact::State { required, found });
     rmi_check(fact, fails, Rmi::REALM)
 }
 

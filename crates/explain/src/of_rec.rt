@@ -38,14 +38,14 @@ pub(crate) fn add_rec_create<S: PageStore>(
 ) -> Result<(), AllocError>
     ensures { OnOk result (checks.new.items ≡ checks.old.items ++ rec_create_checks host.now build pages.now granules.now) }
 {
-    let wanted = host.rec_aux_count();
-    let given = granules.len().saturating_sub(1);
+    let needed = host.rec_aux_count();
+    let named = granules.len().saturating_sub(1);
     add_delegated(host, build, pages, checks)?;
     checks.extend_from_slice(&[
         input_check(Fact::Rec(RecFact::Distinct), !are_distinct(granules)),
         input_check(
-            Fact::Rec(RecFact::Auxiliaries(given, wanted)),
-            given != wanted as usize,
+            Fact::Rec(RecFact::Auxiliaries { named, needed }),
+            named != needed as usize,
         ),
         realm_new(host, build),
     ])
@@ -70,10 +70,14 @@ pub(crate) fn rec_there<S: PageStore>(host: &Host<S>, build: BuildId, number: Re
 }
 
 // A check of the found state of a REC against the required state.
-fn rec_check(number: RecNo, found: Option<RecState>, wanted: RecState, fails: bool) -> Check
-    ensures { result ≡ rec_check number found wanted fails }
+fn rec_check(number: RecNo, found: Option<RecState>, required: RecState, fails: bool) -> Check
+    ensures { result ≡ rec_check number found required fails }
 {
-    let fact = Fact::Rec(RecFact::State(number, wanted, found));
+    let fact = Fact::Rec(RecFact::State {
+        number,
+        required,
+        found,
+    });
     rmi_check(fact, fails, Rmi::REC)
 }
 

@@ -1,4 +1,5 @@
-//! Checks on the end of a table walk: its level and its entry. RMM 1.0, RTT walk, RMI_ERROR_RTT.
+//! Checks on the end of a table walk: its level and its entry. The refusal is RMI_ERROR_RTT, unless a check says
+//! otherwise. RMM 1.0, RTT walk, RMI_ERROR_RTT.
 ghost use Rattle.std.specs.Prelude.{◌≡◌, ◌+◌, ◌-◌, ◌≤◌};
 ghost use Rattle.realm_host.specs.declared.reading.RowView.{RowView as Row};
 ghost use Rattle.explain.specs.OfWalk.{rtt_check, level_of, state_of, granule_of_row, walk_ends, entry_unassigned};
@@ -59,8 +60,13 @@ pub(crate) fn walk_ends<S: PageStore>(host: &Host<S>, build: BuildId, ipa: u32, 
     ensures { result ≡ walk_ends host.now build ipa to }
 {
     let ended = level_of(host.row(build, ipa, to));
-    let to = to.number();
-    rtt_check(WalkFact::Walk(ipa, to, ended), !(ended == to), ended)
+    let required = to.number();
+    let fact = WalkFact::Walk {
+        ipa,
+        required,
+        ended,
+    };
+    rtt_check(fact, ended != required, ended)
 }
 
 /// The check that the last entry of a walk is UNASSIGNED. The walk is to level 3.
@@ -69,7 +75,11 @@ pub(crate) fn entry_unassigned<S: PageStore>(host: &Host<S>, build: BuildId, ipa
 {
     let row = host.row(build, ipa, Level::last());
     let (level, found) = (level_of(row), state_of(row));
-    let fact = WalkFact::Entry(level, EntryState::Unassigned, found);
+    let fact = WalkFact::Entry {
+        level,
+        required: EntryState::Unassigned,
+        found,
+    };
     rtt_check(fact, !matches!(found, Some(EntryState::Unassigned)), level)
 }
 
@@ -79,7 +89,11 @@ pub(crate) fn entry_assigned<S: PageStore>(host: &Host<S>, build: BuildId, ipa: 
 {
     let row = host.row(build, ipa, Level::last());
     let (level, found) = (level_of(row), state_of(row));
-    let fact = WalkFact::Entry(level, EntryState::Assigned, found);
+    let fact = WalkFact::Entry {
+        level,
+        required: EntryState::Assigned,
+        found,
+    };
     rtt_check(fact, !matches!(found, Some(EntryState::Assigned)), level)
 }
 
@@ -95,13 +109,14 @@ pub(crate) fn entry_no_table<S: PageStore>(
     let row = host.row(build, ipa, to);
     let (level, found) = (level_of(row), state_of(row));
     rtt_check(
-        WalkFact::NoTable(level, found),
+        WalkFact::NoTable { level, found },
         matches!(found, Some(EntryState::Table)),
         level,
     )
 }
 
-/// The check that the last entry of a walk leads to a granule. The walk is to level 3.
+/// The check that the last entry of a walk leads to a granule. The walk is to level 3, and the refusal is
+/// RMI_ERROR_INPUT.
 pub(crate) fn entry_leads<S: PageStore>(host: &Host<S>, build: BuildId, ipa: u32) -> Check
     ensures { result ≡ entry_leads host.now build ipa }
 {
@@ -142,5 +157,5 @@ pub(crate) fn entries_free<S: PageStore>(
 {
     let behind = ipa as u64 + count as u64;
     let free = behind <= 4_294_967_296 && are_free(host, build, ipa, count);
-    rtt_check(WalkFact::Free(ipa, count), !free, 3)
+    rtt_check(WalkFact::Free { ipa, count }, !free, 3)
 }

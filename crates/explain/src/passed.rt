@@ -28,12 +28,16 @@ fn of_build(step: &Step, fact: BuildFact) -> Phrase {
         BuildFact::There(builds) => one("the build is one of {}", Number(builds as u64)),
         BuildFact::NotAborting => plain("the build is not in abort"),
         BuildFact::Order(order) => one("the order is {}, at most 9", Number(order as u64)),
-        BuildFact::Page(page, Some(granule), _) => two(
+        BuildFact::Page {
+            page,
+            granule: Some(granule),
+            ..
+        } => two(
             "{} is granule {}",
             Page(role_of(step, page), page),
             Number(granule.number() as u64),
         ),
-        BuildFact::Page(page, None, _) => one("page {} is there", Number(page as u64)),
+        BuildFact::Page { page, .. } => one("page {} is there", Number(page as u64)),
         BuildFact::Realm(Some(rd)) => one(
             "the build has a realm, with its RD in granule {}",
             Number(rd.number() as u64),
@@ -49,14 +53,14 @@ fn of_room(fact: RoomFact) -> Phrase {
             "{} open, fewer than 512",
             Many(open, "operation is", "operations are"),
         ),
-        RoomFact::History(left, needed) => two(
+        RoomFact::History { left, needed } => two(
             "the history has room for {}; {} needed",
             Many(left as usize, "more event", "more events"),
             Number(needed as u64),
         ),
         RoomFact::Vmid(Some(lowest)) => one("VMID {} is free", Number(lowest.number() as u64)),
         RoomFact::Vmid(None) => plain("a VMID is free"),
-        RoomFact::Block(order, _) => one(
+        RoomFact::Block { order, .. } => one(
             "an aligned block of order {} is free",
             Number(order as u64),
         ),
@@ -77,24 +81,24 @@ fn of_undo(fact: UndoFact) -> Phrase {
 
 fn of_input(step: &Step, fact: InputFact) -> Phrase {
     match fact {
-        InputFact::Page(page, wanted, _) => two(
+        InputFact::Page { page, required, .. } => two(
             "{} is {}",
-            Page(role_by_state(step, page, wanted), page),
-            Word(state_word(wanted)),
+            Page(role_by_state(step, page, required), page),
+            Word(state_word(required)),
         ),
-        InputFact::Protected(ipa, width) => two(
+        InputFact::Protected { ipa, width } => two(
             "IPA granule {} is in the protected half at IPA width {}",
             Number(ipa as u64),
             Number(width as u64),
         ),
         InputFact::Level(level) => one("the level of the table is {}", Number(level as u64)),
-        InputFact::Start(ipa, level) => two(
+        InputFact::Start { ipa, level } => two(
             "a table of level {} can start at IPA granule {}",
             Number(level as u64),
             Number(ipa as u64),
         ),
         InputFact::Count(count) => one("the count of pages is {}, 1 to 512", Number(count as u64)),
-        InputFact::OneTable(ipa, count) => two(
+        InputFact::OneTable { ipa, count } => two(
             "{} from IPA granule {} on: one table of level 3",
             pages(count),
             Number(ipa as u64),
@@ -111,39 +115,47 @@ fn of_realm(fact: RealmFact) -> Phrase {
             Many(count, "granule", "granules"),
         ),
         RealmFact::Apart => plain("the RD page is not a starting table"),
-        RealmFact::State(wanted, _) => one("the realm is {}", Word(realm_word(wanted))),
+        RealmFact::State { required, .. } => one("the realm is {}", Word(realm_word(required))),
     }
 }
 
 fn of_rec(fact: RecFact) -> Phrase {
     match fact {
         RecFact::Distinct => plain("no page is named twice"),
-        RecFact::Auxiliaries(given, _) => one(
+        RecFact::Auxiliaries { named, .. } => one(
             "{} named, as many as a REC has",
-            Many(given, "auxiliary page is", "auxiliary pages are"),
+            Many(named, "auxiliary page is", "auxiliary pages are"),
         ),
         RecFact::There(number) => one("the realm has REC {}", Number(number.number() as u64)),
-        RecFact::State(number, wanted, _) => two(
+        RecFact::State {
+            number,
+            required,
+            ..
+        } => two(
             "REC {} is {}",
             Number(number.number() as u64),
-            Word(rec_state(Some(wanted))),
+            Word(rec_state(Some(required))),
         ),
     }
 }
 
 fn of_walk(fact: WalkFact) -> Phrase {
     match fact {
-        WalkFact::Walk(ipa, to, _) => two(
+        WalkFact::Walk { ipa, required, .. } => two(
             "the walk of IPA granule {} ends at level {}",
             Number(ipa as u64),
-            Number(to as u64),
+            Number(required as u64),
         ),
-        WalkFact::Entry(level, wanted, _) => two(
+        WalkFact::Entry {
+            level,
+            required,
+            ..
+        } => two(
             "the entry at level {} is {}",
             Number(level as u64),
-            Word(entry_state(Some(wanted))),
+            Word(entry_state(Some(required))),
         ),
-        WalkFact::NoTable(level, _) => one(
+        WalkFact::NoTable { level, .. } => one(
             "the entry at level {} is not TABLE",
             Number(level as u64),
         ),
@@ -152,7 +164,7 @@ fn of_walk(fact: WalkFact) -> Phrase {
             Number(granule.number() as u64),
         ),
         WalkFact::Leads(None) => plain("the entry leads to a page"),
-        WalkFact::Free(ipa, count) => two(
+        WalkFact::Free { ipa, count } => two(
             "{} from IPA granule {} on: UNASSIGNED",
             Many(count as usize, "entry", "entries"),
             Number(ipa as u64),

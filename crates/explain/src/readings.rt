@@ -78,8 +78,8 @@ fn are_tables<S: PageStore>(
     true
 }
 
-/// Finds the lowest page at which a realm's starting tables can begin. The realm has `count` of them, and its RD is
-/// page `rd`.
+/// Finds the lowest page at which a realm's starting tables can begin. The realm has `count` starting tables, and its
+/// RD is page `rd`.
 pub(crate) fn first_of_tables<S: PageStore>(
     host: &Host<S>,
     build: BuildId,
@@ -182,29 +182,40 @@ pub(crate) fn next_rec<S: PageStore>(host: &Host<S>, build: BuildId) -> u16 {
     }
 }
 
-/// Returns whether the realm of a build has REC `number`. If `only_running` is set, the REC has to be RUNNING.
+/// A choice of a realm's RECs.
+#[derive(Clone, Copy)]
+pub(crate) enum Recs {
+    All,
+    /// The RUNNING ones alone.
+    Running,
+}
+
+/// Returns whether the realm of a build has REC `number`, and the REC is one of the chosen.
 pub(crate) fn has_rec<S: PageStore>(
     host: &Host<S>,
     build: BuildId,
     number: u16,
-    only_running: bool,
+    recs: Recs,
 ) -> bool {
     match host.rec(build, RecNo::new(number)) {
-        Some((_granule, rec)) => !only_running || matches!(rec.state(), RecState::Running),
+        Some((_granule, rec)) => match recs {
+            Recs::All => true,
+            Recs::Running => matches!(rec.state(), RecState::Running),
+        },
         None => false,
     }
 }
 
-/// Counts the RECs of a build's realm. Returns the count, and the highest number of a REC. If `only_running` is set,
-/// both are of RUNNING RECs alone. Without such RECs, both are 0.
+/// Counts the chosen RECs of a build's realm. Returns the count, and the highest number of such a REC. Both are 0 if
+/// there is none.
 pub(crate) fn count_of_recs<S: PageStore>(
     host: &Host<S>,
     build: BuildId,
-    only_running: bool,
+    recs: Recs,
 ) -> (u16, u16) {
     let (mut count, mut last) = (0u16, 0);
     for number in 0..next_rec(host, build) {
-        if has_rec(host, build, number, only_running) {
+        if has_rec(host, build, number, recs) {
             count = count.saturating_add(1);
             last = number;
         }

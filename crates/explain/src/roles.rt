@@ -22,10 +22,10 @@ pub(crate) fn role_of(step: &Step, page: u16) -> &'static str {
     }
 }
 
-/// Returns the role of a page in a step, given the page's required state. That state is `wanted`. The page of a `data`
-/// step that has to be UNDELEGATED is the source.
-pub(crate) fn role_by_state(step: &Step, page: u16, wanted: GranuleState) -> &'static str {
-    match (wanted, step) {
+/// Returns the role of a page in a step, given the page's required state. The page of a `data` step that has to be
+/// UNDELEGATED is the source.
+pub(crate) fn role_by_state(step: &Step, page: u16, required: GranuleState) -> &'static str {
+    match (required, step) {
         (GranuleState::Undelegated, Step::Ask(Cmd::Data { .. })) => "source ",
         (GranuleState::Undelegated, _) => "",
         _ => role_of(step, page),

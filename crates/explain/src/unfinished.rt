@@ -38,9 +38,10 @@ fn add_if(
     ensures { OnOk result (aborts.new.items ≡ aborts.old.items ++ cons_option abort []) }
 {
     match abort {
-        Some(abort) => aborts.extend_from_slice(&[abort]),
-        None => Ok(()),
+        Some(abort) => aborts.push(abort)?,
+        None => {}
     }
+    Ok(())
 }
 
 /// Returns the unfinished aborts of a host, in the order of their builds.

@@ -3,7 +3,7 @@ use crate::finding::{Findings, Severity};
 use crate::keys::{MeantKeys, means_steps, report_wrong_kind};
 use crate::message_text::Piece::{Count, Quoted, Words};
 use crate::outline::{Build, Content, Outline, Value};
-use crate::step_text::{InvalidStep, of_step};
+use crate::step_text::{InvalidStep, report_invalid_step};
 use realm_plan::{MOST_BUILDS, MOST_STEPS, PlanFault, step_from_text};
 
 /// Returns the number of builds of a plan. It is `None` if `build` is missing or not an array.
@@ -15,11 +15,11 @@ pub(crate) fn count_of_builds(outline: &Outline) -> Option<usize> {
     }
 }
 
-/// Finds the mistakes in the builds of a plan.
-pub(crate) fn builds(text: &str, outline: &Outline, meant: MeantKeys, found: &mut Findings) {
+/// Reports the mistakes in the builds of a plan.
+pub(crate) fn report_builds(text: &str, outline: &Outline, meant: MeantKeys, found: &mut Findings) {
     let has_builds = !outline.builds.is_empty();
     match outline.value("build") {
-        Some(value) if !value.is_array() => return no_builds(text, value, found),
+        Some(value) if !value.is_array() => return report_no_builds(text, value, found),
         Some(value) if !has_builds => return report_empty_build_array(outline, value, found),
         None if !has_builds && meant.build => return,
         None if !has_builds => {
@@ -29,7 +29,7 @@ pub(crate) fn builds(text: &str, outline: &Outline, meant: MeantKeys, found: &mu
         _ => {}
     }
     for (number, build) in outline.builds.iter().enumerate() {
-        of_build(text, number, build, found);
+        report_build(text, number, build, found);
     }
     if let Some(first) = outline.builds.get(MOST_BUILDS) {
         let pieces = [Count(MOST_BUILDS), Count(outline.builds.len())];
@@ -39,7 +39,7 @@ pub(crate) fn builds(text: &str, outline: &Outline, meant: MeantKeys, found: &mu
 }
 
 // Reports a value of `build` that is not an array of tables.
-fn no_builds(text: &str, value: &Value, found: &mut Findings) {
+fn report_no_builds(text: &str, value: &Value, found: &mut Findings) {
     let span = value.span;
     match text.get(span.start..span.end) {
         Some(header) if matches!(&value.content, Content::Headed) => {
@@ -67,14 +67,14 @@ fn report_empty_build_array(outline: &Outline, value: &Value, found: &mut Findin
     );
 }
 
-// Finds the mistakes in a build, which should be a table with `steps` as its only key.
-fn of_build(text: &str, number: usize, build: &Build, found: &mut Findings) {
+// Reports the mistakes in a build, which should be a table with `steps` as its only key.
+fn report_build(text: &str, number: usize, build: &Build, found: &mut Findings) {
     if !matches!(&build.value.content, Content::Table | Content::Tables) {
         return report_wrong_kind(&build.value, "a table", found);
     }
     match build.steps_value() {
-        Some(value) if value.is_array() => steps(text, number, build, found),
-        Some(value) => no_steps(value, found),
+        Some(value) if value.is_array() => report_steps(text, number, build, found),
+        Some(value) => report_no_steps(value, found),
         None if means_steps(build, found) => {}
         None => {
             let words = "missing key `steps` in build {}";
@@ -85,7 +85,7 @@ fn of_build(text: &str, number: usize, build: &Build, found: &mut Findings) {
 }
 
 // Reports a value of `steps` that is not an array.
-fn no_steps(value: &Value, found: &mut Findings) {
+fn report_no_steps(value: &Value, found: &mut Findings) {
     report_wrong_kind(value, "an array", found);
     if let Some(step) = value.as_text() {
         if step_from_text(step).is_some() {
@@ -94,14 +94,14 @@ fn no_steps(value: &Value, found: &mut Findings) {
     }
 }
 
-// Finds the mistakes in the steps of a build. Each step has to be a string.
-fn steps(text: &str, number: usize, build: &Build, found: &mut Findings) {
+// Reports the mistakes in the steps of a build. Each step has to be a string.
+fn report_steps(text: &str, number: usize, build: &Build, found: &mut Findings) {
     for (step, value) in build.steps.iter().enumerate() {
         let fault = PlanFault::Step {
             build: number,
             step,
         };
-        one_step(text, value, fault, found);
+        report_step(text, value, fault, found);
     }
     if let Some(first) = build.steps.get(MOST_STEPS) {
         let pieces = [Count(MOST_STEPS), Count(build.steps.len())];
@@ -110,7 +110,7 @@ fn steps(text: &str, number: usize, build: &Build, found: &mut Findings) {
     }
 }
 
-fn one_step(text: &str, value: &Value, fault: PlanFault, found: &mut Findings) {
+fn report_step(text: &str, value: &Value, fault: PlanFault, found: &mut Findings) {
     let Some(written) = value.as_text() else {
         return report_wrong_kind(value, "a string", found);
     };
@@ -126,6 +126,6 @@ fn one_step(text: &str, value: &Value, fault: PlanFault, found: &mut Findings) {
             whole: value.span,
             inside,
         };
-        of_step(&step, found);
+        report_invalid_step(&step, found);
     }
 }

@@ -1,10 +1,10 @@
 //! The search for the mistakes in a document that is no valid plan.
-use crate::builds::{builds, count_of_builds};
+use crate::builds::{count_of_builds, report_builds};
 use crate::finding::{Finding, Findings, Span};
-use crate::keys::{numbers, unknown_keys};
+use crate::keys::{report_numbers, report_unknown_keys};
 use crate::message_text::Piece;
-use crate::order::order;
-use crate::syntax::syntax;
+use crate::order::report_order;
+use crate::syntax::report_syntax;
 use crate::walk::outline_of;
 use realm_plan::{MOST_BYTES, PlanFault};
 use std::alloc::{AllocError, Global};
@@ -28,35 +28,35 @@ pub(crate) fn errors_in(
         (PlanFault::Syntax, _) => {
             if let Err(error) = toml::table_from_slice(alloc, bytes) {
                 let range = error.span().ok_or(AllocError)?;
-                syntax(bytes, range, error.message(), &mut found);
+                report_syntax(bytes, range, error.message(), &mut found);
             }
         }
-        (_, Ok(text)) => in_text(alloc, text, &mut found)?,
+        (_, Ok(text)) => report_mistakes(alloc, text, &mut found)?,
         _ => {}
     }
     found.finish()
 }
 
-fn in_text(alloc: Global, text: &str, found: &mut Findings) -> Result<(), AllocError> {
+fn report_mistakes(alloc: Global, text: &str, found: &mut Findings) -> Result<(), AllocError> {
     let outline = outline_of(alloc, text)?;
     if outline.keys.is_empty() && outline.builds.is_empty() {
-        empty_plan(found);
+        report_empty_plan(found);
         return Ok(());
     }
-    let meant = unknown_keys(&outline, found);
-    numbers(&outline, meant, found);
+    let meant = report_unknown_keys(&outline, found);
+    report_numbers(&outline, meant, found);
     // (builds are not counted if an unknown key was probably meant as `build`)
     let count = match count_of_builds(&outline) {
         Some(count) if count > 0 && !meant.build => Some(count),
         _ => None,
     };
-    order(&outline, count, found)?;
-    builds(text, &outline, meant, found);
+    report_order(&outline, count, found)?;
+    report_builds(text, &outline, meant, found);
     Ok(())
 }
 
 // Reports a text without any key.
-fn empty_plan(found: &mut Findings) {
+fn report_empty_plan(found: &mut Findings) {
     let words = "the plan is empty; it needs `pages` and `[[build]]`";
     found.error(PlanFault::Key, Span::new(0, 0), words, &[]);
     found.help("a small plan is", &[]);

@@ -72,7 +72,7 @@ pub(crate) fn plain_text(alloc: Global, bytes: &[u8]) -> Result<String, AllocErr
     String::from_utf8_lossy(alloc, shown.as_slice())
 }
 
-// What is shown of a line before the first caret: all of it, or two dots and its end if it is too long.
+// The part of a line before the first caret, as it is shown: all of it, or two dots and its end if it is too long.
 fn shown_front(alloc: Global, front: &[u8]) -> Result<Vec<u8>, AllocError> {
     let mut line = Vec::new(alloc);
     if front.len() <= MOST {
@@ -84,7 +84,8 @@ fn shown_front(alloc: Global, front: &[u8]) -> Result<Vec<u8>, AllocError> {
     Ok(line)
 }
 
-// What is shown of a line from the first caret on: all of it, or its beginning and two dots if it is too long.
+// The part of a line from the first caret on, as it is shown: all of it, or its beginning and two dots if it is too
+// long.
 fn shown_back(alloc: Global, back: &[u8]) -> Result<Vec<u8>, AllocError> {
     let mut line = Vec::new(alloc);
     if back.len() <= MOST {

@@ -45,13 +45,7 @@ pub struct Form {
     other_names: &'static str,
 }
 
-/// The first word of each kind of step in a plan.
-pub const WORDS: [&str; 18] = [
-    "take", "fill", "peek", "delegate", "realm", "activate", "rtt", "ripas", "data", "unknown",
-    "rec", "enter", "exit", "poke", "undo", "abort", "mark", "back",
-];
-
-/// The help text that lists the words of all steps.
+/// The help text that lists the words of all steps. A test compares them with the steps that plans can have.
 pub const ALL_STEPS: &str =
     "the steps are `take`, `fill`, `peek`, `delegate`, `realm`, `activate`, \
     `rtt`, `ripas`, `data`, `unknown`, `rec`, `enter`, `exit`, `poke`, `undo`, `abort`, `mark` and `back`";
@@ -89,6 +83,15 @@ const FORMS: [Form; 18] = [
     form!("mark", "no argument", [], 0; ""),
     form!("back", "no argument", [], 0; ""),
 ];
+
+/// Returns the first word of each kind of step in a plan.
+pub(crate) fn step_words() -> [&'static str; 18] {
+    let mut words = [""; 18];
+    for place in 0..18 {
+        words[place] = FORMS[place].word;
+    }
+    words
+}
 
 /// Finds the syntax of a step by the step's first word. The result is `None` if no step has that word.
 pub(crate) fn form_of(word: &str) -> Option<Form> {

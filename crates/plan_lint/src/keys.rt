@@ -20,7 +20,7 @@ impl MeantKeys {
 
 /// Reports the unknown and misplaced keys of a plan. Returns which keys were probably meant by them. A key that is
 /// there several times in a row, as in `[machine.cpu]` below `[machine]`, is reported once.
-pub(crate) fn unknown_keys(outline: &Outline, found: &mut Findings) -> MeantKeys {
+pub(crate) fn report_unknown_keys(outline: &Outline, found: &mut Findings) -> MeantKeys {
     let mut meant = MeantKeys {
         pages: outline.has_deeper_pages,
         build: false,
@@ -29,27 +29,32 @@ pub(crate) fn unknown_keys(outline: &Outline, found: &mut Findings) -> MeantKeys
     for key in &outline.keys {
         let name = key.name.as_str();
         if before != Some(name) && !is_among(&PLAN_KEYS, name) {
-            meant.note(unknown_key(outline, key, found));
+            meant.note(report_unknown_key(outline, key, found));
         }
         before = Some(name);
     }
     for build in &outline.builds {
-        unknown_keys_of(outline, build, &mut meant, found);
+        report_unknown_keys_of(outline, build, &mut meant, found);
     }
     meant
 }
 
-fn unknown_keys_of(outline: &Outline, build: &Build, meant: &mut MeantKeys, found: &mut Findings) {
+fn report_unknown_keys_of(
+    outline: &Outline,
+    build: &Build,
+    meant: &mut MeantKeys,
+    found: &mut Findings,
+) {
     let mut before = None;
     for key in &build.keys {
         let name = key.name.as_str();
         if before != Some(name) && name != "steps" {
             if is_among(&PLAN_KEYS, name) && name != "build" {
-                meant.note(key_of_plan(outline, key, found));
+                meant.note(report_key_of_plan(outline, key, found));
             } else if build.steps_value().is_none() && is_near_steps(key, found) {
-                did_you_mean(key, "steps", found);
+                report_misspelled_key(key, "steps", found);
             } else {
-                no_such_key(key, "the only key of a build is `steps`", found);
+                report_no_such_key(key, "the only key of a build is `steps`", found);
             }
         }
         before = Some(name);
@@ -57,7 +62,11 @@ fn unknown_keys_of(outline: &Outline, build: &Build, meant: &mut MeantKeys, foun
 }
 
 // Reports a key that no plan has, and returns the key that was probably meant, if there is one.
-fn unknown_key<'a>(outline: &Outline, key: &'a KeyValue, found: &mut Findings) -> Option<&'a str> {
+fn report_unknown_key<'a>(
+    outline: &Outline,
+    key: &'a KeyValue,
+    found: &mut Findings,
+) -> Option<&'a str> {
     let name = key.name.as_str();
     if name == "steps" {
         let words = "`steps` is a key of a build, not of the plan";
@@ -69,18 +78,22 @@ fn unknown_key<'a>(outline: &Outline, key: &'a KeyValue, found: &mut Findings) -
     }
     let near = found.nearest(&outline.missing, name);
     match near {
-        Some(near) => did_you_mean(key, near, found),
+        Some(near) => report_misspelled_key(key, near, found),
         None => {
             let all =
                 "the keys of a plan are `pages`, `vmids`, `aux`, `history`, `order` and `build`";
-            no_such_key(key, all, found);
+            report_no_such_key(key, all, found);
         }
     }
     near
 }
 
 // Reports a key of the plan that is written in a build, and returns the key if the plan lacks it.
-fn key_of_plan<'a>(outline: &Outline, key: &'a KeyValue, found: &mut Findings) -> Option<&'a str> {
+fn report_key_of_plan<'a>(
+    outline: &Outline,
+    key: &'a KeyValue,
+    found: &mut Findings,
+) -> Option<&'a str> {
     let name = key.name.as_str();
     let words = "{} is a key of the plan, not of a build";
     found.error(PlanFault::Key, key.key, words, &[Quoted(name)]);
@@ -105,13 +118,13 @@ pub(crate) fn means_steps(build: &Build, found: &mut Findings) -> bool {
     false
 }
 
-fn did_you_mean(key: &KeyValue, near: &str, found: &mut Findings) {
+fn report_misspelled_key(key: &KeyValue, near: &str, found: &mut Findings) {
     let pieces = [Quoted(key.name.as_str()), Quoted(near)];
     let words = "unknown key {}; did you mean {}?";
     found.error(PlanFault::Key, key.key, words, &pieces);
 }
 
-fn no_such_key(key: &KeyValue, all: &str, found: &mut Findings) {
+fn report_no_such_key(key: &KeyValue, all: &str, found: &mut Findings) {
     let pieces = [Quoted(key.name.as_str())];
     found.error(PlanFault::Key, key.key, "unknown key {}", &pieces);
     found.help(all, &[]);
@@ -125,11 +138,12 @@ const NUMBERS: [(&str, i64, i64); 4] = [
     ("history", 16, 16384),
 ];
 
-/// Finds the mistakes in the values of a plan's numeric keys. A missing `pages` is reported too, unless `meant` has it.
-pub(crate) fn numbers(outline: &Outline, meant: MeantKeys, found: &mut Findings) {
+/// Reports the mistakes in the values of a plan's numeric keys. A missing `pages` is reported too, unless `meant` has
+/// it.
+pub(crate) fn report_numbers(outline: &Outline, meant: MeantKeys, found: &mut Findings) {
     for (name, low, high) in &NUMBERS {
         if let Some(value) = outline.value(name) {
-            number(name, *low, *high, value, found);
+            report_number(name, *low, *high, value, found);
         }
     }
     if outline.lacks("pages") && !meant.pages {
@@ -139,9 +153,9 @@ pub(crate) fn numbers(outline: &Outline, meant: MeantKeys, found: &mut Findings)
     }
 }
 
-fn number(name: &str, low: i64, high: i64, value: &Value, found: &mut Findings) {
+fn report_number(name: &str, low: i64, high: i64, value: &Value, found: &mut Findings) {
     match value.as_whole() {
-        None => no_integer(value, found),
+        None => report_no_integer(value, found),
         Some(whole) if low <= whole && whole <= high => {}
         Some(whole) => {
             let pieces = [Quoted(name), Whole(low), Whole(high), Whole(whole)];
@@ -152,7 +166,7 @@ fn number(name: &str, low: i64, high: i64, value: &Value, found: &mut Findings) 
 }
 
 /// Reports a value that should be an integer but is of another kind.
-pub(crate) fn no_integer(value: &Value, found: &mut Findings) {
+pub(crate) fn report_no_integer(value: &Value, found: &mut Findings) {
     report_wrong_kind(value, "an integer", found);
     if let Some(text) = value.as_text() {
         if text.parse::<i64>().is_ok() {

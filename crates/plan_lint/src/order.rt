@@ -1,6 +1,6 @@
 //! The search for mistakes in a plan's `order`, the list of its turns.
 use crate::finding::Findings;
-use crate::keys::{no_integer, report_wrong_kind};
+use crate::keys::{report_no_integer, report_wrong_kind};
 use crate::message_text::Piece::{Count, Plural, Whole, Words};
 use crate::outline::{Outline, Value};
 use realm_plan::{MOST_TURNS, PlanFault};
@@ -15,14 +15,14 @@ struct Stray {
     count: usize,
 }
 
-/// Finds the mistakes in the key `order` of a plan. The number of builds is `None` if it is unknown.
-pub(crate) fn order(
+/// Reports the mistakes in the key `order` of a plan. The number of builds is `None` if it is unknown.
+pub(crate) fn report_order(
     outline: &Outline,
     builds: Option<usize>,
     found: &mut Findings,
 ) -> Result<(), AllocError> {
     match outline.value("order") {
-        Some(value) if value.is_array() => of_turns(outline, builds, found),
+        Some(value) if value.is_array() => report_turns(outline, builds, found),
         Some(value) => {
             report_wrong_kind(value, "an array", found);
             if let Some(whole) = value.as_whole() {
@@ -34,18 +34,18 @@ pub(crate) fn order(
     }
 }
 
-fn of_turns(
+fn report_turns(
     outline: &Outline,
     builds: Option<usize>,
     found: &mut Findings,
 ) -> Result<(), AllocError> {
     for turn in &outline.turns {
         if turn.as_whole().is_none() {
-            no_integer(turn, found);
+            report_no_integer(turn, found);
         }
     }
     if let Some(count) = builds {
-        strays(&outline.turns, count, found)?;
+        report_strays(&outline.turns, count, found)?;
     }
     if let Some(first) = outline.turns.get(MOST_TURNS) {
         let pieces = [Count(MOST_TURNS), Count(outline.turns.len())];
@@ -56,7 +56,7 @@ fn of_turns(
 }
 
 // Reports turns that name missing builds, with one finding for each such build.
-fn strays(turns: &[Value], builds: usize, found: &mut Findings) -> Result<(), AllocError> {
+fn report_strays(turns: &[Value], builds: usize, found: &mut Findings) -> Result<(), AllocError> {
     let mut numbers = BTreeMap::new(found.alloc);
     for (place, turn) in turns.iter().enumerate() {
         if let Some(number) = turn.as_whole() {
@@ -69,7 +69,7 @@ fn strays(turns: &[Value], builds: usize, found: &mut Findings) -> Result<(), Al
     let counts_from_1 = numbers.len() == 1 && counts_from_1(turns, builds);
     for (number, stray) in numbers.iter() {
         if let Some(turn) = turns.get(stray.place) {
-            of_stray(turn, *number, *stray, builds, found);
+            report_stray(turn, *number, *stray, builds, found);
         }
         if counts_from_1 {
             found.help("subtract 1 from each turn", &[]);
@@ -98,7 +98,7 @@ fn counts_from_1(turns: &[Value], builds: usize) -> bool {
 }
 
 // Reports the turns that all name the same missing build.
-fn of_stray(turn: &Value, number: i64, stray: Stray, builds: usize, found: &mut Findings) {
+fn report_stray(turn: &Value, number: i64, stray: Stray, builds: usize, found: &mut Findings) {
     let fault = PlanFault::Order { place: stray.place };
     let verb = if builds == 1 { "is" } else { "are" };
     let pieces = [Whole(number), Words(verb), Count(builds)];

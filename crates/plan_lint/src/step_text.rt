@@ -1,6 +1,6 @@
 //! The search for the first mistake in a string that is not a valid step.
 use crate::finding::{Findings, Span};
-use crate::forms::{ALL_STEPS, Form, OperandKind, WORDS, form_of, step_of_command};
+use crate::forms::{ALL_STEPS, Form, OperandKind, form_of, step_of_command, step_words};
 use crate::message_text::Piece::{self, Count, Number, Quoted, Words};
 use decimal_text::cut_at_space;
 use realm_plan::PlanFault;
@@ -56,8 +56,8 @@ struct Argument<'a> {
     text: &'a str,
 }
 
-/// Finds the first mistake in an invalid step.
-pub(crate) fn of_step(step: &InvalidStep<'_>, found: &mut Findings) {
+/// Reports the first mistake in an invalid step.
+pub(crate) fn report_invalid_step(step: &InvalidStep<'_>, found: &mut Findings) {
     if step.written.is_empty() {
         let words = "expected a step, found an empty string";
         return found.error(step.fault, step.whole, words, &[]);
@@ -67,8 +67,8 @@ pub(crate) fn of_step(step: &InvalidStep<'_>, found: &mut Findings) {
     }
     let (word, rest) = cut_at_space(step.written);
     match form_of(word) {
-        Some(form) => of_arguments(step, &form, rest, found),
-        None => of_word(step, word, found),
+        Some(form) => report_arguments(step, &form, rest, found),
+        None => report_word(step, word, found),
     }
 }
 
@@ -92,11 +92,11 @@ fn stray_blank(bytes: &[u8]) -> Option<(usize, &'static str)> {
 }
 
 // Reports a first word that names no step.
-fn of_word(step: &InvalidStep<'_>, word: &str, found: &mut Findings) {
+fn report_word(step: &InvalidStep<'_>, word: &str, found: &mut Findings) {
     let bare = word.strip_prefix("RMI_").or(word.strip_prefix("rmi_"));
     let meant = match step_of_command(bare.unwrap_or(word)) {
         Some(name) => Some(name),
-        None => found.nearest(&WORDS, word),
+        None => found.nearest(&step_words(), word),
     };
     match meant {
         Some(name) => {
@@ -111,25 +111,31 @@ fn of_word(step: &InvalidStep<'_>, word: &str, found: &mut Findings) {
     }
 }
 
-// Finds the first mistake in the arguments of a step, which are separated by single spaces.
-fn of_arguments(step: &InvalidStep<'_>, form: &Form, rest: &str, found: &mut Findings) {
+// Reports the first mistake in the arguments of a step, which are separated by single spaces.
+fn report_arguments(step: &InvalidStep<'_>, form: &Form, rest: &str, found: &mut Findings) {
     let mut at = form.word.len();
     for (place, text) in rest.split(' ').skip(1).enumerate() {
         at = at.saturating_add(1);
         if place >= form.most {
-            return of_count(step, form, at, rest, found);
+            return report_count(step, form, at, rest, found);
         }
         let kind = form.kinds.get(place).copied().unwrap_or(OperandKind::Page);
         if !is_right(kind, text) {
-            return of_argument(step, &Argument { kind, at, text }, found);
+            return report_argument(step, &Argument { kind, at, text }, found);
         }
         at = at.saturating_add(text.len());
     }
-    of_count(step, form, 0, rest, found)
+    report_count(step, form, 0, rest, found)
 }
 
 // Reports a wrong number of arguments, on the bytes of the step from `from` on.
-fn of_count(step: &InvalidStep<'_>, form: &Form, from: usize, rest: &str, found: &mut Findings) {
+fn report_count(
+    step: &InvalidStep<'_>,
+    form: &Form,
+    from: usize,
+    rest: &str,
+    found: &mut Findings,
+) {
     let len = step.written.len().saturating_sub(from);
     if form.most == 0 {
         let pieces = [Quoted(form.word), Quoted(rest.trim_start())];
@@ -164,7 +170,7 @@ fn has_leading_zero(text: &str) -> bool {
 }
 
 // Reports an argument that is not a decimal number in its range.
-fn of_argument(step: &InvalidStep<'_>, argument: &Argument<'_>, found: &mut Findings) {
+fn report_argument(step: &InvalidStep<'_>, argument: &Argument<'_>, found: &mut Findings) {
     let text = argument.text;
     if let Some(number) = hexadecimal(text) {
         step.error_on(argument, "expected a decimal number, found {}", found);
@@ -182,7 +188,7 @@ fn of_argument(step: &InvalidStep<'_>, argument: &Argument<'_>, found: &mut Find
             found.help("write {}", &[Number(number)]);
         }
     } else {
-        of_range(step, argument, found);
+        report_range(step, argument, found);
     }
 }
 
@@ -213,7 +219,7 @@ fn granule_of(kind: OperandKind, number: u64) -> Option<u64> {
 }
 
 // Reports a number that is too large.
-fn of_range(step: &InvalidStep<'_>, argument: &Argument<'_>, found: &mut Findings) {
+fn report_range(step: &InvalidStep<'_>, argument: &Argument<'_>, found: &mut Findings) {
     let Argument { kind, at, text } = *argument;
     let shown = if text.len() <= LONGEST {
         Words(text)

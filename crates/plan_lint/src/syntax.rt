@@ -1,6 +1,6 @@
 //! Findings on a text that is not valid TOML.
 use crate::finding::{Findings, Span};
-use crate::forms::WORDS;
+use crate::forms::step_words;
 use crate::message_text::Piece::{self, Quoted, Words};
 use realm_plan::PlanFault;
 use std::ops::Range;
@@ -8,7 +8,12 @@ use std::str::from_utf8;
 
 /// Reports the mistake at which the TOML reader stopped. The words are the reader's, unless the mistake is one that
 /// plans have.
-pub(crate) fn syntax(bytes: &[u8], range: Range<usize>, message: &str, found: &mut Findings) {
+pub(crate) fn report_syntax(
+    bytes: &[u8],
+    range: Range<usize>,
+    message: &str,
+    found: &mut Findings,
+) {
     let span = Span {
         start: range.start,
         end: range.end,
@@ -24,26 +29,26 @@ pub(crate) fn syntax(bytes: &[u8], range: Range<usize>, message: &str, found: &m
     };
     let is_in_array = front.trim_end().ends_with('[') || front.trim_end().ends_with(',');
     if is_other_header(before, after) {
-        other_header(span.start, before.trim_start(), after, found);
+        report_header(span.start, before.trim_start(), after, found);
     } else if message == "invalid string" && after.is_empty() {
-        unclosed_string(span.start, before, found);
+        report_unclosed_string(span.start, before, found);
     } else if message == "duplicate key" {
         let key = match after.split_once('=') {
             Some((key, _)) => key.trim_end(),
             None => after,
         };
         let span = Span::new(span.start, key.len());
-        tell(span, "duplicate key {}", &[Quoted(key)], found);
+        report(span, "duplicate key {}", &[Quoted(key)], found);
     } else if is_in_array && !after.starts_with('"') {
-        in_array(span, message, after, found);
+        report_array_item(span, message, after, found);
     } else if before.is_empty() && message.starts_with("missing comma between array elements") {
-        tell(span, "unclosed array, expected `,` or `]`", &[], found);
+        report(span, "unclosed array, expected `,` or `]`", &[], found);
     } else {
-        tell(span, message, &[], found);
+        report(span, message, &[], found);
     }
 }
 
-fn tell(span: Span, words: &str, pieces: &[Piece<'_>], found: &mut Findings) {
+fn report(span: Span, words: &str, pieces: &[Piece<'_>], found: &mut Findings) {
     found.error(PlanFault::Syntax, span, words, pieces);
 }
 
@@ -65,38 +70,38 @@ fn is_other_header(before: &str, after: &str) -> bool {
 }
 
 // Reports a build's header with brackets other than those of `[[build]]`.
-fn other_header(at: usize, before: &str, after: &str, found: &mut Findings) {
+fn report_header(at: usize, before: &str, after: &str, found: &mut Findings) {
     let span = Span::new(
         at.saturating_sub(before.len()),
         before.len().saturating_add(after.len()),
     );
     if before.is_empty() || after.is_empty() {
         let header = if before.is_empty() { after } else { before };
-        tell(
+        report(
             span,
             "expected `[[build]]`, found {}",
             &[Quoted(header)],
             found,
         );
     } else {
-        tell(span, "expected `[[build]]`", &[], found);
+        report(span, "expected `[[build]]`", &[], found);
     }
     found.help("each build begins with a line `[[build]]`", &[]);
 }
 
 // Reports a string that is not closed on its line.
-fn unclosed_string(at: usize, before: &str, found: &mut Findings) {
+fn report_unclosed_string(at: usize, before: &str, found: &mut Findings) {
     let len = match before.rsplit_once(['"', '\'']) {
         Some((front, _)) => before.len().saturating_sub(front.len()),
         None => 0,
     };
     let span = Span::new(at.saturating_sub(len), len);
-    tell(span, "unclosed string", &[], found);
+    report(span, "unclosed string", &[], found);
     found.help("close it by the quote that it began with", &[]);
 }
 
 // Reports an invalid item of an array: a step without quotes, the end of the text, or another text.
-fn in_array(span: Span, message: &str, after: &str, found: &mut Findings) {
+fn report_array_item(span: Span, message: &str, after: &str, found: &mut Findings) {
     let item = match after.split_once([',', ']', '#', '"']) {
         Some((item, _)) => item.trim_end(),
         None => after,
@@ -106,12 +111,12 @@ fn in_array(span: Span, message: &str, after: &str, found: &mut Findings) {
         None => item,
     };
     if after.is_empty() {
-        tell(span, "unclosed array, expected a value or `]`", &[], found);
-    } else if found.nearest(&WORDS, word).is_some() {
+        report(span, "unclosed array, expected a value or `]`", &[], found);
+    } else if found.nearest(&step_words(), word).is_some() {
         let span = Span::new(span.start, item.len());
-        tell(span, "expected a string, found {}", &[Quoted(item)], found);
+        report(span, "expected a string, found {}", &[Quoted(item)], found);
         found.help("write \"{}\"", &[Words(item)]);
     } else {
-        tell(span, message, &[], found);
+        report(span, message, &[], found);
     }
 }

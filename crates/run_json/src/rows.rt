@@ -1,7 +1,7 @@
 //! The rows of a realm's translation tables, by ascending address.
 //!
-//! A walk to level 3 ends at a row that is not TABLE. The first walk is that of IPA granule 0, and each next one is
-//! that of the first after the row before. `specs/Rows.antt` says which rows these are.
+//! A walk to level 3 ends at a row that is not TABLE. The first walk is that of IPA granule 0. Each next walk is that of
+//! the first IPA granule after the previous row. `specs/Rows.antt` says which rows these are.
 ghost use Rattle.std.specs.Prelude.{◌≡◌, ◌+◌, ◌↔◌, false, IsTrue, IfOk, OnOk, IfSome, IfNone, ◌++◌};
 ghost use Rattle.granule_addr.specs.Ipa.{covered_count, first_covered};
 ghost use Rattle.realm_model.specs.Rows.{is_table_place};
