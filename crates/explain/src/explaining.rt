@@ -16,14 +16,6 @@ use realm_host::Host;
 use realm_plan::{Plan, PlanStep, push_idle};
 use std::alloc::{AllocError, Global};
 
-// The number of the build at index `place` of a plan.
-pub(crate) fn id_of(place: usize) -> BuildId
-    requires { place < 8 }
-    ensures { result ≡ place }
-{
-    BuildId::new(place as u8).unwrap()
-}
-
 // Returns the checks up to and including the first failed check.
 fn up_to_failing(alloc: Global, checks: &[Check]) -> Result<Vec<Check>, AllocError>
     ensures { IfOk result (λ front. front.items ≡ up_to_failing checks.now) }
@@ -107,7 +99,7 @@ fn explain_turn<S: PageStore>(
     ensures { IfOk result (λ turn. IsExplainedTurn (plan_view plan.now) (record { host = host.old; places = places.old }) build
         (record { host = host.new; places = places.new }) (report_of turn)) }
 {
-    let id = id_of(build);
+    let id = BuildId::at(build);
     let mut place = places[build];
     let Some(step) = step_after(plan, build, place.done) else {
         return idle_turn(alloc, id);

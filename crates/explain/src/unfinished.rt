@@ -3,7 +3,6 @@ ghost use Rattle.std.specs.Prelude.{◌≡◌, ◌++◌, [], IfOk, OnOk, string_
 ghost use Rattle.std.specs.List.{cons_option, filter_map, flat_map, range_with_len};
 ghost use Rattle.explain.specs.Unfinished.{unfinished_abort, turns_noun, abort_lines};
 
-use crate::explaining::id_of;
 use granule_addr::BuildId;
 use page_arena::PageStore;
 use realm_host::Host;
@@ -53,7 +52,7 @@ pub fn unfinished_aborts<S: PageStore>(
 {
     let mut aborts = Vec::new(alloc);
     for place in 0..8 {
-        add_if(&mut aborts, unfinished_abort(host, id_of(place)))?;
+        add_if(&mut aborts, unfinished_abort(host, BuildId::at(place)))?;
     }
     Ok(aborts)
 }

@@ -30,6 +30,14 @@ impl BuildId {
         }
     }
 
+    /// Returns the build with a given index in a plan. A plan counts its builds from 0.
+    pub fn at(place: usize) -> BuildId
+        requires { place < 8 }
+        ensures { result ≡ place }
+    {
+        BuildId(place as u8)
+    }
+
     pub fn number(self) -> u8
         ensures value { result ≡ self }
         ensures below { result < 8 }

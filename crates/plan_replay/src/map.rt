@@ -2,7 +2,6 @@
 ghost use Rattle.std.specs.Prelude.{◌≡◌, ◌++◌, OnOk, IfOk, string_bytes};
 ghost use Rattle.plan_replay.specs.Run.{pages_text, build_text, map_text};
 
-use crate::turn::id_of;
 use granule_addr::BuildId;
 use page_arena::PageStore;
 use realm_host::Host;
@@ -46,7 +45,7 @@ pub fn push_map<S: PageStore>(text: &mut String, host: &Host<S>) -> Result<(), A
     ensures { OnOk result (string_bytes text.new ≡ string_bytes text.old ++ map_text host.now) }
 {
     for place in 0..8 {
-        push_build(text, host, id_of(place))?;
+        push_build(text, host, BuildId::at(place))?;
     }
     push_free(text, host.free_count())
 }

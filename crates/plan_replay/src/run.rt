@@ -6,7 +6,8 @@ ghost use Rattle.plan_replay.specs.Run.{given_up, step_numbered, step_after as n
 
 use crate::answer::{TurnAnswer, push_turn};
 use crate::place::{GIVING_UP, PlanCursor};
-use crate::turn::{id_of, plan_turn};
+use crate::turn::plan_turn;
+use granule_addr::BuildId;
 use page_arena::PageStore;
 use realm_host::Host;
 use realm_plan::{Plan, PlanStep, push_idle};
@@ -59,7 +60,7 @@ pub fn take_turn<'a, S: PageStore>(
 {
     let mut place = places[build];
     let step = step_after(plan, build, place.done)?;
-    let answer = plan_turn(host, id_of(build), &mut place, step);
+    let answer = plan_turn(host, BuildId::at(build), &mut place, step);
     place.move_on(plan.gives_up, &answer);
     places[build] = place;
     Some((step, answer))
@@ -80,8 +81,8 @@ fn turn<S: PageStore>(
         (record { host = host.new; places = places.new }) (string_bytes text.old) (string_bytes text.new)) }
 {
     match take_turn(host, plan, places, build) {
-        Some((step, answer)) => push_turn(text, id_of(build), step, answer),
-        None => push_idle(text, id_of(build)),
+        Some((step, answer)) => push_turn(text, BuildId::at(build), step, answer),
+        None => push_idle(text, BuildId::at(build)),
     }
 }
 

@@ -1,5 +1,5 @@
 //! Functions that perform one turn of a plan's schedule, for each kind of step.
-ghost use Rattle.std.specs.Prelude.{◌≡◌, ◌<◌};
+ghost use Rattle.std.specs.Prelude.{◌≡◌};
 ghost use Rattle.realm_plan.specs.Asked.{asked};
 ghost use Rattle.plan_replay.specs.Turn.{undos_to_go, IsCommandTurn, IsUndoTurn, IsMarkTurn, IsOneOfMany, IsTurnOfMany, IsToAbort, IsAbortTurn, IsStepTurn};
 
@@ -165,12 +165,4 @@ pub fn plan_turn<S: PageStore>(
         PlanStep::Whole(step) => step_turn(host, build, place, step),
         PlanStep::WidthLeftOut { .. } => step_turn(host, build, place, &step.asked()),
     }
-}
-
-/// Returns the identifier of the build with a given index in a plan.
-pub(crate) fn id_of(place: usize) -> BuildId
-    requires { place < 8 }
-    ensures { result ≡ place }
-{
-    BuildId::new(place as u8).unwrap()
 }

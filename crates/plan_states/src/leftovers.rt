@@ -44,7 +44,7 @@ pub fn leave_nothing(
     ensures { IfOk result (λ all. all ≡ true) }
 {
     for place in 0..plan.builds.len() {
-        let build = BuildId::new(place as u8).unwrap();
+        let build = BuildId::at(place);
         let is_at_rest = ledger.open_above(build, 0).is_empty();
         if is_at_rest && !is_unseen(alloc, plan, ledger, build, map)? {
             return Ok(false);

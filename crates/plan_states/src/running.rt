@@ -84,7 +84,7 @@ fn vmid_of<S: PageStore>(host: &Host<S>, build: usize) -> Option<u8>
     requires { build < 8 }
     ensures { result ≡ option_map (λ realm. realm.1) (realm_at (world_of host.now) build) }
 {
-    match host.realm_view(BuildId::new(build as u8).unwrap()) {
+    match host.realm_view(BuildId::at(build)) {
         Some((_state, vmid)) => Some(vmid.number()),
         None => None,
     }
@@ -95,7 +95,7 @@ pub(crate) fn pages_of<S: PageStore>(host: &Host<S>, build: usize) -> u16
     requires { build < 8 }
     ensures { result ≡ length (pages_of_build host.now build) }
 {
-    host.page_count(BuildId::new(build as u8).unwrap())
+    host.page_count(BuildId::at(build))
 }
 
 // Runs a plan in a given schedule, from boot on. `Mismatch`: some turn is of a build that has no step left then.

@@ -69,7 +69,7 @@ fn kept_mark<S: PageStore>(host: &Host<S>, build: usize) -> Option<Mark>
     requires { build < 8 }
     ensures { result ≡ mark_of host.now build }
 {
-    let id = BuildId::new(build as u8).unwrap();
+    let id = BuildId::at(build);
     let ledger = host.ledger();
     if ledger.has_build(id) {
         ledger.mark(id)
@@ -83,7 +83,7 @@ fn is_aborting<S: PageStore>(host: &Host<S>, build: usize) -> bool
     requires { build < 8 }
     ensures { result ≡ is_aborting host.now build }
 {
-    let id = BuildId::new(build as u8).unwrap();
+    let id = BuildId::at(build);
     let ledger = host.ledger();
     if ledger.has_build(id) {
         BuildsView::is_aborting(ledger, id)

@@ -69,7 +69,7 @@ pub(crate) fn build_ids_of(alloc: Global, builds: &[usize]) -> Result<Vec<BuildI
 {
     let mut turns = Vec::with_capacity(alloc, builds.len())?;
     for build in builds {
-        turns.push(BuildId::new(*build as u8).unwrap())?;
+        turns.push(BuildId::at(*build))?;
     }
     Ok(turns)
 }

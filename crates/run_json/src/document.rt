@@ -3,9 +3,9 @@ ghost use Rattle.std.specs.Prelude.{◌≡◌, ◌<◌, OnOk, IfOk, vec_len};
 ghost use Rattle.realm_plan.specs.PlanView.{plan_view};
 ghost use Rattle.run_json.specs.Document.{settings_of, AddsTurnItem, HasTurnItems, IsDocument};
 
-use crate::build_id::id_of;
 use crate::turn::{TurnItem, step_of, turn_item};
 use crate::world::{WorldItem, world_item};
+use granule_addr::BuildId;
 use page_arena::PageStore;
 use plan_replay::{PlanCursor, take_turn};
 use realm_host::Host;
@@ -73,7 +73,7 @@ fn push_turn<S: PageStore>(
     let (place, before) = (places[build].done, host.history().len());
     let told = take_turn(host, plan, places, build);
     let step = step_of(alloc, place, &told)?;
-    let item = turn_item(alloc, host, id_of(build as u8), step, before)?;
+    let item = turn_item(alloc, host, BuildId::at(build), step, before)?;
     items.push(item)?;
     Ok(())
 }

@@ -7,7 +7,6 @@
 #![tactic(auto)]
 
 mod answer;
-mod build_id;
 mod changed;
 mod document;
 mod items;

@@ -3,7 +3,6 @@ ghost use Rattle.std.specs.Prelude.{◌≡◌, IfOk, length};
 ghost use Rattle.host_ledger.specs.View.{pages_of_build};
 ghost use Rattle.run_json.specs.Worlds.{all_granules, page_items, open_lines, AreRecItems, IsRealmContents, IsBuildItem, AreBuildItems, IsWorldItem};
 
-use crate::build_id::id_of;
 use crate::items::{GranuleItem, PageItem, RecItem, RowItem, page_item, rec_item};
 use crate::json::member;
 use crate::kept::{BuildKept, build_kept};
@@ -211,7 +210,7 @@ fn builds_of<S: PageStore>(alloc: Global, host: &Host<S>) -> Result<Vec<BuildIte
 {
     let mut items = Vec::new(alloc);
     for number in 0..host.build_count() {
-        let item = build_item(alloc, host, id_of(number))?;
+        let item = build_item(alloc, host, BuildId::at(number as usize))?;
         items.push(item)?;
     }
     Ok(items)

@@ -1,5 +1,5 @@
 //! The browser pages that show the runs of plans.
-ghost use Rattle.std.specs.Prelude.{◌≡◌, ◌<◌, None, IfOk, vec_len};
+ghost use Rattle.std.specs.Prelude.{◌≡◌, None, IfOk, vec_len};
 ghost use Rattle.realm_plan.specs.PlanView.{plan_view};
 ghost use Rattle.realm_host.specs.Recorded.{fresh_like, IsWithout};
 ghost use Rattle.realm_program.specs.Replay.{opening_host, IsWithoutText};
@@ -38,14 +38,6 @@ impl Drop for PageData {
             title: _,
         } = self;
     }
-}
-
-// The build with the given index in the plan.
-fn id_of(place: usize) -> BuildId
-    requires { place < 8 }
-    ensures { result ≡ place }
-{
-    BuildId::new(place as u8).unwrap()
 }
 
 // A new host of the plan whose history is the ledger's without a build's events.
@@ -88,7 +80,7 @@ fn worlds_without(
 {
     let mut worlds = Vec::new(alloc);
     for place in 0..plan.builds.len() {
-        let world = world_without(alloc, plan, ledger, id_of(place))?;
+        let world = world_without(alloc, plan, ledger, BuildId::at(place))?;
         worlds.push(world)?;
     }
     Ok(worlds)

@@ -9,7 +9,7 @@ pub loop-place-preserved : goal.loop-place-preserved
 loop-place-preserved g c =
     let f = unfinished_abort c.args.host.now in
     let n = c.loop-place.place in
-    let is = c.unfinished_abort.ensures ∙ ap f c.id_of.ensures in
+    let is = c.unfinished_abort.ensures ∙ ap f c.at.ensures in
     c.in_ok-add_if.ensures
     ∙ (λ i. c.loop-place.invariant i ++ cons_option (is i) [])
     ∙ sym (filter_map-append f (range_with_len 0 n) (n ∷ []))

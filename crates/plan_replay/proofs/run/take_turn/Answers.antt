@@ -7,5 +7,5 @@ use Rattle.plan_replay.proofs.run.take_turn.Goals as goal
 pub move_on-requires : goal.move_on-requires
 move_on-requires g c =
     subst (λ done. done ≤ giving_up)
-    (sym (same_done c.args.host.now c.id_of.result _ (asked c.in_ok-step.step.now) c.plan_turn-answer.result c.plan_turn-answer.new.host c.plan_turn-answer.new.place c.plan_turn-answer.ensures))
+    (sym (same_done c.args.host.now c.at.result _ (asked c.in_ok-step.step.now) c.plan_turn-answer.result c.plan_turn-answer.new.host c.plan_turn-answer.new.place c.plan_turn-answer.ensures))
     c.in_ok-step.ensures.few

@@ -18,12 +18,12 @@ returns g c =
         turn = record { build = build; told = told };
         of_build = refl;
         is_turn = c.take_turn-told.ensures;
-        build_is = c.in_ok-item.ensures.turn.0 ∙ c.id_of.ensures;
+        build_is = c.in_ok-item.ensures.turn.0 ∙ c.at.ensures;
         step_is =
             ap (option_map _) c.in_ok-item.ensures.turn.1 ∙ c.in_ok-step.ensures
             ∙ ap (λ place. option_map (placed place) told) (ap (λ it. it.done) same);
         after = subst (λ n. IsAfterTurn host build n item) (ap length c.history.ensures.events)
-            (subst (λ b. IsAfterTurn host b (length c.history.result.now) item) c.id_of.ensures c.in_ok-item.ensures.after);
+            (subst (λ b. IsAfterTurn host b (length c.history.result.now) item) c.at.ensures c.in_ok-item.ensures.after);
       };
       appended = c.in_ok-push.ensures.items;
     }

@@ -7,4 +7,4 @@ pub loop-number-preserved : goal.loop-number-preserved
 loop-number-preserved g c =
     each_more (IsBuildItem c.args.host.now) c.loop-number.number c.loop-number.items.items c.push.new.self.items c.in_ok-item.item
     c.loop-number.invariant c.in_ok-push.ensures.items
-    (subst (λ build. IsBuildItem c.args.host.now build c.in_ok-item.item) c.id_of.ensures c.in_ok-item.ensures)
+    (subst (λ build. IsBuildItem c.args.host.now build c.in_ok-item.item) c.at.ensures c.in_ok-item.ensures)

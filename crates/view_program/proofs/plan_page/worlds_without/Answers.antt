@@ -7,4 +7,4 @@ pub loop-place-preserved : goal.loop-place-preserved
 loop-place-preserved c =
     each_more (IsWithoutWorld c.args.ledger.now) c.loop-place.place c.loop-place.worlds.items c.push.new.self.items c.in_ok-world.world
     c.loop-place.invariant c.in_ok-push.ensures.items
-    (subst (λ build. IsWithoutWorld c.args.ledger.now build c.in_ok-world.world) c.id_of.ensures c.in_ok-world.ensures)
+    (subst (λ build. IsWithoutWorld c.args.ledger.now build c.in_ok-world.world) c.at.ensures c.in_ok-world.ensures)
