@@ -186,6 +186,16 @@ def test_check(path):
     assert run(VIEW, ["check"], path.with_suffix(".toml").read_bytes()) == (int(head.split()[1]), out, b"")
 
 
+def test_control_characters(check):
+    """No report shows a control character of ASCII: neither as a byte of the plan, nor as an escape in a string."""
+    for code in (*range(9), *range(11, 32), 127):
+        for plan in (f"pages = 1 {chr(code)}[2J\n", f'pages = 1\n"{chr(code)}[2J" = 1\n', f'pages = 1\n"\\u{code:04x}[2J" = 1\n',
+                     f'pages = 1\n[[build]]\nsteps = ["\\u{code:04x}[2J"]\n'):  # fmt: skip
+            status, out, err = run(VIEW, ["check"], plan)
+            shown = [it for it in out if ord(it) < 32 or ord(it) == 127]
+            check(repr(plan), (status != 0, set(shown), err), (True, {"\n"}, ""))
+
+
 @over("path", "tests/reasons")
 def test_why(path):
     assert run(VIEW, ["why"], path.read_bytes()) == (0, path.with_suffix(".txt").read_bytes(), b"")

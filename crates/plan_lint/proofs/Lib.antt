@@ -1,2 +1,3 @@
+pub mod Excerpts
 pub mod Moved
 pub mod ReportLines

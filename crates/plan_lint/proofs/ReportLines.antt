@@ -7,7 +7,7 @@ use Rattle.realm_plan.specs.Plan.{Plan, plan_of}
 use Rattle.realm_plan.specs.declared.fault.PlanFault.{PlanFault}
 use Rattle.plan_lint.specs.Findings.{size_in, IsJudged}
 use Rattle.plan_lint.specs.Lines.{head_line, size_text, IsFindingText, AreFindingTexts, AppendsFinding, AppendsFindings}
-use Rattle.plan_lint.specs.Shown.{plain_text, plain_line}
+use Rattle.plan_lint.specs.Shown.{plain_text, plain_line, IsExcerpt}
 use Rattle.plan_lint.specs.Texts.{IsReport}
 use Rattle.plan_lint.specs.declared.finding.Finding.{Finding}
 use Rattle.plan_lint.specs.declared.judging.Judged.{Judged}
@@ -35,16 +35,17 @@ is_some-size_in (Err fault) = refl
 
 -- the text of a finding, by its parts
 pub finding_by_parts : (source : List ℕ) (f : Finding) (line column : ℕ) (excerpt old one two new : List ℕ)
+    → IsExcerpt excerpt
     → one ≡ old ++ head_line source line column f
     → two ≡ one ++ excerpt
     → new ≡ two ++ flat_map (λ note. plain_line (string_bytes note)) f.notes.items
     → AppendsFinding source f old new
-finding_by_parts source f line column excerpt old one two new first second last =
+finding_by_parts source f line column excerpt old one two new is_excerpt first second last =
     let head = head_line source line column f in
     let notes = flat_map (λ note. plain_line (string_bytes note)) f.notes.items in
     record {
       text = head ++ (excerpt ++ notes);
-      is_text = record { line = line; column = column; excerpt = excerpt; whole = refl };
+      is_text = record { line = line; column = column; excerpt = excerpt; is_excerpt = is_excerpt; whole = refl };
       appended = last ∙ ap (λ (t : List ℕ). t ++ notes) second ∙ append_assoc one excerpt notes
           ∙ ap (λ (t : List ℕ). t ++ (excerpt ++ notes)) first ∙ append_assoc old head (excerpt ++ notes);
     }

@@ -2,7 +2,7 @@
 use Rattle.std.specs.Prelude.{◌≡◌, ℕ, ◌==◌, List, [], ◌∷◌, ◌++◌, codes, string_bytes, Option, Some, None, if◌then◌else◌}
 use Rattle.std.specs.Fmt.{decimal}
 use Rattle.std.specs.List.{flat_map}
-use Rattle.plan_lint.specs.Shown.{plain_line}
+use Rattle.plan_lint.specs.Shown.{plain_line, IsExcerpt}
 use Rattle.plan_lint.specs.declared.finding.Finding.{Finding}
 use Rattle.plan_lint.specs.declared.finding.Severity.{Severity}
 use Rattle.plan_lint.specs.declared.finding.Severity.TheVariants.{Error, Warning}
@@ -19,11 +19,12 @@ abbrev pub head_line : List ℕ → ℕ → ℕ → Finding → List ℕ
 head_line source line column f =
     source ++ (58 ∷ decimal line ++ (58 ∷ decimal column ++ (codes ": " ++ (severity_word f.severity ++ (codes ": " ++ plain_line (string_bytes f.words))))))
 
--- The text of a finding: its head at some place, some excerpt, and each note as a line.
+-- The text of a finding: its head at some place, an excerpt of some bytes, and each note as a line.
 pub record IsFindingText (source : List ℕ) (f : Finding) (text : List ℕ) : Type 0 where
   pub line : ℕ
   pub column : ℕ
   pub excerpt : List ℕ
+  pub is_excerpt : IsExcerpt excerpt
   pub whole : text ≡ head_line source line column f ++ (excerpt ++ flat_map (λ note. plain_line (string_bytes note)) f.notes.items)
 
 -- such texts, one after the other

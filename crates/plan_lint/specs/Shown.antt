@@ -1,5 +1,5 @@
 -- Bytes of any kind as one line of text.
-use Rattle.std.specs.Prelude.{ℕ, ◌==◌, ◌||◌, nat_lt, List, [], ◌∷◌, ◌++◌, map, if◌then◌else◌}
+use Rattle.std.specs.Prelude.{◌≡◌, ℕ, ◌==◌, ◌||◌, nat_lt, List, [], ◌∷◌, ◌++◌, map, replicate, if◌then◌else◌}
 use Rattle.std.specs.Str.Lossy.{utf8_lossy}
 
 -- a space for a control character
@@ -12,3 +12,16 @@ plain_text bytes = utf8_lossy (map shown_byte bytes)
 
 abbrev pub plain_line : List ℕ → List ℕ
 plain_line bytes = plain_text bytes ++ 10 ∷ []
+
+-- ---- an excerpt
+
+abbrev pub caret_line : ℕ → ℕ → List ℕ
+caret_line before count = replicate before 32 ++ (replicate count 94 ++ 10 ∷ [])
+
+-- Some bytes as one line of text, and below it a line of carets. Which bytes these are is in no definition.
+pub record IsExcerpt (text : List ℕ) : Type 0 where
+  pub front : List ℕ
+  pub back : List ℕ
+  pub before : ℕ
+  pub count : ℕ
+  pub whole : text ≡ plain_text front ++ (plain_text back ++ 10 ∷ caret_line before count)

@@ -1,6 +1,6 @@
 //! Positions in a text, and excerpts of a text. An excerpt is a line with carets under a part of the line.
-ghost use Rattle.std.specs.Prelude.{◌≡◌, IfOk, string_bytes};
-ghost use Rattle.plan_lint.specs.Shown.{shown_byte, plain_text};
+ghost use Rattle.std.specs.Prelude.{◌≡◌, ◌++◌, ◌<◌, max, replicate, IfOk, OnOk, string_bytes};
+ghost use Rattle.plan_lint.specs.Shown.{shown_byte, plain_text, caret_line, IsExcerpt};
 
 use std::alloc::{AllocError, Global};
 
@@ -111,15 +111,25 @@ fn char_count(text: &str) -> usize {
     count
 }
 
-// Appends `before` spaces, and then `count` carets, or one caret if `count` is 0.
-fn push_carets(text: &mut String, before: usize, count: usize) -> Result<(), AllocError> {
-    for _ in 0..before {
-        text.push(' ')?;
+// Appends an ASCII character `count` times.
+fn push_repeated(text: &mut String, letter: char, count: usize) -> Result<(), AllocError>
+    requires { letter < 128 }
+    ensures { OnOk result (string_bytes text.new ≡ string_bytes text.old ++ replicate count letter) }
+{
+    for number in 0..count {
+        text.push(letter)?;
     }
-    for _ in 0..count.max(1) {
-        text.push('^')?;
-    }
-    text.push('\n')
+    Ok(())
+}
+
+// Appends a line of `before` spaces, and then `count` carets, or one caret if `count` is 0.
+fn push_carets(text: &mut String, before: usize, count: usize) -> Result<(), AllocError>
+    ensures { OnOk result (string_bytes text.new ≡ string_bytes text.old ++ caret_line before (max count 1)) }
+{
+    push_repeated(text, ' ', before)?;
+    push_repeated(text, '^', count.max(1))?;
+    text.push('\n')?;
+    Ok(())
 }
 
 /// Returns an excerpt of a line, with carets under a part of it. The line is `front` followed by `back`, and the carets
@@ -129,7 +139,9 @@ pub(crate) fn excerpt_of(
     front: &[u8],
     back: &[u8],
     len: usize,
-) -> Result<String, AllocError> {
+) -> Result<String, AllocError>
+    ensures { IfOk result (λ text. IsExcerpt (string_bytes text)) }
+{
     let front = plain_text(alloc, &shown_front(alloc, front)?)?;
     let back = shown_back(alloc, back)?;
     let shown = plain_text(alloc, &back)?;
