@@ -1,4 +1,4 @@
--- What other builds did decides no refusal of a call that needs no block and no VMID.
+-- Refusals of calls that need no block and no VMID. Other builds' operations do not decide them.
 use Rattle.std.proofs.Common.{◌≡◌, ℕ, ◌+◌, ◌-◌, Bool, true, false, not, List, [], ◌∷◌, ◌++◌, map, length, Option, Some, None, refl, sym, ap, ◌∙◌, eq-eqb}
 use Rattle.std.specs.Prelude.{nat_le, nat_lt, is_some, slice_get, slice_index, option_map, option_and_then}
 use Rattle.std.specs.List.{last_or, list_all, cons_option, filter_map, flat_map}

@@ -29,7 +29,8 @@ fn has_paths(counts: &[PathNumber], state: usize) -> bool
     }
 }
 
-// Whether an accepted path can continue along an edge.
+// Whether a path that is sought continues along an edge. `shown` is whether an earlier edge has the property; the
+// counts are those of the next layer.
 fn goes_on<L, S: LabelProperty<L>>(
     edge: &Edge<L>,
     property: &S,
@@ -46,7 +47,7 @@ fn goes_on<L, S: LabelProperty<L>>(
     }
 }
 
-// The first edge along which an accepted path can continue, if there is one.
+// The first edge along which a path that is sought continues, if there is one.
 fn next_edge<'a, L, S: LabelProperty<L>>(
     edges: &'a [Edge<L>],
     property: &S,
@@ -75,8 +76,9 @@ fn edges_at<L>(layer: &[Vec<Edge<L>>], state: usize) -> &[Edge<L>]
     }
 }
 
-// Returns the labels of the first accepted path from the first state. `accept` decides by whether a path shows the
-// property. `with_it` counts the accepted paths once the property was shown, and `without_it` before.
+// Returns the labels of the first accepted path from the first state. In the contract, `accept` says whether paths that
+// show the property are accepted, and whether other paths are. `with_it` counts a state's accepted paths if the
+// property was shown before the state, and `without_it` if not.
 fn walk<L: Copy, S: LabelProperty<L>>(
     alloc: Global,
     layers: &[Vec<Vec<Edge<L>>>],

@@ -21,7 +21,7 @@ pub trait LabelProperty<L> {
         ensures { result ≡ holds_for self.now label.now };
 }
 
-// Adds the count of a state, if there is such a state.
+// Adds a state's path count to `sum`. A missing state adds nothing.
 fn add_at(sum: &mut PathNumber, counts: &[PathNumber], state: usize) -> Result<(), AllocError>
     ensures { OnOk result (sum.new ≡ sum.old + count_at counts.now state) }
 {

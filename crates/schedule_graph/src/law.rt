@@ -25,9 +25,9 @@ pub fn a_state_decides_its_turns()
     ensures map { (one other : Position) → AreOneState one other → map_text other.host ≡ map_text one.host }
 {}
 
-/// Proves that other builds do not affect calls that need no block and no VMID. Take hosts of the same machine on which
-/// the build did the same, and is in abort on both or neither. There a call has the same refusal, and a command the
-/// same operation.
+/// Proves that other builds do not affect calls that need no block and no VMID. On two hosts of one machine, let a
+/// build have the same events, and be in abort on both or neither. Then both hosts give each such call the same
+/// refusal, and each such command the same operation.
 pub fn a_build_decides_its_own_calls()
     ensures refusal { (build : ℕ) (host twin : HostView) (call : Call) → DidTheSameAlone build host twin → NeedsNothingShared call
         → refusal_of twin build call ≡ refusal_of host build call }

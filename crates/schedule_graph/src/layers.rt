@@ -1,4 +1,4 @@
-//! Counts the paths from each state of each layer of a graph.
+//! The path counts of all layers of a graph. The last layer is counted first.
 ghost use Rattle.std.specs.Prelude.{◌≡◌, IfOk};
 ghost use Rattle.schedule_graph.specs.First.{layers_in, path_numbers_in, any_path, shows_none, ArePathNumbers};
 ghost use Rattle.schedule_graph.specs.Paths.{shows};
@@ -26,7 +26,7 @@ pub fn count_all<L>(
     Ok(counts)
 }
 
-/// Counts, for each state of each layer, its paths on which some label has `property`. `all` has the numbers of all
+/// Counts, for each state of each layer, its paths on which some label has `property`. `all` has the counts of all
 /// paths. The one error is that allocation failed.
 pub fn count_all_with<L, S: LabelProperty<L>>(
     alloc: Global,

@@ -5,7 +5,8 @@ ghost use Rattle.schedule_graph.specs.Number.{number_of, trimmed, numeral};
 use std::alloc::{AllocError, Global};
 use std::marker::Model;
 
-/// A natural number of any size, kept as its decimal digits. The lowest digit is first. The view is the number.
+/// A natural number of any size, kept as its decimal digits. The least significant digit is first. The view is the
+/// number.
 #[derive(Drop)]
 pub struct Count {
     digits: Vec<u8>,
@@ -100,7 +101,7 @@ fn add_digits(digits: &mut Vec<u8>, more: &[u8]) -> Result<(), AllocError>
     Ok(())
 }
 
-// The digits without the zeros at the high end.
+// The digits without leading zeros.
 fn trimmed(digits: &[u8]) -> &[u8]
     ensures { result.now ≡ trimmed digits.now }
 {
@@ -113,7 +114,7 @@ fn trimmed(digits: &[u8]) -> &[u8]
     &digits[..count]
 }
 
-// Appends digits to a text, the highest first.
+// Appends digits to a text, the most significant first.
 fn push_digits(text: &mut String, digits: &[u8]) -> Result<(), AllocError>
     requires { All (λ digit. digit < 10) digits.now }
     ensures { OnOk result (string_bytes text.new ≡ string_bytes text.old ++ map (λ digit. 48 + digit) (reverse digits.now)) }
@@ -175,14 +176,14 @@ impl Count {
         Ok(shifted)
     }
 
-    /// Adds 1 to the number. At an `Err` allocation failed, and the number may be any.
+    /// Adds 1 to the number. The one error is that allocation failed; the number is then unspecified.
     pub fn add_one(&mut self) -> Result<(), AllocError>
         ensures { OnOk result (self.new ≡ self.old + 1) }
     {
         add_at(&mut self.digits, 0, 1)
     }
 
-    /// Adds another number to this one. At an `Err` allocation failed, and the number may be any.
+    /// Adds another number to this one. The one error is that allocation failed; the number is then unspecified.
     pub fn add(&mut self, other: &Count) -> Result<(), AllocError>
         ensures { OnOk result (self.new ≡ self.old + other.now) }
     {
@@ -203,7 +204,8 @@ impl Count {
         trimmed(&self.digits) == trimmed(&other.digits)
     }
 
-    /// Appends the number to a text, in decimal. At an `Err` allocation failed, and the text may have a part of it.
+    /// Appends the number to a text, in decimal. The one error is that allocation failed; the text may then have a part
+    /// of the number.
     pub fn push_to(&self, text: &mut String) -> Result<(), AllocError>
         ensures { OnOk result (string_bytes text.new ≡ string_bytes text.old ++ numeral self.now) }
     {

@@ -5,8 +5,8 @@ use crate::number::Count;
 use std::alloc::{AllocError, Global};
 use std::marker::Model;
 
-/// A natural number of any size, used to count the paths of a graph. Stored as its remainder and quotient on division
-/// by 2^128. Seen as the number.
+/// A natural number of any size, used to count the paths of a graph. The fields are the remainder and the quotient on
+/// division by 2^128. The view is the number.
 #[derive(Drop)]
 pub struct PathNumber {
     low: u128,
@@ -42,7 +42,7 @@ impl PathNumber {
         }
     }
 
-    /// Adds `other` to the number. At an `Err` allocation failed, and the number may be any.
+    /// Adds `other` to the number. The one error is that allocation failed; the number is then unspecified.
     pub fn add(&mut self, other: &PathNumber) -> Result<(), AllocError>
         ensures { OnOk result (self.new ≡ self.old + other.now) }
     {
