@@ -10,7 +10,7 @@ use Rattle.plan_states.specs.declared.question.TurnQuestion.{TurnQuestion}
 use Rattle.plan_states.specs.declared.question.TurnQuestion.TheVariants.{Refused, Waiting, Leased}
 use Rattle.plan_states.specs.declared.step_end.EndOfStep.{EndOfStep}
 
--- how many pages each build of a host holds
+-- the number of pages that each build of a host holds
 abbrev pub pages_of_builds : HostView → List ℕ
 pages_of_builds host = map (λ build. length (pages_of_build host build)) (range_with_len 0 8)
 

@@ -57,8 +57,8 @@ struct FirstArrival {
     build: usize,
 }
 
-// A state of a layer: its index, the index of the pages that builds hold, and the index of the final map if schedules
-// end in the state.
+// A state of a layer: its index `to`, and the indices of the builds' page counts and of the final map. `map` is `None`
+// if schedules go on from the state.
 #[derive(Clone, Copy)]
 struct Target {
     to: usize,
@@ -390,8 +390,9 @@ fn search(alloc: Global, plan: &Plan, most: usize) -> Result<Option<Graph>, Faul
 /// Creates and checks the state graph of a plan's schedules. Returns the whole graph, or `TooMany` if it has more than
 /// `most` states. Each path of the graph is a run of the plan.
 ///
-/// Errors. `Memory`: allocation failed. `Mismatch`: a run does not go on as another run said, a turn is missing in the
-/// graph, or an end or a map is there twice. None happens on a host that gives the same answers to the same calls.
+/// Errors. `Memory`: allocation failed. `Mismatch`: a run contradicts an earlier run, a turn is missing in the graph,
+/// or the graph lists a step outcome or a map twice. No mismatch happens on a host that gives the same answers to the
+/// same calls.
 pub fn explore(alloc: Global, plan: &Plan, most: usize) -> Result<Exploration, Fault>
     ensures ok { IfOk result (IsExploration (plan_view plan.now) most) }
     ensures err { IfErr result HasNoGraph }

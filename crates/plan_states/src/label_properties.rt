@@ -52,7 +52,7 @@ pub(crate) struct HasRefusal<'a> {
     pub(crate) build: Option<usize>,
 }
 
-// Whether a property is about a build. It is if it names that build, or no build.
+// Whether `asked` is `build`, or is `None`, which means every build.
 fn is_asked(asked: Option<usize>, build: usize) -> bool
     ensures { result ≡ is_asked asked build }
 {

@@ -22,8 +22,9 @@ pub fn every_schedule_is_a_path()
 {}
 
 /// Proves that a state graph's paths give the same list of schedules as a scheduling rule. This holds if the graph is
-/// whole and the rule agrees with its paths. The rule's list may have schedules of more turns than the graph has
-/// layers, but there are none. So a sum over the paths is the sum over all schedules.
+/// whole and the rule agrees with its paths. The list has the rule's schedules of at most `most` turns. Any `most` that
+/// is at least the number of layers less one gives the same list. So a sum over the paths is the sum over all
+/// schedules.
 pub fn paths_are_all_schedules()
     ensures { (plan : Plan) (graph : Graph) (left : List ℕ → ℕ → Bool) → IsWholeGraph plan graph → IsRuleOf plan graph left
         → (most : ℕ) → length graph.layers.items ≤ most + 1 → map builds_of_path (paths_of graph) ≡ schedules_after left most [] }
@@ -39,8 +40,8 @@ pub fn path_schedules_rise()
 {}
 
 /// Proves that each state graph without missing turns has a matching scheduling rule. The rule agrees with the graph's
-/// paths. After given turns, a build has a step left by the number that these turns lead to in the graph. So of any
-/// plan the paths are all schedules by this rule.
+/// paths. By this rule, a build has a step left after given turns if it has one in the state to which these turns lead.
+/// So of any plan the paths are all schedules by this rule.
 pub fn a_whole_graph_has_a_rule()
     ensures { (plan : Plan) (graph : Graph) → IsWholeGraph plan graph → IsRuleOf plan graph (own_rule plan graph) }
 {}
@@ -51,10 +52,9 @@ pub fn steps_are_counted()
     ensures { (plan : Plan) (graph : Graph) (path : Path Label) (build : ℕ) → plan.gives_up ≡ false → done_by plan graph path build ≡ used_by path build }
 {}
 
-/// Proves that counting a build's turns shows whether it has a step left. This holds if each step takes one turn, and
-/// gives a scheduling rule. Each step takes one turn if the plan has no step `abort` or `back`, and its builds do not
-/// give up. Then a build has a step left if it had fewer turns than steps. So the paths of a whole graph are all
-/// interleavings of the builds' steps.
+/// Proves that counting turns is a scheduling rule for a plan whose steps each take one turn. Each step takes one turn
+/// if the plan has no step `abort` or `back`, and its builds do not give up. Then a build has a step left if it had
+/// fewer turns than steps. So the paths of a whole graph are all interleavings of the builds' steps.
 pub fn single_turns_make_a_rule()
     ensures { (plan : Plan) (graph : Graph) → IsWholeGraph plan graph → HasSingleTurns plan → IsRuleOf plan graph (by_turns plan) }
 {}

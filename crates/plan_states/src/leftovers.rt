@@ -24,7 +24,7 @@ fn is_unseen(
     requires { opening_host (plan_view plan.now) ≡ fresh_like ledger.now }
     ensures { IfOk result (λ unseen. map.now ≡ map_text ledger.now → open_of ledger.now build ≡ [] → unseen ≡ true) }
 {
-    // (the theorem is about legal histories, and this one is legal)
+    // (called only for its contract: the history is legal, as the theorem requires)
     let _history = ledger.history();
     let without = map_without(alloc, plan, ledger, build)?;
     Ok(without.as_str() == map)

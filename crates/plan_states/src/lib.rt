@@ -1,11 +1,11 @@
 //! The outcomes of all schedules of a plan. They are counted in a graph of the states that the plan's runs reach.
 //!
-//! Schedules that have led to the same state are one from there on. A state is what each build did, and which blocks
-//! were leased and given back (`state.rt`). The states after as many turns are a layer (`graph.rt`). A turn of a build
-//! is run once for all states in which it depends on the same things (`turns.rt`). That no turn is missing is checked
-//! in the end (`whole.rt`), and that each path is a run with its ends and its map (`runs.rt`). So the paths are all
-//! schedules, each once (`law.rt`). Outcomes are counted as paths (`outcomes.rt`), and the first schedule of each is
-//! its first path.
+//! Schedules that led to the same state have the same further turns and answers. A state is the operations of each
+//! build, and the blocks that were leased and given back (`state.rt`). The states after the same number of turns are a
+//! layer (`graph.rt`). Turns with the same inputs are run once (`turns.rt`). Three checks follow. No turn is missing
+//! (`whole.rt`), and no outcome or map is listed twice (`distinct.rt`). Each path is a run with the step outcomes and
+//! the map that it names (`runs.rt`). So the paths are all schedules, each once (`law.rt`). Outcomes are counted as
+//! paths (`outcomes.rt`), and the first schedule of each is its first path.
 #![tactic(auto)]
 
 mod distinct;

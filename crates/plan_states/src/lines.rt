@@ -192,7 +192,8 @@ pub(crate) fn push_never_refused_tallies(
     Ok(())
 }
 
-/// Appends a page map and the number of schedules that lead to it. The number is in the line before the map.
+/// Appends a page map, below a line that counts the schedules that end with the map. The line has the first of these
+/// schedules, or `in all`.
 pub fn push_map<K>(
     text: &mut String,
     schedule_count: &Count,

@@ -181,7 +181,7 @@ fn step_ends(
     Ok(ends)
 }
 
-// The tally of the schedules in which a build is never refused.
+// The tally of the schedules in which a build is never refused, if there are any.
 fn never_refused_tally(
     alloc: Global,
     graph: &Graph,

@@ -19,8 +19,7 @@ pub type PagesHeld = [u16; 8];
 pub enum TurnQuestion {
     /// Asks whether step `step` of build `build` is refused in the last turn.
     Refused { build: usize, step: usize },
-    /// Asks whether build `build` is refused a block or a VMID in the last turn. Meanwhile some other build holds no
-    /// page.
+    /// Asks whether, in the last turn, build `build` is refused a block or a VMID while another build holds no page.
     Waiting { build: usize },
     /// Asks whether at least `granules` granules are leased after the last turn.
     Leased { granules: usize },
@@ -37,7 +36,7 @@ fn is_of_shared(refusal: Option<Refusal>) -> bool
     }
 }
 
-// Whether a turn uses up step `step` of build `build`, and is refused.
+// Whether a turn ends step `step` of build `build`, and is refused.
 fn refuses_step(end: Option<EndOfStep>, build: usize, step: usize) -> bool
     ensures { result ≡ refuses_step build step end }
 {
@@ -47,7 +46,7 @@ fn refuses_step(end: Option<EndOfStep>, build: usize, step: usize) -> bool
     }
 }
 
-// Whether a turn uses up a step of build `build`, and is refused for want of a block or a VMID.
+// Whether a turn ends a step of build `build`, and is refused for want of a block or a VMID.
 fn waits(end: Option<EndOfStep>, build: usize) -> bool
     ensures { result ≡ waits build end }
 {
@@ -86,9 +85,9 @@ fn all_held(held: &PagesHeld) -> usize
 }
 
 impl TurnQuestion {
-    /// Whether a turn has the property that the question asks for. `end` is the outcome of the step that the turn used
-    /// up, if it used one up. `held` gives the pages that builds hold after the turn, and `builds` is the number of the
-    /// plan's builds.
+    /// Whether a turn has the property that the question asks for. `end` is the outcome of the step that the turn
+    /// ended, if any. `held` gives the pages that builds hold after the turn, and `builds` is the number of the plan's
+    /// builds.
     pub(crate) fn is_answer(&self, builds: usize, end: Option<EndOfStep>, held: &PagesHeld) -> bool
         ensures { result ≡ is_answer builds self.now end held.now }
     {

@@ -54,7 +54,7 @@ fn is_same_end(one: &EndOfStep, other: &EndOfStep) -> bool
     one == other
 }
 
-// Whether a turn has the outcome that its label names.
+// Whether a turn ended its step with the outcome that its label names, or ended no step if the label names none.
 fn has_end(ends: &[EndOfStep], build: usize, taken: &TurnTaken, end: Option<usize>) -> bool
     ensures { OnTrue result (end_taken build taken.now ≡ end_named ends.now end) }
 {
@@ -82,7 +82,7 @@ fn is_same_held(one: &PagesHeld, other: &PagesHeld) -> bool
     one == other
 }
 
-// Whether the builds of a run hold the numbers of pages that `all` has at index `held`.
+// Whether the entry of `all` at index `held` is the page counts of a run's builds.
 fn has_held(all: &[PagesHeld], running: &Running, held: usize) -> bool
     ensures { OnTrue result (slice_get all.now held ≡ Some (pages_of_builds running.now.host)) }
 {

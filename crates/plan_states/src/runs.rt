@@ -315,7 +315,7 @@ impl Walk {
 
 /// Whether each path of a state graph is a run of the plan.
 ///
-/// Errors. `Memory`: allocation failed. `Mismatch`: a run along the graph does not go on as the graph says.
+/// Errors. `Memory`: allocation failed. `Mismatch`: a run along the graph contradicts the graph, or an earlier run.
 pub(crate) fn are_paths_runs(alloc: Global, plan: &Plan, graph: &Graph) -> Result<bool, Fault>
     ensures ok { IfOk result (λ are. OnTrue are (ArePathsRuns (plan_view plan.now) graph.now)) }
     ensures err { IfErr result HasNoGraph }

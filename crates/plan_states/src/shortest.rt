@@ -137,7 +137,7 @@ fn shortest_tally(
     tally_with(alloc, &layers, &all, &property, question)
 }
 
-// The outcome of the step that a turn of `build` used up, if the turn used one up.
+// The outcome of the step that a turn of `build` ended, if any.
 fn end_of(taken: &TurnTaken, build: usize) -> Option<EndOfStep>
     ensures { result ≡ end_taken build taken.now }
 {
@@ -151,9 +151,10 @@ fn end_of(taken: &TurnTaken, build: usize) -> Option<EndOfStep>
     })
 }
 
-/// Whether the answer to a question about a schedule's last turn is yes.
+/// Whether the answer to a question about a schedule's last turn is yes. The result is `false` if the schedule is
+/// empty, or if the last turn's build has no step left.
 ///
-/// Errors. `Memory`: allocation failed. `Mismatch`: a turn before the last has no step left.
+/// Errors. `Memory`: allocation failed. `Mismatch`: a turn before the last is of a build that has no step left then.
 pub fn answers(
     alloc: Global,
     plan: &Plan,
@@ -179,8 +180,9 @@ pub fn answers(
 /// Finds the first of the shortest schedules whose last turn has a requested property. `question` asks for the
 /// property. The result is `TooMany` if the graph has more than `most` states.
 ///
-/// Errors. `Memory`: allocation failed. `Mismatch`: a run does not go on as another run said, a turn is missing in the
-/// graph, or an end or a map is there twice. None happens on a host that gives the same answers to the same calls.
+/// Errors. `Memory`: allocation failed. `Mismatch`: a run contradicts an earlier run, a turn is missing in the graph,
+/// or the graph lists a step outcome or a map twice. No mismatch happens on a host that gives the same answers to the
+/// same calls.
 pub fn shortest_answer(
     alloc: Global,
     plan: &Plan,

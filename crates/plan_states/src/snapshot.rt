@@ -15,8 +15,8 @@ use realm_host::{Host, Mark};
 use realm_model::Event;
 use std::alloc::{AllocError, Global};
 
-/// A build's state at one point of a run, without its events. It has the progress, the marks and the abort flag. The
-/// progress is the build's cursor. A mark is the number of operations that were open at it.
+/// A build's cursor, marks and abort flag at one point of a run. `mark` is the cursor's mark and `kept` the host's,
+/// each as the number of operations open at the mark. `has_way_back` is whether the host keeps the cursor's mark.
 #[derive(Clone, Copy)]
 pub(crate) struct BuildPoint {
     pub(crate) done: usize,
@@ -27,8 +27,8 @@ pub(crate) struct BuildPoint {
     pub(crate) kept: Option<u16>,
 }
 
-/// One build's part of a snapshot of a plan's run. It is the build's events, and its `point` with the cursor, the marks
-/// and the abort flag.
+/// One build's part of a snapshot of a plan's run: its events, and its `point` with the cursor, the marks and the abort
+/// flag.
 #[derive(Drop)]
 pub(crate) struct BuildSnapshot {
     pub(crate) point: BuildPoint,

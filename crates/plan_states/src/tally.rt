@@ -10,9 +10,9 @@ pub struct PathTally<K> {
     pub first: Vec<usize>,
 }
 
-/// The outcomes of steps, counted over all schedules of a plan.
+/// Tallies of step outcomes over schedules of a plan: all of them, or randomly drawn ones.
 pub struct StepOutcomes {
-    /// The number of all schedules of the plan.
+    /// The number of schedules that were counted.
     pub schedule_count: Count,
     /// The numbers of schedules with and without a refused step.
     pub by_refusal: Vec<PathTally<bool>>,

@@ -102,10 +102,10 @@ fn push_maps(
     Ok(())
 }
 
-/// Appends the outcomes of steps, counted over all schedules. The text begins with the numbers of schedules with and
-/// without a refused step. For each step of each build follow its outcomes, each with the number of its schedules and
-/// the first of them. For each build follows the number of schedules in which it was never refused. At an `Err`
-/// allocation failed, and the text may have a part of it.
+/// Appends the tallies of step outcomes. First come the schedules with and without a refused step. Next come each
+/// build's steps, and its abort if builds give up. Last comes a line for each build, with the schedules in which it was
+/// never refused. Each line has a count and the first such schedule, or else `in all` or `in 0`. The one error is that
+/// allocation failed; the text may then have a part of the lines.
 pub fn push_step_outcomes(
     text: &mut String,
     plan: &Plan,
@@ -122,7 +122,7 @@ pub fn push_step_outcomes(
 }
 
 /// Appends the outcomes of all schedules of a plan. They are the number of schedules, the outcomes of steps, and the
-/// final maps. At an `Err` allocation failed, and the text may have a part of it.
+/// final maps. The one error is that allocation failed; the text may then have a part of the outcomes.
 pub fn push_outcomes(
     text: &mut String,
     plan: &Plan,
@@ -160,8 +160,9 @@ pub fn too_many_text(alloc: Global, most: usize) -> Result<String, AllocError>
 /// Returns the outcomes of a plan's schedules, as text. If the graph has more than `most` states, the text is a line
 /// that says so.
 ///
-/// Errors. `Memory`: allocation failed. `Mismatch`: a run does not go on as another one said, a turn is missing in the
-/// graph, or an end or a map is there twice. None happens on a host that gives the same answers to the same calls.
+/// Errors. `Memory`: allocation failed. `Mismatch`: a run contradicts an earlier run, a turn is missing in the graph,
+/// or the graph lists a step outcome or a map twice. No mismatch happens on a host that gives the same answers to the
+/// same calls.
 pub fn states_text(alloc: Global, plan: &Plan, most: usize) -> Result<String, Fault>
     ensures ok { IfOk result (λ text. IsStatesText most (plan_view plan.now) (string_bytes text)) }
     ensures err { IfErr result HasNoGraph }

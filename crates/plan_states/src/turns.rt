@@ -31,8 +31,8 @@ enum Shared {
     Vmids,
 }
 
-/// A hash map key that identifies the turns that a build has taken so far. The key is the index of all turns but the
-/// last, and the last turn's outcome, block and VMID. All else follows from these.
+/// A key for the turns that a build has taken so far: the index of all but the last, and what distinguishes the last.
+/// That is the index of the step outcome, the first granule of the moved block, and the VMID after the turn.
 #[derive(Clone, Copy, PartialEq, Eq, Hash)]
 struct PastTurns {
     before: usize,
@@ -41,8 +41,7 @@ struct PastTurns {
     vmid: Option<u8>,
 }
 
-/// A hash map key that identifies a sequence of leased and returned blocks. The key is the index of the sequence
-/// without the last block, and that block.
+/// A key for a sequence of leased and returned blocks: the index of all but the last, and the last.
 #[derive(Clone, Copy, PartialEq, Eq, Hash)]
 struct Moves {
     before: usize,
@@ -57,8 +56,8 @@ pub(crate) struct TurnInputs {
     shared: usize,
 }
 
-/// The outcome of a turn: the build's new state, and how its step ended. A block that was leased or given back is part
-/// of it too.
+/// The outcome of a turn: the build's new state, the moved block, and the index of the step outcome. `moved` is `None`
+/// if no block moved, and `end` is `None` if no step ended.
 #[derive(Clone, Copy)]
 pub(crate) struct TurnOutcome {
     build: BuildState,
@@ -198,7 +197,7 @@ impl Turns {
         Ok(())
     }
 
-    // Finds or adds the outcome of the step that a turn used up, if it used one up, and returns the outcome's index.
+    // Finds or adds the outcome of the step that a turn ended, if any, and returns the outcome's index.
     fn place_for(&mut self, build: usize, taken: &TurnTaken) -> Result<Option<usize>, AllocError>
         ensures { OnOk result (AreWith self.old.ends.items (end_taken build taken.now) self.new.ends.items) }
     {
@@ -221,7 +220,8 @@ impl Turns {
     /// Runs a schedule and then one turn of a build, and caches the turn's outcome. The schedule is run on a fresh
     /// host.
     ///
-    /// Errors. `Memory`: allocation failed. `Mismatch`: the build has no step left then.
+    /// Errors. `Memory`: allocation failed. `Mismatch`: some turn, of the schedule or the last one, is of a build that
+    /// has no step left then.
     pub(crate) fn run(
         &mut self,
         alloc: Global,

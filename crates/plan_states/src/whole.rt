@@ -87,8 +87,8 @@ fn takes_many(plan: &Plan, build: usize, done: usize) -> bool
     }
 }
 
-// Whether a turn of a build that has done `done` steps uses up the next step, or no step if the next one may take
-// several turns.
+// Whether a turn fits the next step of a build that has done `done` steps. The turn ends that step, or ends none and
+// the step may take several turns.
 fn uses_next(plan: &Plan, ends: &[EndOfStep], done: usize, label: &Label) -> bool
     ensures { result ≡ uses_next (plan_view plan.now) ends.now label.now.build done label.now.end }
 {
@@ -164,12 +164,13 @@ fn are_over(plan: &Plan, done: &StepsDone) -> bool
         .all(|build| !has_step_left(plan, done, *build))
 }
 
-// Whether a turn has a map with an index below `maps` if schedules end with the turn, and no map otherwise.
-fn has_map(maps: usize, over: bool, map: Option<usize>) -> bool
-    ensures { result ≡ has_map maps over map }
+// Whether `map` fits a turn. If no build has a step left after the turn (`over`), `map` is an index below `map_count`,
+// and else `None`.
+fn has_map(map_count: usize, over: bool, map: Option<usize>) -> bool
+    ensures { result ≡ has_map map_count over map }
 {
     match map {
-        Some(number) => over && number < maps,
+        Some(number) => over && number < map_count,
         None => !over,
     }
 }
@@ -178,31 +179,31 @@ fn has_map(maps: usize, over: bool, map: Option<usize>) -> bool
 fn leads_to_state(
     plan: &Plan,
     ends: &[EndOfStep],
-    maps: usize,
+    map_count: usize,
     done: &StepsDone,
     label: &Label,
     then: &StepsDone,
 ) -> bool
-    ensures { result ≡ leads_to_state (plan_view plan.now) ends.now maps done.now label.now then.now }
+    ensures { result ≡ leads_to_state (plan_view plan.now) ends.now map_count done.now label.now then.now }
 {
     uses_next(plan, ends, done_of(done, label.build), label)
         && are_done_after(plan, ends, done, label, then)
-        && has_map(maps, are_over(plan, then), label.map)
+        && has_map(map_count, are_over(plan, then), label.map)
 }
 
 // Whether an edge leads to a state of the next layer, and the state fits the edge's turn.
 fn leads_on(
     plan: &Plan,
     ends: &[EndOfStep],
-    maps: usize,
+    map_count: usize,
     done: &StepsDone,
     next: &[StepsDone],
     edge: &Edge<Label>,
 ) -> bool
-    ensures { result ≡ leads_on (plan_view plan.now) ends.now maps done.now next.now edge.now }
+    ensures { result ≡ leads_on (plan_view plan.now) ends.now map_count done.now next.now edge.now }
 {
     match next.get(edge.to) {
-        Some(then) => leads_to_state(plan, ends, maps, done, &edge.label, then),
+        Some(then) => leads_to_state(plan, ends, map_count, done, &edge.label, then),
         None => false,
     }
 }
@@ -211,34 +212,34 @@ fn leads_on(
 fn all_lead_on(
     plan: &Plan,
     ends: &[EndOfStep],
-    maps: usize,
+    map_count: usize,
     done: &StepsDone,
     next: &[StepsDone],
     edges: &[Edge<Label>],
 ) -> bool
-    ensures { result ≡ list_all (leads_on (plan_view plan.now) ends.now maps done.now next.now) edges.now }
+    ensures { result ≡ list_all (leads_on (plan_view plan.now) ends.now map_count done.now next.now) edges.now }
 {
     edges
         .iter()
-        .all(|edge| leads_on(plan, ends, maps, done, next, edge))
+        .all(|edge| leads_on(plan, ends, map_count, done, next, edge))
 }
 
 // Whether a state has an edge for each build with a step left, and each edge leads to a state that fits its turn.
 fn is_state_whole(
     plan: &Plan,
     ends: &[EndOfStep],
-    maps: usize,
+    map_count: usize,
     done: &StepsDone,
     next: &[StepsDone],
     edges: &[Edge<Label>],
 ) -> bool
-    ensures { OnTrue result (IsStateWhole (plan_view plan.now) ends.now maps done.now next.now edges.now) }
+    ensures { OnTrue result (IsStateWhole (plan_view plan.now) ends.now map_count done.now next.now edges.now) }
 {
     let builds = all_builds();
     if !are_of_left(plan, done, &builds, edges) {
         return false;
     }
-    all_lead_on(plan, ends, maps, done, next, edges)
+    all_lead_on(plan, ends, map_count, done, next, edges)
 }
 
 /// Returns the edges that lead from a state of a layer. There are none if there is no such state.
@@ -255,19 +256,19 @@ pub(crate) fn edges_at(layer: &[Vec<Edge<Label>>], state: usize) -> &[Edge<Label
 fn is_layer_whole(
     plan: &Plan,
     ends: &[EndOfStep],
-    maps: usize,
+    map_count: usize,
     states: &[StepsDone],
     next: &[StepsDone],
     layer: &[Vec<Edge<Label>>],
 ) -> bool
-    ensures { OnTrue result (IsLayerWhole (plan_view plan.now) ends.now maps states.now next.now layer.now) }
+    ensures { OnTrue result (IsLayerWhole (plan_view plan.now) ends.now map_count states.now next.now layer.now) }
 {
     if states.is_empty() || states.len() != layer.len() {
         return false;
     }
     for place in 0..states.len() {
         let edges = edges_at(layer, place);
-        if !is_state_whole(plan, ends, maps, &states[place], next, edges) {
+        if !is_state_whole(plan, ends, map_count, &states[place], next, edges) {
             return false;
         }
     }
@@ -319,7 +320,7 @@ fn is_at_start(states: &[StepsDone]) -> bool
     }
 }
 
-/// Whether a state graph passes the check for missing turns. Then the first layer has the start as its only state.
+/// Whether a state graph is whole: its first layer has only the start, each state has its turns, and there is a map.
 pub(crate) fn is_whole(plan: &Plan, graph: &Graph) -> bool
     ensures { OnTrue result (IsWholeGraph (plan_view plan.now) graph.now) }
 {

@@ -7,4 +7,4 @@ use Rattle.plan_states.proofs.whole.is_layer_whole.Given as goal
 abbrev pub invariant-loop-place : goal.invariant-loop-place
 invariant-loop-place l =
     (place : ℕ) → place < l.place
-    → IsStateWhole (plan_view l.plan) l.ends l.maps (slice_index_or l.states place []) l.next (slice_index_or (map vec_items l.layer) place [])
+    → IsStateWhole (plan_view l.plan) l.ends l.map_count (slice_index_or l.states place []) l.next (slice_index_or (map vec_items l.layer) place [])
