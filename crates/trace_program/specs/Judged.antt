@@ -84,7 +84,8 @@ abbrev pub is_left_out : Option NameSet → List TraceWord → List ℕ → Trac
 is_left_out None question written reply = false
 is_left_out (Some skip) question written reply = is_named skip question written reply
 
--- A line is compared if it has one of the names that are asked for, if any are, and none of those that are left out.
+-- A line is compared if it has one of the names that are asked for, if any are. It has to have none of those that are
+-- left out.
 unfoldable pub is_compared : Comparison → List TraceWord → List ℕ → TraceReply → Bool
 is_compared asked question written reply =
     is_asked_for asked.only question written reply && not (is_left_out asked.skip question written reply)
@@ -118,6 +119,6 @@ abbrev pub kind_verdict : LineKind → LineVerdict → LineVerdict
 kind_verdict Remark verdict = NotCompared
 kind_verdict _ verdict = verdict
 
--- The verdict on a line's written answer, given our answer and the machine after the line.
+-- The verdict on a line's written answer, given the model's answer and the machine after the line.
 unfoldable pub line_verdict : Comparison → Option Machine → Option (List ℕ) → RmmTraceLine → TraceReply → LineVerdict
 line_verdict asked m written line reply = kind_verdict line.kind (verdict_by (is_no_command reply) asked m line written reply)

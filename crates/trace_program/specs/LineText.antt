@@ -28,7 +28,7 @@ written_in bytes = answer_in (bare_text bytes)
 abbrev pub read : List ℕ → Option (List TraceWord)
 read text = words_in 64 (slice_split (λ b. b == 32) text)
 
--- what a line has after its question and its answer: a comment, and the blanks before it
+-- the bytes of a line after its question and its answer: a comment, and the blanks before it
 unfoldable pub tail_of : List ℕ → List ℕ
 tail_of bytes = drop (length (bare_text bytes)) bytes
 

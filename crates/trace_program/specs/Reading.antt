@@ -11,7 +11,8 @@ use Rattle.trace_program.specs.declared.session.Session.{Session}
 use Rattle.trace_program.specs.Counting.{summary_text, trace_verdict}
 use Rattle.trace_program.specs.Session.{IsSession, fresh_session, is_check_done}
 
--- The bytes of a line that are kept: one more than a question may have, so a line that is too long is seen to be.
+-- The bytes of a line that are kept. They are one more than a question may have, so a line that is too long is seen to
+-- be.
 unfoldable pub kept_of_line : List ℕ → List ℕ
 kept_of_line line = take 65537 line
 

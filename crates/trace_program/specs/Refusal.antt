@@ -15,11 +15,11 @@ abbrev pub label_text : (is_first : Bool) → List ℕ
 label_text true = codes "error"
 label_text false = codes "also"
 
--- how the line on a failed check begins: with its label, and the check's name
+-- the beginning of the line on a failed check: its label, and the check's name
 abbrev pub failed_text : (is_first : Bool) → Condition → List ℕ
 failed_text is_first condition = codes "    " ++ label_text is_first ++ codes ": " ++ name_of condition ++ codes ": "
 
--- how the line on the check that decides begins; nothing if there is none
+-- the beginning of the line on the check that decides; nothing if there is none
 abbrev pub decision_text : Option FailedCondition → List ℕ
 decision_text (Some failed) = failed_text true failed.condition
 decision_text None = []

@@ -31,7 +31,7 @@ performed_by Remark q s = s
 performed_by Question q s = record s { machine = (answered q s.machine).1; reply = (answered q s.machine).0 }
 performed_by Neither q s = record s { reply = no_command }
 
--- The session after a line is performed: our answer to it, and the machine after it. A remark changes nothing.
+-- The session after a line is performed: the model's answer to it, and the machine after it. A remark changes nothing.
 abbrev pub performed : Session → RmmTraceLine → Session
 performed s line = performed_by line.kind line.words.items s
 
@@ -65,7 +65,7 @@ after_line asks.Why s bytes = performed s (trace_line_of bytes)
 abbrev pub checks_refused : List TraceWord → Session → Option (List EvaluatedCheck)
 checks_refused q s = option_and_then (refused_checks q s.reply) s.machine
 
--- What is said of a refused call: nothing if no call is refused, and else first the check that decides.
+-- The reasons for a refused call: none if no call is refused, and else first the check that decides.
 abbrev pub IsRefusalText : List TraceWord → Session → List ℕ → Type 0
 IsRefusalText q s text = (s.reply.refused ≡ None → text ≡ []) × TellsDecision (checks_refused q s) text
 
@@ -85,18 +85,18 @@ pub record IsExplained (bytes : List ℕ) (after : Session) (text : List ℕ) : 
 abbrev pub heading_text : List ℕ → ℕ → List ℕ → List ℕ
 heading_text source number verdict = source ++ codes ":" ++ decimal number ++ codes ": " ++ verdict ++ codes "\n"
 
--- our answer, as a note has it
+-- the model's answer, as a note has it
 abbrev pub here_text : TraceReply → List ℕ
 here_text reply = if is_unanswered reply then codes "no answer" else reply_text reply
 
--- What a note says of a difference: the line, our answer, and help if the line is no command.
+-- The lines of a note on a difference: the line, the model's answer, and help if the line is no command.
 pub record IsDifference (bytes : List ℕ) (reply : TraceReply) (text : List ℕ) : Type 0 where
   pub help : List ℕ
   pub no_help : is_no_command reply ≡ false → help ≡ []
   pub whole : text ≡ bytes ++ 10 ∷ codes "here: " ++ here_text reply ++ 10 ∷ help
 
--- A note on a difference begins with a line that has the trace's name, the number of the line that is judged, and the
--- verdict on it.
+-- A note on a difference. Its first line has the trace's name, the number of the line that is judged, and the verdict
+-- on it.
 pub record IsHeaded (source : List ℕ) (number : ℕ) (verdict bytes : List ℕ) (reply : TraceReply) (text : List ℕ) : Type 0 where
   pub rest : List ℕ
   pub is_rest : IsDifference bytes reply rest

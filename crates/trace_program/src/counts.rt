@@ -28,8 +28,7 @@ pub enum TraceVerdict {
     Differs,
 }
 
-/// The counts of a trace's lines, in all and by verdict. Counted are all lines, and those with the verdicts `Same`,
-/// `Allowed` and `Wrong`.
+/// The numbers of a trace's lines: of all, and of those with the verdicts `Same`, `Allowed` and `Wrong`.
 #[derive(Clone, Copy)]
 pub struct Counts {
     pub lines: u64,

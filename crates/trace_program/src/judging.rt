@@ -169,7 +169,7 @@ fn no_command_verdict(written: Option<&[u8]>) -> LineVerdict
     }
 }
 
-/// Returns the verdict on a line of a trace. `written` is the line's written answer, and `reply` is our answer.
+/// Returns the verdict on a line of a trace. `written` is the line's written answer, and `reply` is the model's answer.
 /// `machine` is the machine after the line. The words of the written answer are read into `words`.
 #[tactic(auto, unfolding(crate::specs::Judged::line_verdict))]
 pub fn line_verdict(

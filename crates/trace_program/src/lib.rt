@@ -2,10 +2,11 @@
 //! a trace, the check of a trace, and the outcomes of a run.
 //!
 //! A `Session` takes the lines of a trace one after another. It has no RMM before the first `platform`, and a new one
-//! from each of these on. `run` reads the lines and writes their texts. What a line gets is proved, and so are the
-//! counts of a check, the line and the answer in a note, and the check that decides a refused call. The other words
-//! below these are tested. Nothing here depends on the process that it runs in: a caller hands in the request and the
-//! devices.
+//! from each of these on. `run` reads the lines and writes their texts.
+//!
+//! Proved are the answer of each line, the counts of a check, and the line and the answer in a note. The name of the
+//! check that decides a refused call is proved too. All other words of explanations are tested. Nothing here depends on
+//! the process that it runs in: a caller hands in the request and the devices.
 #![tactic(auto)]
 
 mod counts;

@@ -10,7 +10,7 @@ use std::alloc::{AllocError, Global};
 use std::fmt::Write;
 use std::marker::Model;
 
-/// A buffer for the output text of a trace's lines. It is seen as the bytes of the text.
+/// A buffer for the output text of a trace's lines. The view is the bytes of the text.
 #[derive(Drop)]
 pub struct LineTexts {
     bytes: Vec<u8>,

@@ -35,7 +35,7 @@ struct RunParameters<'a> {
 }
 
 // A trace that is being read: the session of its lines, the kept bytes of the next line, and the text not yet written.
-// The words of a line are kept for the next one.
+// `words` is a buffer that is reused for each line.
 struct Reading {
     session: Session,
     line: Vec<u8>,
@@ -195,8 +195,8 @@ impl Reading {
 /// Reads a trace in parts, and writes the output text for its lines. The texts for a part are written before the next
 /// part is read. A check ends with its counts.
 ///
-/// Memory is taken for a fresh machine, for a line, of which no more than 65,537 bytes are kept, and for the texts of
-/// the lines of one read. Errors. `Memory`: allocation failed. `Device`: a read or a write failed. `TooLong`: the trace
+/// Memory is taken for a fresh machine, for a line, and for the texts of the lines of one read. Of a line, no more than
+/// 65,537 bytes are kept. Errors. `Memory`: allocation failed. `Device`: a read or a write failed. `TooLong`: the trace
 /// goes on after 2^64 - 1 reads, or after 2^64 - 1 lines of a check. In each case a prefix of the texts was written.
 pub fn run<R: Read, W: Write>(
     alloc: Global,

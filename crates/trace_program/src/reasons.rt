@@ -174,7 +174,7 @@ pub(crate) fn heading(
     Ok(text)
 }
 
-// Appends our answer as a note has it.
+// Appends the model's answer as a note has it.
 fn push_here(text: &mut LineTexts, reply: &TraceReply) -> Result<(), AllocError>
     ensures { OnOk result (text.new ≡ text.old ++ here_text reply.now) }
 {
@@ -184,7 +184,7 @@ fn push_here(text: &mut LineTexts, reply: &TraceReply) -> Result<(), AllocError>
     text.push_answer(reply)
 }
 
-// Returns the help below a note. It is empty unless the line is no command.
+// Returns the help below a note on a line that is not a command. For a command, the text is empty.
 fn help_text(alloc: Global, bytes: &[u8], reply: &TraceReply) -> Result<String, AllocError>
     ensures { IfOk result (λ text. is_no_command reply.now ≡ false → string_bytes text ≡ []) }
 {

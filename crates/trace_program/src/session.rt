@@ -16,9 +16,8 @@ use rmm_answers::{TraceMachine, TraceReply};
 use rmm_trace::{LineKind, RmmTraceLine, Sentence, TraceWord};
 use std::alloc::{AllocError, Global};
 
-/// The words of a trace line, and those of its written answer.
-///
-/// They are kept from line to line, and each line is read into them: a sentence has many places.
+/// Buffers for the words of a trace line and of its written answer. A session reuses both for each line, because a
+/// sentence is large.
 #[derive(Drop)]
 pub struct LineWords {
     pub line: RmmTraceLine,
@@ -109,7 +108,7 @@ impl Session {
         }
     }
 
-    // Returns the note on a line whose written answer is the same as ours.
+    // Returns the note on a line whose written answer is the same as the model's.
     fn same_note(
         &self,
         alloc: Global,
@@ -160,7 +159,7 @@ impl Session {
         }
     }
 
-    // Performs a line, and appends it with our answer.
+    // Performs a line, and appends it with the model's answer.
     fn answer(
         &mut self,
         alloc: Global,
@@ -176,7 +175,7 @@ impl Session {
         text.push_answered(bytes, &words.line, &self.reply)
     }
 
-    // Performs a line, and appends it with our answer and the explanation below it.
+    // Performs a line, and appends it with the model's answer and the explanation below it.
     fn explain(
         &mut self,
         alloc: Global,
@@ -246,7 +245,7 @@ impl Session {
 
     /// Performs the requested subcommand on one trace line, and appends its output. The line is read into `words`.
     ///
-    /// Errors: `Memory`, if allocation failed; `TooLong`, if a check has counted 2^64 - 1 lines.
+    /// Errors. `Memory`: allocation failed. `TooLong`: a check has counted 2^64 - 1 lines.
     pub fn take_line(
         &mut self,
         alloc: Global,
