@@ -22,19 +22,19 @@ use Rattle.plan_replay.specs.declared.answer.TurnAnswer.{TurnAnswer}
 use Rattle.plan_replay.specs.declared.answer.TurnAnswer.TheVariants.{Refused}
 use Rattle.realm_program.specs.Replay.{opening_host}
 
--- what begins a comment that extends to the end of the line
+-- the beginning of a comment that extends to the end of the line
 abbrev pub comment_start : CallsForm → List ℕ
 comment_start Trace = codes "# "
 comment_start Rows = codes "// "
 
 -- ---- an event
 
--- the lines of operations, none of which is refused
+-- the lines of actions, none of which is refused
 abbrev pub action_lines : List HostAction → List ℕ
 action_lines actions = flat_map (λ action. action_line action None) actions
 
--- The lines of the operations for an event that a host has recorded. The pages for the exits of runs are `runs` before
--- it, and `next` after it.
+-- The lines of the actions for an event that a host has recorded. The run pages are `runs` before it, and `next` after
+-- it.
 pub record AreEventLines (frame : Place) (runs next : List (Option ℕ)) (host : HostView) (event : Event) (text : List ℕ) : Type 0 where
   pub place : RealmAndRec
   pub is_place : IsPlaceOf (world_of host) event.build event.act place
@@ -51,7 +51,7 @@ pub record IsNoWrite (runs next : List (Option ℕ)) (event : Event) (text : Lis
   pub comment : text ≡ codes "# no call: the RIPAS there is not RAM, and in RMM 1.0 the guest's write is refused\n"
   pub pages : next ≡ runs
 
--- The text for an event of a build that the host has: the lines of its operations, or that comment.
+-- The text for an event of a build that the host has: the lines of its actions, or that comment.
 abbrev pub AreCallsOfEvent : Place → (runs next : List (Option ℕ)) → HostView → Event → List ℕ → Type 0
 AreCallsOfEvent frame runs next host event text =
     event.build < host.limits.builds → AreEventLines frame runs next host event text ⊎ IsNoWrite runs next event text
@@ -72,8 +72,8 @@ abbrev pub is_refused_by_rmm : Option (PlanStep × TurnAnswer) → Bool
 is_refused_by_rmm None = false
 is_refused_by_rmm (Some told) = is_refusal_of_rmm told.1
 
--- What is below the line of a turn, before which the history had `before` events. If the turn has added an event, a
--- trace has its text. If not, there is nothing, unless the RMM has refused the command.
+-- The text below the line of a turn, before which the history had `before` events. If the turn has added an event, a
+-- trace has its text. If not, the text is empty, unless the RMM has refused the command.
 pub record IsBelowTurn (form : CallsForm) (frame : Place) (runs next : List (Option ℕ)) (before : ℕ) (host : HostView) (turn : Turn) (below : List ℕ) : Type 0 where
   pub event : form ≡ Trace → IfSome (slice_get host.history before) (λ event. AreCallsOfEvent frame runs next host event below)
   pub nothing : length host.history ≤ before → is_refused_by_rmm turn.told ≡ false → below ≡ []
@@ -106,8 +106,8 @@ AppendsCallsOfTurns form frame plan (build ∷ order) runs next from to old new 
 abbrev pub frame_of : ℕ → Plan → Place
 frame_of base plan = record { base = base; pages = plan.pages }
 
--- The text of some run of the plan: an opening, and below it each turn of the run as a comment, with what is below it. A
--- trace opens with the line of the machine.
+-- The text of some run of the plan: an opening, and each turn of the run as a comment, with the text below it. A trace
+-- opens with the line of the machine.
 pub record IsCallsText (form : CallsForm) (base : ℕ) (plan : Plan) (text : List ℕ) : Type 0 where
   pub opening : List ℕ
   pub of_machine : form ≡ Trace → opening ≡ platform_line (frame_of base plan) plan.aux

@@ -76,7 +76,7 @@ AreChosen plan from (choice ∷ choices) to =
 abbrev pub first_stage : HostView → Stage
 first_stage host = record { at = start host; ends = [] }
 
--- A run of the plan in the schedule of these choices, until no build has a step left: it leads to `to`, and the steps
+-- A run of the plan in the schedule of these choices, until no build has a step left. It leads to `to`, and the steps
 -- ended as noted.
 pub record IsChosenRun (plan : Plan) (from : HostView) (choices : List Choice) (to : HostView) (noted : List EndOfStep) : Type 0 where
   pub last : Stage

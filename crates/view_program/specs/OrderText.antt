@@ -12,7 +12,7 @@ abbrev pub turns_on_one_line : List ℕ → List ℕ
 turns_on_one_line [] = []
 turns_on_one_line (build ∷ turns) = decimal build ++ turns_after turns
 
--- the turn at this place, with a comma after it; before each 32nd a line begins
+-- the turn at this place, with a comma after it; a line begins before turn 0 and before every 32nd turn after it
 abbrev pub turn_in_lines : ℕ → ℕ → List ℕ
 turn_in_lines place build = (if place % 32 == 0 then codes "\n    " else codes " ") ++ (decimal build ++ codes ",")
 
@@ -42,7 +42,7 @@ line_break_after (byte ∷ bytes) = if ends_with nat_eq (byte ∷ bytes) (10 ∷
 abbrev pub order_line : List ℕ → List ℕ → List ℕ
 order_line front order = line_break_after front ++ (codes "order = " ++ (order_array order ++ codes "\n"))
 
--- what comes after `front`: the schedule alone, if that is the value of a key, or else a line with the key
+-- the text to put after `front`: the schedule alone, if that is the value of a key, or else a line with the key
 abbrev pub order_part : Bool → List ℕ → List ℕ → List ℕ
 order_part is_value front order = if is_value then order_array order else order_line front order
 

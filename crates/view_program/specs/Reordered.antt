@@ -58,8 +58,8 @@ abbrev pub IsOutsideLimits : List ℕ → List ℕ → Type 0
 IsOutsideLimits order bytes =
     (16384 < length order) ⊎ ((text : List ℕ) × IsWithOrder order bytes text × (plan.plan_of text ≡ Err plan_fault.Limit))
 
--- the reason why a plan is not reordered: with the schedule of a complete run it exceeds a plan's limits, there is a
--- mismatch, or allocation failed
+-- The reason why a plan is not reordered: a mismatch, a failed allocation, or that the plan exceeds its limits with the
+-- schedule of a complete run.
 abbrev pub IsNotReordered : SchedulingPolicy → plan.Plan → List ℕ → ViewError → Type 0
 IsNotReordered turns read bytes OrderOutsideLimits = (order : List ℕ) × IsOrderOf turns read order × IsOutsideLimits order bytes
 IsNotReordered turns read bytes (Plan run_fault.Mismatch) = Unit {0}

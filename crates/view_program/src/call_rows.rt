@@ -1,4 +1,4 @@
-//! The operations of a host as rows of a C table. `examples/c/table.h` has the form of a row, and `examples/c/table.c`
+//! The actions of a host as rows of a C table. `examples/c/table.h` has the form of a row, and `examples/c/table.c`
 //! runs the rows.
 use history_calls::{Frame, HostAction};
 use realm_model::Rmi;
@@ -139,7 +139,7 @@ fn push_step(text: &mut String, action: &HostAction) -> Result<(), AllocError> {
     }
 }
 
-// Appends the rows of an accepted operation. No row says that a guest has done a write.
+// Appends the rows of an accepted action. `Saw`, the completion of a guest's write, has no row.
 fn push_done(text: &mut String, action: &HostAction) -> Result<(), AllocError> {
     match action {
         HostAction::Fill {
@@ -173,8 +173,7 @@ fn push_done(text: &mut String, action: &HostAction) -> Result<(), AllocError> {
     }
 }
 
-/// Appends the rows of a host's operation to the text of a C table. `push_action` appends the trace line of the
-/// operation.
+/// Appends the rows of a host's action to the text of a C table. `push_action` appends the trace line of the action.
 ///
 /// `AllocError`: the text may have a part of the rows.
 pub(crate) fn push_action_rows(

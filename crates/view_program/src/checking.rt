@@ -33,8 +33,8 @@ fn verdict_of(is_plan: bool) -> ViewOutcome
 /// Checks whether an input is a plan, and writes the findings. The findings are all errors of bytes that are no plan,
 /// or else the plan's likely slips and size.
 ///
-/// The text is complete before any of it is written. Errors: Memory, if allocation failed; Device, if a read failed and
-/// nothing is written, or if a write failed and a prefix of the text is written.
+/// The text is complete before any of it is written. Errors. `Memory`: allocation failed. `Device`: a read failed and
+/// nothing is written, or a write failed and a prefix of the text is written.
 pub fn check<R: Read, W: Write>(
     alloc: Global,
     source: &str,

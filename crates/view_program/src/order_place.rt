@@ -1,7 +1,7 @@
 //! The position of the key `order` in the text of a plan.
 //!
-//! The text is one that the reader of TOML has accepted, so only the next item is checked. If an unexpected item comes,
-//! the place after the last key that was read is returned.
+//! The TOML parser has accepted the text already. At an item that the search cannot read, it returns the position after
+//! the last key that it read.
 ghost use Rattle.std.specs.Prelude.{◌≡◌, false, true, IfOk};
 
 use std::alloc::{AllocError, Global};
@@ -36,10 +36,10 @@ impl From<ParseError> for KeyReadError {
     }
 }
 
-/// Finds the value of the key `order` in a plan's text. If there is none, returns the place below the last key above
-/// the first header.
+/// Finds the value of the key `order` in a plan's text. Without the key, returns the start of the line after the last
+/// key before the first table header. That is 0 if there is no such key.
 pub fn order_place(alloc: Global, text: &str) -> Result<OrderPlace, AllocError>
-    // The place of a line that is more is between two bytes.
+    // Without the key `order`, the part is empty: a position between two bytes.
     ensures { IfOk result (λ place. place.is_value ≡ false → place.from ≡ place.to) }
 {
     let mut below = 0;

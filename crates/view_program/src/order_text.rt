@@ -25,7 +25,8 @@ fn push_on_one_line(text: &mut String, order: &[usize]) -> Result<(), AllocError
     Ok(())
 }
 
-// Appends the turn at a place, with a comma after it. Before each 32nd a line begins.
+// Appends the turn at a place, with a comma after it. A new line begins before turn 0 and before every 32nd turn after
+// it.
 fn push_in_lines(text: &mut String, place: usize, build: usize) -> Result<(), AllocError>
     ensures { OnOk result (string_bytes text.new ≡ string_bytes text.old ++ turn_in_lines place build) }
 {

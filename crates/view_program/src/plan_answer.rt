@@ -40,7 +40,7 @@ fn question_of_options(asked: ScheduleQuestion) -> TurnQuestion
     }
 }
 
-// Whether a plan is `plan` with this schedule, whose last turn answers the question.
+// Whether the plan `read` is `plan` with this schedule, whose last turn answers the question.
 fn ends_with_answer(
     alloc: Global,
     read: &Plan,
@@ -63,8 +63,8 @@ fn ends_with_answer(
     answers(alloc, read, schedule, question)
 }
 
-// The text of a plan with `schedule` in place of its own. Read back, the text has to be the plan with this schedule,
-// whose last turn answers the question.
+// The text `source` of a plan, with `schedule` in place of its own. Read back, the text has to be the plan with this
+// schedule, whose last turn answers the question.
 fn plan_to(
     alloc: Global,
     plan: &Plan,
@@ -123,12 +123,12 @@ fn never_text(alloc: Global, asked: ScheduleQuestion) -> Result<String, AllocErr
     }
 }
 
-/// Returns a plan's text with the shortest schedule whose last turn shows a requested effect. The effect is the answer
-/// to the question `asked`. If there is no such schedule, or if there are more than `most` states, returns a line that
-/// says so.
+/// Returns a plan's text with the shortest schedule whose last turn answers the question `asked`. If there is no such
+/// schedule, or if there are more than `most` states, returns a line that says so.
 ///
-/// Errors. `Memory`: allocation failed. `Mismatch`: with its new schedule the plan has more than 1,048,576 bytes. Or a
-/// run does not go on as another one said, which never happens on a host that gives the same answers to the same calls.
+/// Errors. `Memory`: allocation failed. `Mismatch`: with its new schedule the plan has too many turns or bytes. Or a run
+/// contradicts an earlier run, a turn is missing in the graph, or the graph lists a step outcome or a map twice. These
+/// never happen on a host that gives the same answers to the same calls.
 pub(crate) fn answer_text(
     alloc: Global,
     plan: &Plan,

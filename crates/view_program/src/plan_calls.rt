@@ -68,7 +68,7 @@ fn push_opening(
     }
 }
 
-// Appends an operation with its answer. A call is refused if there is a refusal.
+// Appends an action with its answer. A call is refused if there is a refusal.
 fn push_operation(
     text: &mut String,
     form: CallsForm,
@@ -83,7 +83,7 @@ fn push_operation(
     }
 }
 
-// Appends operations with their answers. None of them is refused.
+// Appends actions with their answers. None of them is refused.
 fn push_operations(
     text: &mut String,
     form: CallsForm,
@@ -97,8 +97,8 @@ fn push_operations(
     Ok(())
 }
 
-// Appends the operations for the event that the host has just recorded. `runs` has the pages for the exits from running
-// RECs.
+// Appends the actions for the event that the host has just recorded. `runs` has the run pages for RMI_REC_ENTER, with
+// the running REC that uses each.
 fn push_event(
     text: &mut String,
     form: CallsForm,
@@ -122,8 +122,8 @@ fn push_event(
     push_operations(text, form, actions.as_slice())
 }
 
-/// A text under construction that lists the RMM calls of a plan's run. `runs` has the pages for the exits from running
-/// RECs.
+/// A text under construction that lists the RMM calls of a plan's run. `runs` has the run pages for RMI_REC_ENTER, with
+/// the running REC that uses each.
 #[derive(Drop)]
 struct CallsText {
     text: String,
@@ -172,8 +172,8 @@ impl CallsText {
         }
     }
 
-    // Appends to `below` what is below the line of a turn: the operations for its event, or the call that the RMM
-    // refused. The history had `before` events.
+    // Appends to `below` what is below the line of a turn: the actions for its event, or the call that the RMM refused.
+    // The history had `before` events.
     fn push_below(
         &mut self,
         below: &mut String,
@@ -197,8 +197,8 @@ impl CallsText {
         }
     }
 
-    // Appends the line of a turn, and below it the operations for its event or the call that the RMM refused. The
-    // history had `before` events.
+    // Appends the line of a turn, and below it the actions for its event or the call that the RMM refused. The history
+    // had `before` events.
     fn push_answered(
         &mut self,
         alloc: Global,
@@ -219,7 +219,7 @@ impl CallsText {
         self.text.push_str(below.as_str())
     }
 
-    // Performs one turn of a build, and appends its line and its operations.
+    // Performs one turn of a build, and appends its line and its actions.
     fn push_turn(
         &mut self,
         alloc: Global,
@@ -270,9 +270,9 @@ fn calls_text(
     Ok(calls.text)
 }
 
-/// The text of the calls that a plan's run makes to an RMM: a description of the machine, and each turn of the run as a
-/// comment. Below a turn are the calls for its event, or the call that the RMM refused. A plan has none only if
-/// allocation failed.
+/// The text of the calls that a plan's run makes to an RMM. It has a description of the machine, and each turn of the
+/// run as a comment. Below a turn are the calls for its event, or the call that the RMM refused. The text is missing
+/// only if allocation failed.
 #[derive(Drop)]
 pub struct Calls {
     /// The address of granule 0, in bytes.

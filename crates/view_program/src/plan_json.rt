@@ -22,7 +22,7 @@ pub(crate) fn run_of(alloc: Global, plan: &Plan) -> Result<(Document, HostLedger
     Ok((document, host.into_ledger()))
 }
 
-/// The JSON document that describes the run of a plan. A plan has none only if allocation failed.
+/// The JSON document that describes the run of a plan. The text is missing only if allocation failed.
 #[derive(Drop)]
 pub struct Documents;
 

@@ -74,8 +74,8 @@ fn why_text(alloc: Global, plan: &Plan, all: bool) -> Result<String, AllocError>
 }
 
 /// The text of a plan's run, with the reason for each refusal. It has the line of each turn, with the check that fails
-/// below it if it is refused. Then it has the final map, and what each unfinished abort lacks. A plan has none only if
-/// allocation failed.
+/// below it if it is refused. Then it has the final map, and what each unfinished abort lacks. The text is missing only
+/// if allocation failed.
 #[derive(Drop)]
 pub struct Reasons {
     /// Whether the checks that passed before the failed check are listed too.

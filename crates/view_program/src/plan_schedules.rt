@@ -75,14 +75,16 @@ fn plan_after(after: AfterRefusal, plan: Plan) -> Plan
 /// schedule that shows it. If a shortest schedule is asked for, the text is the plan with that schedule. If there is no
 /// such schedule, or if there are too many states, the text is a line that says so.
 ///
-/// A plan has no such text if a run does not go on as another one said (Mismatch), or if allocation failed.
+/// There is no such text if allocation failed, or for `Mismatch`. That is a run that contradicts an earlier run, or a
+/// plan with too many turns or bytes once it has the shortest schedule.
 #[derive(Drop)]
 pub struct Exploring<'a, P> {
     /// The schedules to explore: all of them, randomly drawn ones, or a shortest one.
     pub schedules: Schedules,
     /// Whether the builds go on or give up after a refusal.
     pub after: AfterRefusal,
-    /// The receiver of progress reports. Each schedule that is drawn and run is reported to it.
+    /// The receiver of progress reports. Before each run of a drawn schedule, it gets the number of schedules run so
+    /// far.
     pub progress: &'a P,
 }
 

@@ -1,4 +1,4 @@
-//! The kinds of text that can be made from a plan.
+//! The trait of the texts that `print` writes.
 ghost use Rattle.std.specs.Prelude.{ℕ, List, IfOk, IfErr};
 ghost use Rattle.realm_plan.specs.Plan.{Plan as PlanModel};
 ghost use Rattle.realm_plan.specs.PlanView.{plan_view};
@@ -9,7 +9,7 @@ use realm_plan::Plan;
 use realm_program::Fault;
 use std::alloc::Global;
 
-/// A kind of text that can be made from a plan.
+/// A kind of text that can be made from a plan and the bytes of its input.
 pub trait ViewText {
     ghost is_text: { Self → PlanModel → List ℕ → Type 0 };
 

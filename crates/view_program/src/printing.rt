@@ -32,9 +32,9 @@ pub(crate) fn plan_from(alloc: Global, source: &str, bytes: &[u8]) -> Result<Pla
 
 /// Reads a plan, and writes the requested text of the plan.
 ///
-/// The text is complete before any of it is written. Errors. `NoPlan`, with the errors of an input that is no plan. The
-/// reason why a plan has no such text. `Memory`: allocation failed. `Device`: a read failed and nothing is written, or
-/// a write failed and a prefix of the text is written.
+/// The text is complete before any of it is written. Errors. `NoPlan`, with the errors of an input that is no plan.
+/// `Plan`, with the reason why the plan has no such text. `Memory`: allocation failed. `Device`: a read failed and
+/// nothing is written, or a write failed and a prefix of the text is written.
 pub fn print<T: ViewText, R: Read, W: Write>(
     asked: &T,
     alloc: Global,

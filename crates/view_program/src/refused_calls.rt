@@ -1,6 +1,6 @@
-//! The operations, such as RMI calls, for a command that the RMM refuses.
+//! The actions, such as RMI calls, for a command that the RMM refuses.
 //!
-//! This project's RMM refuses some commands that RMM 1.0 accepts, or refuses with another word.
+//! This project's RMM refuses some commands that RMM 1.0 accepts. Others it refuses with another result word.
 use buddy::BuddyArena;
 use granule_addr::{BuildId, IpaGran, is_protected};
 use history_calls::{Actions, Frame, RUN_PAGE_COUNT, actions_asked};
@@ -39,8 +39,9 @@ fn is_of_the_standard(host: &Host<BuddyArena>, build: BuildId, cmd: &Cmd, rmi: R
     }
 }
 
-/// Returns the operations, such as RMI calls, for a command that the RMM has just refused. `None` if RMM 1.0 has no
-/// such call or may answer otherwise. The page for exits is one that no REC uses before all others are in use.
+/// Returns the actions, such as RMI calls, for a command that the RMM has just refused. `None` if RMM 1.0 has no such
+/// call or may answer otherwise. A REC's run uses the last run page, which is given to a REC only if all others are in
+/// use.
 pub(crate) fn refused_calls(
     frame: Frame,
     host: &Host<BuddyArena>,

@@ -85,8 +85,8 @@ impl Totals {
         }
     }
 
-    /// Adds the outcomes of one more run to the totals. The plan has `builds` builds. At an `Err` allocation failed,
-    /// and a part of the run may be counted: the totals are then those of no list of runs.
+    /// Adds the outcomes of one more run to the totals. The plan has `builds` builds. The one error is that allocation
+    /// failed; the totals are then unspecified, because a part of the run may be counted.
     pub fn add(
         &mut self,
         alloc: Global,

@@ -8,7 +8,7 @@ use plan_states::PathTally;
 use schedule_graph::Count;
 use std::alloc::{AllocError, Global};
 
-/// Returns the build that was chosen for each turn of a schedule, in sequence. At an `Err` allocation failed.
+/// Returns the build that was chosen for each turn of a schedule, in sequence. The one error is that allocation failed.
 pub(crate) fn builds_of(alloc: Global, schedule: &[Choice]) -> Result<Vec<usize>, AllocError>
     ensures { IfOk result (λ builds. builds.items ≡ map (λ choice. choice.build) schedule.now) }
 {
@@ -30,7 +30,8 @@ fn bump<K: Eq>(tallies: &mut [PathTally<K>], outcome: &K) -> Result<bool, AllocE
     Ok(is_known)
 }
 
-/// Counts one more schedule with the given outcome. At an `Err` allocation failed.
+/// Counts one more schedule with the given outcome. The one error is that allocation failed; the number is then
+/// unspecified.
 pub(crate) fn count<K: Eq + Drop>(
     alloc: Global,
     tallies: &mut Vec<PathTally<K>>,

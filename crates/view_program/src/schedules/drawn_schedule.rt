@@ -70,7 +70,7 @@ fn go_on_drawn<S: PageStore, R: Rng>(
 
 /// Runs a plan on a host in a schedule that is drawn at random. The build of each turn is drawn from those that have a
 /// step left, until none has one. The choices are then those of the whole schedule, and the outcome of each step is
-/// recorded. At an `Err` allocation failed.
+/// recorded. The one error is that allocation failed; the run is then cut short.
 pub fn run_drawn<S: PageStore, R: Rng>(
     host: &mut Host<S>,
     plan: &Plan,

@@ -17,8 +17,8 @@ ghost use Rattle.plan_states.specs.declared.graph.Graph.{Graph};
 ghost use Rattle.plan_states.specs.declared.tally.Outcomes.{Outcomes};
 ghost use Rattle.plan_states.specs.declared.step_end.EndOfStep.{EndOfStep};
 
-/// The subcommand `explore` prints the number of all schedules that a plan allows. They are those that follow a rule.
-/// The rule is any that agrees with the paths of the plan's graph. The rule says which of eight builds have a step left
+/// Proves that the outcomes of a plan's graph count all schedules of the plan. A plan's schedules are those that a rule
+/// allows. The rule may be any that agrees with the paths of the graph. It says which of eight builds have a step left
 /// after which turns. In a plan without aborts and rollbacks that does not give up, a build has a step left if it had
 /// fewer turns than steps.
 pub fn all_schedules_are_counted()

@@ -57,7 +57,7 @@ fn go_on_in_rotation<S: PageStore>(
 
 /// Runs a plan on a host, and lets its builds take turns in rotation. Turns go only to builds that have a step left,
 /// and the run ends when there are none. The choices are then those of the whole schedule, and the outcome of each step
-/// is recorded. At an `Err` allocation failed.
+/// is recorded. The one error is that allocation failed; the run is then cut short.
 pub(crate) fn run_in_rotation<S: PageStore>(
     host: &mut Host<S>,
     plan: &Plan,

@@ -107,8 +107,8 @@ fn go_on<S: PageStore>(
 }
 
 /// Runs the builds of a plan on a host, one after another. Each turn goes to the lowest build that has a step left. The
-/// choices are then those of the whole schedule, and the outcome of each step is recorded. At an `Err` allocation
-/// failed.
+/// choices are then those of the whole schedule, and the outcome of each step is recorded. The one error is that
+/// allocation failed; the run is then cut short.
 pub(crate) fn run_one_by_one<S: PageStore>(
     host: &mut Host<S>,
     plan: &Plan,

@@ -56,7 +56,8 @@ fn visit_drawn<R: Rng>(
 
 /// Runs a plan `count` times, each time with a randomly drawn schedule. Each run is on a host of its own. The build of
 /// each turn is drawn from those with a step left, and a schedule may come more than once. The plan's own schedule is
-/// not used. Each run is reported to `progress`. At an `Err` allocation failed.
+/// not used. Before each run, `progress` gets the number of schedules run so far. The one error is that allocation
+/// failed.
 pub fn sample<R: Rng, P: Progress>(
     alloc: Global,
     plan: &Plan,

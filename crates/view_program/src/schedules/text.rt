@@ -35,7 +35,7 @@ fn push_maps(
 }
 
 /// Appends the text of the outcomes of randomly drawn schedules. It has the number of schedules, the outcomes of steps,
-/// and the final maps. At an `Err` allocation failed, and the text may have a part of it.
+/// and the final maps. The one error is that allocation failed; the text may then have a part of it.
 pub fn push_drawn(text: &mut String, plan: &Plan, totals: &Totals) -> Result<(), AllocError>
     ensures { OnOk result (string_bytes text.new ≡ string_bytes text.old ++ drawn_text (plan_view plan.now) totals.now) }
 {

@@ -12,9 +12,9 @@ use realm_plan::Plan;
 use realm_program::boot;
 use std::alloc::{AllocError, Global};
 
-/// Returns a schedule in which builds take turns in rotation. These are the builds with a step left. The schedule has
-/// the index of each turn's build. It is the schedule of a run on a fresh host. The plan's own schedule is not used. At
-/// an `Err` allocation failed.
+/// Returns a schedule in which the builds with a step left take turns in rotation. The schedule has the index of each
+/// turn's build. It is the schedule of a run on a fresh host. The plan's own schedule is not used. The one error is that
+/// allocation failed.
 pub fn schedule_in_rotation(alloc: Global, plan: &Plan) -> Result<Vec<usize>, AllocError>
     ensures { IfOk result (λ schedule. IsWholeSchedule (AreInRotation 0) (plan_view plan.now)
         (opening_host (plan_view plan.now)) schedule.items) }
@@ -28,7 +28,7 @@ pub fn schedule_in_rotation(alloc: Global, plan: &Plan) -> Result<Vec<usize>, Al
 
 /// Returns a schedule that runs the builds one after another. Each build has all its turns before the next build has
 /// one. The schedule has the index of each turn's build. It is the schedule of a run on a fresh host. The plan's own
-/// schedule is not used. At an `Err` allocation failed.
+/// schedule is not used. The one error is that allocation failed.
 pub fn schedule_one_by_one(alloc: Global, plan: &Plan) -> Result<Vec<usize>, AllocError>
     ensures { IfOk result (λ schedule. IsWholeSchedule AreOneByOne (plan_view plan.now)
         (opening_host (plan_view plan.now)) schedule.items) }
