@@ -3,10 +3,11 @@
 ghost use Rattle.std.specs.Prelude.{◌≡◌, ◌+◌, ◌-◌, ◌^◌, ◌<◌, ◌≤◌, ◌↔◌, min, false, true, is_err, IfOk, IfSome, OnOk, OnErr, Err, length};
 ghost use Rattle.std.specs.Io.{ReadsAtMost, WritesAtMost};
 ghost use Rattle.std.specs.Io.KnownBytes.{Appends, Keeps, ReadConsumes, WriteAppends};
+ghost use Rattle.std.specs.IoError.{error_kind};
 ghost use Rattle.checked_io.specs.Whole.{AppendsFront};
 
 use std::alloc::Global;
-use std::io::{ErrorKind, Read, Write};
+use std::io::{Error, ErrorKind, Read, Write};
 use std::marker::Model;
 
 /// The error of a failed call to a reader or writer.
@@ -98,6 +99,14 @@ impl<D> Told<D> {
         DeviceFailed
     }
 
+    // Records a failed write or flush by its error, which says whether the pipe is closed.
+    fn fail_by(&mut self, error: &Error) -> DeviceFailed
+        ensures fails { self.new ≡ record self.old { failed = true; is_closed = self.new.is_closed } }
+        ensures closed { (self.new.is_closed ≡ true) ↔ (error_kind error.now ≡ ErrorKind.BrokenPipe) }
+    {
+        self.fail(error.kind() == ErrorKind::BrokenPipe)
+    }
+
     /// Returns the number of read calls made so far. The counter saturates at the greatest `u64`.
     pub fn reads(&self) -> u64
         ensures { result ≡ self.now.reads }
@@ -140,7 +149,7 @@ impl<W: Write> Told<W> {
         match self.device.write(buf) {
             Ok(n) if n > 0 || buf.is_empty() => Ok(n),
             Ok(_) => Err(self.fail(false)),
-            Err(error) => Err(self.fail(error.kind() == ErrorKind::BrokenPipe)),
+            Err(error) => Err(self.fail_by(&error)),
         }
     }
 
@@ -153,7 +162,7 @@ impl<W: Write> Told<W> {
     {
         match self.device.flush() {
             Ok(()) => Ok(()),
-            Err(error) => Err(self.fail(error.kind() == ErrorKind::BrokenPipe)),
+            Err(error) => Err(self.fail_by(&error)),
         }
     }
 
