@@ -31,6 +31,11 @@ abbrev pub IsUnshown : {F : Type 0} → F → Bool → Bool → Stop F → Type 
 IsUnshown memory failed is_closed (Run fault) = (fault ≡ memory) ⊎ ((failed ≡ true) × (is_closed ≡ false))
 IsUnshown memory failed is_closed _ = ⊥
 
+-- the reason to stop is a fault with this property
+abbrev pub IsFaultWith : {F : Type 0} → (F → Type 0) → Stop F → Type 0
+IsFaultWith P (Run fault) = P fault
+IsFaultWith P _ = ⊥
+
 -- A program that has shown its help or its version has the status 0. One whose output was closed has that of a program
 -- which the signal SIGPIPE ends, as a shell gives it: 128 + 13.
 abbrev pub status_of_end : {V F : Type 0} → (V → ℕ) → (F → ℕ) → Result (Ended V) (Stop F) → ℕ

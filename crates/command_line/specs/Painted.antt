@@ -3,7 +3,7 @@ use Rattle.std.specs.Prelude.{◌≡◌, ℕ, List, [], ◌∷◌, ◌++◌, cod
 use Rattle.command_line.specs.declared.paint.Colour.{Colour}
 use Rattle.command_line.specs.declared.paint.Colour.TheVariants.{Error, Red, Green, Yellow, Cyan}
 
--- the sequence of a number that stands between ESC [ and m
+-- the sequence of a number that is between ESC [ and m
 abbrev pub escape : List ℕ → List ℕ
 escape number = 27 ∷ 91 ∷ number ++ codes "m"
 

@@ -21,8 +21,8 @@ schedules_asked most None None = Ok (All (unwrap_or most 1000000))
 schedules_asked most None (Some seed) = Ok (Drawn 1000 seed)
 schedules_asked most (Some sample) seed = schedules_drawn sample (unwrap_or seed 0)
 
--- What builds do after a refusal, by whether they are to give up. They do so only in schedules whose outcomes are printed:
--- a plan does not say it.
+-- The behaviour of builds after a refusal, by whether they are to give up. They give up only in schedules whose outcomes
+-- are printed: a plan does not say it.
 abbrev pub after_refusal : Bool → Schedules → Result AfterRefusal BadOption
 after_refusal false schedules = Ok GoOn
 after_refusal true (All most) = Ok GiveUp

@@ -1,5 +1,6 @@
 -- The reasons why a program stops before it has done what it was asked for, and their exit statuses.
-use Rattle.std.specs.Prelude.{ℕ}
+use Rattle.std.specs.Prelude.{ℕ, List, codes, string_bytes, Option, Some, None}
+use Rattle.std.specs.Fmt.{with_newline}
 use Rattle.clap.specs.Values.{kind_of}
 use Rattle.clap.specs.declared.error.Error.{Error}
 use Rattle.clap.specs.declared.error.kind.ErrorKind.{ErrorKind}
@@ -14,6 +15,13 @@ status_of_stop status_of (Usage error) = 2
 status_of_stop status_of NotUtf8 = 2
 status_of_stop status_of (Unopened line) = 5
 status_of_stop status_of (Run fault) = status_of fault
+
+-- The text that is printed. That of a usage error is known to `clap` alone, and that of a fault may be known.
+abbrev pub text_of_stop : {F : Type 0} → (F → Option (List ℕ)) → Stop F → Option (List ℕ)
+text_of_stop text_of (Usage error) = None
+text_of_stop text_of NotUtf8 = Some (codes "an argument is not UTF-8\n")
+text_of_stop text_of (Unopened line) = with_newline (Some (string_bytes line))
+text_of_stop text_of (Run fault) = with_newline (text_of fault)
 
 -- a rejected command line is a usage error, unless memory ran out
 abbrev pub stop_of_kind : {F : Type 0} → F → ErrorKind → Error → Stop F

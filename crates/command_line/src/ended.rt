@@ -1,7 +1,7 @@
 //! The outcome of a program that stops without an error.
 ghost use Rattle.std.specs.Prelude.{◌≡◌, false, true, Err, IfErr, IfOk};
 ghost use Rattle.clap.specs.Values.{kind_of};
-ghost use Rattle.command_line.specs.Ended.{end_of_run, is_request, IsShown, IsUnshown};
+ghost use Rattle.command_line.specs.Ended.{end_of_run, is_request, IsFaultWith, IsShown, IsUnshown};
 ghost use Rattle.command_line.specs.Stop.{stop_of_error};
 
 use crate::stop::{Reason, Stop};
@@ -44,8 +44,10 @@ impl<V> Ended<V> {
     ) -> Result<Ended<V>, Stop<F>>
         requires { output.old.failed ≡ false }
         ensures refused { is_request (kind_of error) ≡ false → result ≡ Err (stop_of_error F.memory error) }
+        ensures unwritten { is_request (kind_of error) ≡ false → output.new ≡ output.old }
         ensures ended { IfOk result (IsShown output.new.failed output.new.is_closed) }
         ensures stopped { is_request (kind_of error) ≡ true → IfErr result (IsUnshown F.memory output.new.failed output.new.is_closed) }
+        ensures device { output.new.failed ≡ true → IfErr result (IsFaultWith (F.from_gives (record {}))) }
     {
         if error.use_stderr() {
             return Err(error.into());

@@ -1,13 +1,23 @@
 //! Functions that return a program's command line arguments and its exit status.
-ghost use Rattle.std.specs.Prelude.{◌≡◌, ◌⊎◌, IfErr};
+ghost use Rattle.std.specs.Prelude.{◌≡◌, ◌⊎◌, IfErr, IfOk};
 ghost use Rattle.std.specs.Process.{exit_status};
+ghost use Rattle.std.specs.Vec.Iter.{into_iter_items};
 ghost use Rattle.command_line.specs.Stop.{status_of_stop};
 ghost use Rattle.command_line.specs.declared.stop.Stop.TheVariants.{NotUtf8, Run};
 
 use crate::stop::{Reason, Stop};
+use std::alloc::{AllocError, Global};
+use std::env::Args;
 use std::process::ExitCode;
 use std::rt::Env;
 use std::{env, io};
+
+// Collects all words of an iterator, in sequence.
+fn words_of(alloc: Global, arguments: Args) -> Result<Vec<String>, AllocError>
+    ensures { IfOk result (λ words. words.items ≡ into_iter_items arguments) }
+{
+    arguments.collect(alloc)
+}
 
 /// Returns the command line arguments, beginning with the program's name.
 ///
@@ -16,7 +26,7 @@ pub fn arguments<R: Env + AllocGlobal, F: Reason>(rt: &R) -> Result<Vec<String>,
     ensures { IfErr result (λ stop. (stop ≡ NotUtf8) ⊎ (stop ≡ Run F.memory)) }
 {
     match env::args(rt) {
-        Ok(arguments) => match arguments.collect(rt.alloc()) {
+        Ok(arguments) => match words_of(rt.alloc(), arguments) {
             Ok(words) => Ok(words),
             Err(_) => Err(Stop::Run(F::of_memory())),
         },

@@ -132,7 +132,8 @@ fn schedules_drawn(sample: u32, seed: u32) -> Result<Schedules, BadOption>
     }
 }
 
-// Returns the schedules that options ask for, or an error. They are drawn if a sample or a seed is given.
+// Returns the schedules that options ask for, or an error. Schedules are drawn if a sample or a seed is given, and
+// otherwise all are explored.
 fn schedules_asked(
     most_states: Option<u32>,
     sample: Option<u32>,

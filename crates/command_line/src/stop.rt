@@ -54,6 +54,10 @@ impl<F: Reason> Stop<F> {
 
 /// Formats the text that a stopped program writes to standard error.
 impl<F: Reason> Display for Stop<F> {
+    ghost use Rattle.command_line.specs.Stop.{text_of_stop};
+
+    ghost output = { text_of_stop F.output };
+
     fn fmt<W: fmt::Write>(&self, f: &mut fmt::Formatter<W>) -> fmt::Result {
         match self {
             Stop::Usage(error) => write!(f, "{error}"),

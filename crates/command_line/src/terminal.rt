@@ -1,5 +1,5 @@
 //! Input and output of a program at a terminal.
-ghost use Rattle.std.specs.Prelude.{◌≡◌, ◌⊎◌, IfErr, IfOk, is_some};
+ghost use Rattle.std.specs.Prelude.{◌≡◌, ◌⊎◌, IfErr, IfOk, is_some, true, None};
 ghost use Rattle.std.specs.Process.{exit_status};
 ghost use Rattle.command_line.specs.Stop.{status_of_stop};
 ghost use Rattle.command_line.specs.Terminal.{is_file};
@@ -62,6 +62,7 @@ impl<'a> Input<'a> {
     ) -> Result<Input<'a>, Stop<F>>
         ensures ok { IfOk result (λ input. is_file input ≡ is_some file.entry) }
         ensures err { IfErr result (λ stop. (status_of_stop F.status_of stop ≡ 5) ⊎ (stop ≡ Run F.memory)) }
+        ensures named { IfErr result (λ _. is_some file.entry ≡ true) }
     {
         let Some(name) = file else {
             let stdin = rt.stdin();
@@ -107,7 +108,9 @@ pub struct Output<'a> {
 
 impl<'a> Output<'a> {
     /// Opens standard output. The output gets the painting if it is a terminal and the environment allows colours.
-    pub fn open(rt: &'a HostRuntime, painting: Option<TextKind>) -> Output<'a> {
+    pub fn open(rt: &'a HostRuntime, painting: Option<TextKind>) -> Output<'a>
+        ensures { (result.painting ≡ painting) ⊎ (result.painting ≡ None) }
+    {
         let is_painted = rt.stdout().is_terminal() && allows_colours(rt);
         Output {
             stdout: WaitingStream::new(rt, rt.stdout()),
