@@ -10,6 +10,8 @@ import types
 
 # The file with what `rt version` prints of each toolchain that the repository is written for, a line each.
 VERSION = f"{os.path.dirname(os.path.dirname(os.path.realpath(__file__)))}/rattle-toolchain"
+# The settings of the prover's allocator. Left to itself it gives freed memory back to the system, and soon asks for it again.
+ALLOCATOR = {"MIMALLOC_PURGE_DELAY": "-1"}
 
 
 def check_version(rt="rt"):
@@ -36,6 +38,8 @@ class Toolchain:
             if not os.path.isfile(f"{self.folder}/{name}"):
                 raise LookupError(f"{found} is no toolchain's own rt, or of another version: beside it is no {name}")
         check_version(found)
+        for name, value in ALLOCATOR.items():
+            os.environ.setdefault(name, value)
         self.rt, self.reader = self.load("rt"), self.load("rt-plant-bodies")
         self.library = self.rt.rtlib
         self.library.Crate.stamp = summed_once(self.library.Crate.stamp)
