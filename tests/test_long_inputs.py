@@ -8,9 +8,9 @@ import subprocess
 
 import pytest
 
-from programs import HOST, TOP, TRACER, Ran, limited, needs, run
+from programs import HOST, TOP, TRACER, VIEW, Ran, limited, needs, run
 
-pytestmark = [pytest.mark.long, pytest.mark.random, needs(HOST, TRACER)]
+pytestmark = [pytest.mark.long, pytest.mark.random, needs(HOST, TRACER, VIEW)]
 MIB = 1 << 20
 
 
@@ -26,6 +26,7 @@ def test_little_memory(word, more):
 
 
 LINE = b"\0" * 65537
+NO_PLAN = b"plan:1:1: error: a plan has at most 1048576 bytes, and this is longer\n" + b" " * 78 + b"..\n^\n"
 JUDGED = b"trace:1: wrong\n" + LINE + b"\nhere: no command\n0 same, 0 allowed, 1 wrong\n"
 
 
@@ -36,8 +37,11 @@ JUDGED = b"trace:1: wrong\n" + LINE + b"\nhere: no command\n0 same, 0 allowed, 1
         (HOST, "run", Ran(1, b"", b"plan 24 limit\n")),
         (TRACER, "answer", Ran(0, LINE + b" = no command\n", b"")),
         (TRACER, "check", Ran(1, JUDGED, b"")),
+        (VIEW, "check", Ran(1, NO_PLAN, b"")),
+        (VIEW, "history", Ran(1, b"", NO_PLAN)),
+        (VIEW, "apply", Ran(1, b"", b"line 1 opens no history\n")),
     ],
-    ids=["replay", "run", "answer", "check"],
+    ids=["replay", "run", "answer", "check", "check of a plan", "history", "apply"],
 )
 def test_zeros(program, word, wanted):
     """5 GiB of zeros. A program may end before it has read them all."""

@@ -292,6 +292,14 @@ def test_a_build_waits_for_a_vmid(check):
     check("build 2 never", run(VIEW, ["explore", "--waiting", "2"], ONE_VMID), (0, "build 2 waiting in 0\n", ""))
 
 
+def test_comments_stay(check):
+    """The plan that answers a question is its source, but for the value of `order`."""
+    plan = plan_of([REALM, REALM, ["take 0"]], vmids=1, order=[0])
+    text = "# one VMID\n\n" + plan.replace("[0]\n", "[0]  # to be another\n  # below it\n", 1) + "# the end\n"
+    wanted = text.replace("[0]", "[0, 0, 0, 0, 1, 1, 1, 1]", 1)
+    check("the text", run(VIEW, ["explore", "--waiting", "1"], text), (0, wanted, ""))
+
+
 def test_questions_that_are_none(check):
     two = "error: of --refused, --waiting and --leased only one may be given"
     for words, line in (

@@ -388,11 +388,22 @@ def of_a_pipe() -> Iterator[Finding]:
         yield None if is_well else f"{words[-1]} on a pipe: {told!r}, then {rest!r}, status {bench.returncode}"
 
 
+def of_a_stop() -> Iterator[Finding]:
+    """With --stop a check ends at its wrong line, although its input may go on."""
+    with subprocess.Popen([TRACER, "check", "--stop"], stdin=subprocess.PIPE, stdout=subprocess.PIPE, bufsize=0) as bench:
+        bench.stdin.write(bytes_of(CHOSEN))
+        try:
+            status = bench.wait(10)
+        except subprocess.TimeoutExpired:
+            status = None
+        yield differs_in("the status of check --stop on a pipe", status, 1)
+
+
 # ---- tests
 
 OF_A_SUBJECT = [it for it in paths() if it.parent.name != "random"]
 ALONE = (of_model, of_block, of_lines, of_whole_texts, of_named_lines, of_words, of_no_reason, of_choices, of_a_file, of_surroundings,
-         of_a_pipe)
+         of_a_pipe, of_a_stop)
 
 
 @pytest.mark.parametrize("path", paths(), ids=name_of)

@@ -56,6 +56,22 @@ pub record HasRead (count : ℕ) (input left : Option (List ℕ)) : Type 0 where
   pub consumed : Consumes input left read
   pub at_least : count ≤ length read
 
+-- The bytes `before` of the input were read, and then a part of it in one read.
+pub record HasReadPart (before : List ℕ) (input left : Option (List ℕ)) : Type 0 where
+  pub part : List ℕ
+  pub consumed : Consumes input left (before ++ part)
+  pub short : length part ≤ 4096
+
+-- Up to the last read, the check was not done.
+pub record IsReadToStop (asked : TraceSubcommand) (source : List ℕ) (input left : Option (List ℕ)) : Type 0 where
+  pub before : List ℕ
+  pub last : HasReadPart before input left
+  pub written : List ℕ
+  pub s : Session
+  pub line : List ℕ
+  pub taken : IsTraceLineTaken asked source before written s line []
+  pub going : is_check_done asked s ≡ false
+
 -- ---- ends
 
 -- The input was read to its end, or the run is done before it.

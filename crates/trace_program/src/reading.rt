@@ -1,6 +1,6 @@
 //! The loop that reads a trace and writes the texts of its lines.
 ghost use Rattle.std.specs.Prelude.{◌≡◌, ◌+◌, ◌-◌, ◌^◌, ◌≤◌, ◌++◌, ◌⊎◌, ◌↔◌, ℕ, List, [], Option, true, false, length, Err, IfOk, OnOk, OnErr};
-ghost use Rattle.std.specs.Io.KnownBytes.{Appends};
+ghost use Rattle.std.specs.Io.KnownBytes.{Appends, Consumes};
 ghost use Rattle.checked_io.specs.Whole.{AppendsFront};
 ghost use Rattle.trace_program.specs.declared.fault.TraceError.TheVariants.{Device, TooLong};
 ghost use Rattle.trace_program.specs.Session.{IsTooMany, TakesLine, is_check_done};
@@ -155,6 +155,8 @@ impl Reading {
         ensures fine { OnOk result ((input.new.failed ≡ false) × (output.new.failed ≡ false)) }
         ensures more { (count : ℕ) (begin : Option (List ℕ)) → specs.HasRead count begin (R.remaining input.old.device)
             → IfOk result (λ more. more ≡ true → specs.HasRead (count + 1) begin (R.remaining input.new.device)) }
+        ensures part { (begin : Option (List ℕ)) (read : List ℕ) → Consumes begin (R.remaining input.old.device) read
+            → OnOk result (specs.HasReadPart read begin (R.remaining input.new.device)) }
         ensures long { result ≡ Err TooLong → (begin start : Option (List ℕ)) → specs.IsUnderway request.entry.asked.now request.entry.source.now begin (R.remaining input.old.device) start (W.contents output.old.device) self.old.session self.old.line.items
             → specs.HasRead (2 ^ 64 - 1) begin (R.remaining input.new.device) }
     {
@@ -211,6 +213,7 @@ pub fn run<R: Read, W: Write>(
         (W.contents output.old.device) (W.contents output.new.device)) }
     ensures err { OnErr result (specs.IsCutShort asked.now source.now (R.remaining input.old.device) (R.remaining input.new.device)
         (W.contents output.old.device) (W.contents output.new.device)) }
+    ensures stop { OnOk result (specs.IsReadToStop asked.now source.now (R.remaining input.old.device) (R.remaining input.new.device)) }
     ensures device { ((input.new.failed ≡ true) ⊎ (output.new.failed ≡ true)) ↔ (result ≡ Err Device) }
     ensures long { result ≡ Err TooLong → specs.HasRead (2 ^ 64 - 1) (R.remaining input.old.device) (R.remaining input.new.device) }
 {

@@ -24,3 +24,4 @@ mod PlanEnds
 mod TurnTexts
 mod CallsTexts
 mod CallsBelow
+mod EventBuilds

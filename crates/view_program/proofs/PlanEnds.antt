@@ -1,5 +1,5 @@
 -- The ends of the printing of a plan's text.
-use Rattle.std.proofs.Common.{◌≡◌, ℕ, List, Option, Ok, Err, Bool, true, false, refl, ap, sym, ◌∙◌, string_bytes}
+use Rattle.std.proofs.Common.{◌≡◌, ℕ, List, Option, Ok, Err, Bool, true, false, refl, ap, sym, ◌∙◌, subst, string_bytes}
 use Rattle.std.specs.Prelude.{IfSome}
 use Rattle.realm_plan.specs.Plan.{Plan, plan_of}
 use Rattle.realm_program.specs.Whole.{kept_of}
@@ -12,16 +12,26 @@ use Rattle.checked_io.specs.Whole.{AppendsFront}
 use Rattle.checked_io.proofs.Read.{keeps_same}
 use Rattle.view_program.specs.Stop.{view_fault_of_read}
 use Rattle.view_program.specs.Checked.{GivesNoPlan}
-use Rattle.view_program.specs.Printed.{IsPlanEnd}
+use Rattle.view_program.specs.Printed.{IsPlanEnd, IsTextFrom}
 use Rattle.view_program.specs.declared.fault.ViewError.{ViewError}
 use Rattle.view_program.specs.declared.fault.ViewError.TheVariants.{NoPlan, Plan as OfPlan, NoOpening, NoEvent, Refused, EraseNamesNoBuild, OrderOutsideLimits, Memory, Device}
 use Rattle.view_program.proofs.CheckEnds.{errors_from_kept}
+use Rattle.view_program.proofs.OrderTexts.{input_has}
 
 -- a plan that is read of the bytes that were kept is that of the input
 pub input_is : (input : Option (List ℕ)) (bytes read : List ℕ) (plan : Plan) → IfSome input (λ xs. bytes ≡ kept_of xs) → read ≡ bytes → plan_of read ≡ Ok plan → IsPlanOf input plan
 input_is input bytes read plan kept same is = plan_from_kept input bytes (Ok plan) kept (ap plan_of (sym same) ∙ is)
 
-module _ (texts : Plan → List ℕ → Type 0) (without : Plan → plan_fault.Fault → Type 0) (source : List ℕ) (unread : Bool) (input : Option (List ℕ)) where
+-- a text of the bytes that were kept is one of the input
+pub text_from : (texts : List ℕ → Plan → List ℕ → Type 0) (input : Option (List ℕ)) (bytes read : List ℕ) (plan : Plan) (text : List ℕ)
+    → IfSome input (λ xs. bytes ≡ kept_of xs) → read ≡ bytes → plan_of bytes ≡ Ok plan → texts read plan text → IsTextFrom texts input plan text
+text_from texts input bytes read plan text kept same is_plan is = record {
+  bytes = bytes;
+  of_input = input_has (λ (them : List ℕ). bytes ≡ them) input bytes plan kept is_plan refl;
+  is_text = subst (λ (them : List ℕ). texts them plan text) same is;
+}
+
+module _ (texts : List ℕ → Plan → List ℕ → Type 0) (without : Plan → plan_fault.Fault → Type 0) (source : List ℕ) (unread : Bool) (input : Option (List ℕ)) where
   -- nothing was read
   pub unread_plan : (output : Option (List ℕ)) (error : ReadError) → (error ≡ read_error.Device → unread ≡ true)
       → IsPlanEnd texts without source unread input output output (Err (view_fault_of_read error))
@@ -42,6 +52,6 @@ module _ (texts : Plan → List ℕ → Type 0) (without : Plan → plan_fault.F
   no_plan output bytes Device kept gives = absurd gives
 
   -- a prefix of the text was written
-  pub cut : (old new : Option (List ℕ)) (plan : Plan) (text : List ℕ) → unread ≡ false → IsPlanOf input plan → texts plan text → AppendsFront old new text
+  pub cut : (old new : Option (List ℕ)) (plan : Plan) (text : List ℕ) → unread ≡ false → IsPlanOf input plan → IsTextFrom texts input plan text → AppendsFront old new text
       → IsPlanEnd texts without source unread input old new (Err Device)
   cut old new plan text read of_input is_text written = rw read (record { text = text; text_of = record { plan = plan; of_input = of_input; is_text = is_text }; written = written })

@@ -1,5 +1,5 @@
 -- The text of the calls of a plan's run.
-use Rattle.std.specs.Prelude.{◌≡◌, ◌⊎◌, ◌<◌, ◌≤◌, ℕ, Bool, true, false, List, [], ◌∷◌, ◌++◌, length, replicate, codes, slice_get, Option, Some, None, IfSome}
+use Rattle.std.specs.Prelude.{◌≡◌, ◌⊎◌, ◌≤◌, ℕ, Bool, true, false, List, [], ◌∷◌, ◌++◌, length, replicate, codes, slice_get, Option, Some, None, IfSome}
 use Rattle.std.specs.List.{flat_map}
 use Rattle.command_line.specs.declared.realmview.CallsForm.{CallsForm}
 use Rattle.command_line.specs.declared.realmview.CallsForm.TheVariants.{Trace, Rows}
@@ -51,10 +51,9 @@ pub record IsNoWrite (runs next : List (Option ℕ)) (event : Event) (text : Lis
   pub comment : text ≡ codes "# no call: the RIPAS there is not RAM, and in RMM 1.0 the guest's write is refused\n"
   pub pages : next ≡ runs
 
--- The text for an event of a build that the host has: the lines of its actions, or that comment.
+-- the text for an event of a host: the lines of its actions, or that comment
 abbrev pub AreCallsOfEvent : Place → (runs next : List (Option ℕ)) → HostView → Event → List ℕ → Type 0
-AreCallsOfEvent frame runs next host event text =
-    event.build < host.limits.builds → AreEventLines frame runs next host event text ⊎ IsNoWrite runs next event text
+AreCallsOfEvent frame runs next host event text = AreEventLines frame runs next host event text ⊎ IsNoWrite runs next event text
 
 pub record AppendsCallsOfEvent (frame : Place) (runs next : List (Option ℕ)) (host : HostView) (event : Event) (old new : List ℕ) : Type 0 where
   pub text : List ℕ

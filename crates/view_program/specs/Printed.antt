@@ -1,5 +1,5 @@
 -- The printing of the map of a history, and the outcome of each subcommand.
-use Rattle.std.specs.Prelude.{ℕ, Bool, true, false, List, Option, None, Result, Ok, Err, string_bytes}
+use Rattle.std.specs.Prelude.{◌≡◌, ℕ, ◌+◌, ◌≤◌, Bool, true, false, List, Option, None, IfSome, Result, Ok, Err, string_bytes}
 use Rattle.std.specs.Io.KnownBytes.{Appends, Keeps}
 use Rattle.host_ledger.specs.View.{HostView}
 use Rattle.checked_io.specs.Whole.{AppendsFront}
@@ -68,14 +68,20 @@ IsApplyEnd erase unread input old new (Err fault) = ⊥
 
 -- ---- the request
 
+-- the text is one of the plan that was read from these bytes, which are those of the input if it is known
+pub record IsTextFrom (texts : List ℕ → plan.Plan → List ℕ → Type 0) (input : Option (List ℕ)) (it : plan.Plan) (text : List ℕ) : Type 0 where
+  pub bytes : List ℕ
+  pub of_input : IfSome input (λ known. bytes ≡ known)
+  pub is_text : texts bytes it text
+
 -- The end of a request for a plan's text: it is printed whole or not at all, unless a write fails on the way. For an
 -- input that is no plan the fault has the errors.
-abbrev pub IsPlanEnd : (plan.Plan → List ℕ → Type 0) → (plan.Plan → plan_fault.Fault → Type 0) → List ℕ → Bool → Option (List ℕ) → Option (List ℕ) → Option (List ℕ) → Result (Unit {0}) ViewError → Type 0
-IsPlanEnd texts without source unread input old new (Ok done) = IsPrinted texts input old new
+abbrev pub IsPlanEnd : (List ℕ → plan.Plan → List ℕ → Type 0) → (plan.Plan → plan_fault.Fault → Type 0) → List ℕ → Bool → Option (List ℕ) → Option (List ℕ) → Option (List ℕ) → Result (Unit {0}) ViewError → Type 0
+IsPlanEnd texts without source unread input old new (Ok done) = IsPrinted (IsTextFrom texts input) input old new
 IsPlanEnd texts without source unread input old new (Err (NoPlan errors)) = AreErrorsOf source input (string_bytes errors) × Keeps old new
 IsPlanEnd texts without source unread input old new (Err (Plan fault)) = HasNoText without input fault × Keeps old new
 IsPlanEnd texts without source unread input old new (Err Memory) = Keeps old new
-IsPlanEnd texts without source unread input old new (Err Device) = IsEndOfDevice texts unread input old new
+IsPlanEnd texts without source unread input old new (Err Device) = IsEndOfDevice (IsTextFrom texts input) unread input old new
 IsPlanEnd texts without source unread input old new (Err fault) = ⊥
 
 -- the end of a request other than a check: it never ends with the verdict `HasErrors`
@@ -85,12 +91,17 @@ EndsAs IsEndOf (Ok HasErrors) = ⊥
 EndsAs IsEndOf (Err fault) = IsEndOf (Err fault)
 
 abbrev pub IsRunEnd : ViewSubcommand → List ℕ → Bool → Option (List ℕ) → Option (List ℕ) → Option (List ℕ) → Result ViewOutcome ViewError → Type 0
-IsRunEnd (History erase) source unread input old new result = EndsAs (IsPlanEnd (IsHistoryText erase) (IsWithoutText erase) source unread input old new) result
+IsRunEnd (History erase) source unread input old new result = EndsAs (IsPlanEnd (λ _. IsHistoryText erase) (IsWithoutText erase) source unread input old new) result
 IsRunEnd (Apply erase) source unread input old new result = EndsAs (IsApplyEnd erase unread input old new) result
-IsRunEnd Json source unread input old new result = EndsAs (IsPlanEnd IsJsonText (IsWithoutText None) source unread input old new) result
-IsRunEnd Page source unread input old new result = EndsAs (IsPlanEnd IsPageText (IsWithoutText None) source unread input old new) result
-IsRunEnd (Why all) source unread input old new result = EndsAs (IsPlanEnd (IsWhyText all) (IsWithoutText None) source unread input old new) result
-IsRunEnd (Calls base form) source unread input old new result = EndsAs (IsPlanEnd (IsCallsText form base) (IsWithoutText None) source unread input old new) result
+IsRunEnd Json source unread input old new result = EndsAs (IsPlanEnd (λ _. IsJsonText) (IsWithoutText None) source unread input old new) result
+IsRunEnd Page source unread input old new result = EndsAs (IsPlanEnd (λ _. IsPageText) (IsWithoutText None) source unread input old new) result
+IsRunEnd (Why all) source unread input old new result = EndsAs (IsPlanEnd (λ _. IsWhyText all) (IsWithoutText None) source unread input old new) result
+IsRunEnd (Calls base form) source unread input old new result = EndsAs (IsPlanEnd (λ _. IsCallsText form base) (IsWithoutText None) source unread input old new) result
 IsRunEnd (Explore schedules after) source unread input old new result = EndsAs (IsPlanEnd (IsExploredText schedules after) (IsWithoutExplored schedules after) source unread input old new) result
 IsRunEnd (Order turns) source unread input old new result = EndsAs (IsReorderEnd turns source unread input old new) result
 IsRunEnd Check source unread input old new result = IsCheckEnd source unread input old new result
+
+-- The number of reads, before and after: a plan takes up to 1,048,578 of them, and a history is read to its end.
+abbrev pub AreFewReads : ViewSubcommand → (old new : ℕ) → Type 0
+AreFewReads (Apply erase) old new = Unit {0}
+AreFewReads asked old new = new ≤ old + 1048578

@@ -29,10 +29,11 @@ pub record IsDrawnText (count seed : ℕ) (plan : Plan) (text : List ℕ) : Type
   pub sampled : IsSampled plan (opening_host plan) (random_numbers seed) count totals
   pub whole : text ≡ drawn_text plan totals
 
-abbrev pub IsSchedulesText : Schedules → Plan → List ℕ → Type 0
-IsSchedulesText (All most) plan text = IsStatesText most plan text
-IsSchedulesText (Drawn count seed) plan text = IsDrawnText count seed plan text
-IsSchedulesText (Shortest most question) plan text = IsAnswerText most question plan text
+-- the text for these schedules of a plan that was read from `source`
+abbrev pub IsSchedulesText : Schedules → (source : List ℕ) → Plan → List ℕ → Type 0
+IsSchedulesText (All most) source plan text = IsStatesText most plan text
+IsSchedulesText (Drawn count seed) source plan text = IsDrawnText count seed plan text
+IsSchedulesText (Shortest most question) source plan text = IsAnswerText most question source plan text
 
 -- the reason why there is no text: allocation failed, or, unless schedules are drawn, there is a mismatch between runs
 abbrev pub IsWithoutSchedules : Schedules → Plan → Fault → Type 0
@@ -48,8 +49,8 @@ abbrev pub plan_after : AfterRefusal → Plan → Plan
 plan_after GoOn plan = plan
 plan_after GiveUp plan = record plan { gives_up = true }
 
-abbrev pub IsExploredText : Schedules → AfterRefusal → Plan → List ℕ → Type 0
-IsExploredText schedules after plan text = IsSchedulesText schedules (plan_after after plan) text
+abbrev pub IsExploredText : Schedules → AfterRefusal → (source : List ℕ) → Plan → List ℕ → Type 0
+IsExploredText schedules after source plan text = IsSchedulesText schedules source (plan_after after plan) text
 
 abbrev pub IsWithoutExplored : Schedules → AfterRefusal → Plan → Fault → Type 0
 IsWithoutExplored schedules after plan fault = IsWithoutSchedules schedules (plan_after after plan) fault

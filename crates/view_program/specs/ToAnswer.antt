@@ -8,7 +8,7 @@ use Rattle.plan_states.specs.declared.question.TurnQuestion.{TurnQuestion}
 use Rattle.plan_states.specs.declared.question.TurnQuestion.TheVariants as search
 use Rattle.command_line.specs.declared.realmview.ScheduleQuestion.{ScheduleQuestion}
 use Rattle.command_line.specs.declared.realmview.ScheduleQuestion.TheVariants.{Refused, Waiting, Leased}
-use Rattle.view_program.specs.OrderText.{with_schedule}
+use Rattle.view_program.specs.OrderText.{with_schedule, IsWithOrder}
 
 -- the question that the search gets for a question on the command line
 abbrev pub question_of_options : ScheduleQuestion → TurnQuestion
@@ -34,21 +34,23 @@ never_line (Leased granules) = never_leased_line granules
 
 -- ---- texts
 
--- The text is the plan with this schedule, whose last turn answers the question.
-pub record IsPlanTo (question : TurnQuestion) (plan : Plan) (schedule text : List ℕ) : Type 0 where
+-- The text is the source with this schedule in it. Read back, it is the plan with this schedule, whose last turn answers
+-- the question.
+pub record IsPlanTo (question : TurnQuestion) (source : List ℕ) (plan : Plan) (schedule text : List ℕ) : Type 0 where
+  pub is_text : IsWithOrder schedule source text
   pub is_plan : plan_of text ≡ Ok (with_schedule schedule plan)
   pub answers : EndsWithAnswer (with_schedule schedule plan) question schedule
 
--- the text is the plan with the first of the shortest schedules that answer the question
-pub record IsShortestPlan (most : ℕ) (question : TurnQuestion) (plan : Plan) (text : List ℕ) : Type 0 where
+-- the text is the source of the plan, with the first of the shortest schedules that answer the question
+pub record IsShortestPlan (most : ℕ) (question : TurnQuestion) (source : List ℕ) (plan : Plan) (text : List ℕ) : Type 0 where
   pub schedule : List ℕ
   pub shortest : IsShortest plan most question schedule
-  pub is_plan : IsPlanTo question plan schedule text
+  pub is_plan : IsPlanTo question source plan schedule text
 
--- The text is the plan with the first of the shortest schedules that answer the question. Or it is a line: no schedule
--- does, or there are more than `most` states.
-abbrev pub IsAnswerText : ℕ → ScheduleQuestion → Plan → List ℕ → Type 0
-IsAnswerText most asked plan text =
-    IsShortestPlan most (question_of_options asked) plan text
+-- The text is the source of the plan, with the first of the shortest schedules that answer the question. Or it is a
+-- line: no schedule does, or there are more than `most` states.
+abbrev pub IsAnswerText : ℕ → ScheduleQuestion → (source : List ℕ) → Plan → List ℕ → Type 0
+IsAnswerText most asked source plan text =
+    IsShortestPlan most (question_of_options asked) source plan text
     ⊎ ((IsNever plan most (question_of_options asked) × (text ≡ never_line asked))
     ⊎ (text ≡ too_many_line most))

@@ -93,8 +93,8 @@ pub fn apply<R: Read, W: Write>(
     ensures end { IsApplyEnd erase input.new.failed (R.remaining input.old.device) (W.contents output.old.device) (W.contents output.new.device) result }
     ensures device { ((input.new.failed ≡ true) ⊎ (output.new.failed ≡ true)) ↔ (result ≡ Err Device) }
 {
-    let found = host_in(alloc, input)?;
-    let text = asked_map(alloc, &found.0, &found.1, erase)?;
+    let (opening, host) = host_in(alloc, input)?;
+    let text = asked_map(alloc, &opening, &host, erase)?;
     output.write_whole(text.as_bytes())?;
     Ok(())
 }

@@ -14,7 +14,7 @@ ghost use Rattle.view_program.specs.ToAnswer.{
   IsPlanTo,
 };
 
-use crate::plan_order::with_order;
+use crate::plan_order::{own_schedule, with_order};
 use crate::same_plan::is_same_but_schedule;
 use command_line::realmview::{ScheduleQuestion, StepPlace};
 use plan_states::{TurnQuestion, Witness, answers, shortest_answer, too_many_text};
@@ -52,11 +52,7 @@ fn ends_with_answer(
     ensures answers { IfOk result (λ ends. ends ≡ true → EndsWithAnswer (plan_view read.now) question schedule.now) }
     ensures err { IfErr result HasNoGraph }
 {
-    let own: Vec<usize> = read
-        .order
-        .iter()
-        .map(|build| build.number() as usize)
-        .collect(alloc)?;
+    let own = own_schedule(alloc, read)?;
     if own.as_slice() != schedule || !is_same_but_schedule(read, plan) {
         return Ok(false);
     }
@@ -72,7 +68,7 @@ fn plan_to(
     schedule: &[usize],
     question: TurnQuestion,
 ) -> Result<Vec<u8>, Fault>
-    ensures ok { IfOk result (λ text. IsPlanTo question (plan_view plan.now) schedule.now text.items) }
+    ensures ok { IfOk result (λ text. IsPlanTo question source.now (plan_view plan.now) schedule.now text.items) }
     ensures err { IfErr result HasNoGraph }
 {
     let text = with_order(alloc, source, schedule)?;
@@ -136,7 +132,7 @@ pub(crate) fn answer_text(
     most: u32,
     asked: ScheduleQuestion,
 ) -> Result<Vec<u8>, Fault>
-    ensures ok { IfOk result (λ text. IsAnswerText most asked (plan_view plan.now) text.items) }
+    ensures ok { IfOk result (λ text. IsAnswerText most asked source.now (plan_view plan.now) text.items) }
     ensures err { IfErr result HasNoGraph }
 {
     let question = question_of_options(asked);

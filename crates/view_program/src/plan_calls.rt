@@ -1,5 +1,5 @@
 //! The RMM calls of a plan's run, as a trace or a C table.
-ghost use Rattle.std.specs.Prelude.{◌≡◌, ◌<◌, ◌≤◌, ◌++◌, false, true, length, slice_get, codes, None, Some, IfOk, IfSome, OnOk, string_bytes, vec_len};
+ghost use Rattle.std.specs.Prelude.{◌≡◌, ◌<◌, ◌≤◌, ◌++◌, false, true, length, slice_get, None, Some, IfOk, IfSome, OnOk, string_bytes, vec_len};
 ghost use Rattle.std.specs.Bool.{OnTrue};
 ghost use Rattle.command_line.specs.declared.realmview.CallsForm.TheVariants.{Trace};
 ghost use Rattle.history_calls.specs.Lines.{action_line, platform_line};
@@ -69,7 +69,7 @@ fn push_opening(
 }
 
 // Appends an action with its answer. A call is refused if there is a refusal.
-fn push_operation(
+fn push_in_form(
     text: &mut String,
     form: CallsForm,
     action: &HostAction,
@@ -84,7 +84,7 @@ fn push_operation(
 }
 
 // Appends actions with their answers. None of them is refused.
-fn push_operations(
+fn push_actions(
     text: &mut String,
     form: CallsForm,
     actions: &[HostAction],
@@ -92,14 +92,14 @@ fn push_operations(
     ensures { OnOk result (form ≡ Trace → string_bytes text.new ≡ string_bytes text.old ++ action_lines actions.now) }
 {
     for action in actions {
-        push_operation(text, form, action, None)?;
+        push_in_form(text, form, action, None)?;
     }
     Ok(())
 }
 
 // Appends the actions for the event that the host has just recorded. `runs` has the run pages for RMI_REC_ENTER, with
 // the running REC that uses each.
-fn push_event(
+fn push_recorded(
     text: &mut String,
     form: CallsForm,
     frame: Frame,
@@ -107,11 +107,9 @@ fn push_event(
     host: &Host<BuddyArena>,
     event: &Event,
 ) -> Result<(), AllocError>
+    requires { event.now.build < host.now.limits.builds }
     ensures { OnOk result (form ≡ Trace → AppendsCallsOfEvent frame runs.old runs.new host.now event.now (string_bytes text.old) (string_bytes text.new)) }
 {
-    if !host.ledger().has_build(event.build) {
-        return Ok(());
-    }
     if is_beside_ram(host, event) {
         begin_comment(text, form)?;
         return text.push_str(BESIDE_RAM);
@@ -119,7 +117,7 @@ fn push_event(
     let subject = host.ledger().place(event.build, &event.act);
     let run = runs.page_for(subject.rec, &event.act);
     let actions = actions_of(frame, subject, run, &event.act);
-    push_operations(text, form, actions.as_slice())
+    push_actions(text, form, actions.as_slice())
 }
 
 /// A text under construction that lists the RMM calls of a plan's run. `runs` has the run pages for RMI_REC_ENTER, with
@@ -147,7 +145,7 @@ impl CallsText {
             return below.push_str(OTHERWISE);
         };
         for action in actions.as_slice() {
-            push_operation(below, self.form, action, Some(rmi))?;
+            push_in_form(below, self.form, action, Some(rmi))?;
         }
         Ok(())
     }
@@ -192,7 +190,7 @@ impl CallsText {
         ensures frame { self.new.frame ≡ self.old.frame }
     {
         match host.history().get(before) {
-            Some(event) => push_event(below, self.form, self.frame, &mut self.runs, host, event),
+            Some(event) => push_recorded(below, self.form, self.frame, &mut self.runs, host, event),
             None => self.push_if_refused(below, host, build, step, answer),
         }
     }
@@ -281,7 +279,7 @@ pub struct Calls {
 }
 
 impl ViewText for Calls {
-    ghost is_text = { λ asked. IsCallsText asked.form asked.base };
+    ghost is_text = { λ asked _. IsCallsText asked.form asked.base };
 
     ghost is_without = { λ asked. IsWithoutText None };
 

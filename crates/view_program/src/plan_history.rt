@@ -78,7 +78,7 @@ pub struct Histories {
 }
 
 impl ViewText for Histories {
-    ghost is_text = { λ asked. IsHistoryText asked.erase };
+    ghost is_text = { λ asked _. IsHistoryText asked.erase };
 
     ghost is_without = { λ asked. IsWithoutText asked.erase };
 

@@ -27,7 +27,7 @@ pub(crate) fn run_of(alloc: Global, plan: &Plan) -> Result<(Document, HostLedger
 pub struct Documents;
 
 impl ViewText for Documents {
-    ghost is_text = { λ asked. IsJsonText };
+    ghost is_text = { λ asked _. IsJsonText };
 
     ghost is_without = { λ asked. IsWithoutText None };
 

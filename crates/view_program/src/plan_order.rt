@@ -72,6 +72,16 @@ pub(crate) fn with_order(
     Ok(text)
 }
 
+/// Returns the schedule of a plan, as the index of each turn's build. The one error is that allocation failed.
+pub(crate) fn own_schedule(alloc: Global, plan: &Plan) -> Result<Vec<usize>, AllocError>
+    ensures { IfOk result (λ schedule. schedule.items ≡ (plan_view plan.now).order) }
+{
+    plan.order
+        .iter()
+        .map(|build| build.number() as usize)
+        .collect(alloc)
+}
+
 // Whether a plan's own schedule is `order`, and the one that `order_of` returns for the policy.
 fn has_whole_schedule(
     alloc: Global,
@@ -83,11 +93,7 @@ fn has_whole_schedule(
     ensures own { IfOk result (λ whole. whole ≡ true → (plan_view plan.now).order ≡ order.now) }
 {
     let whole = order_of(alloc, plan, turns)?;
-    let own: Vec<usize> = plan
-        .order
-        .iter()
-        .map(|build| build.number() as usize)
-        .collect(alloc)?;
+    let own = own_schedule(alloc, plan)?;
     Ok(own == whole && own.as_slice() == order)
 }
 

@@ -106,7 +106,7 @@ fn page_data(alloc: Global, plan: &Plan, source: &[u8]) -> Result<PageData, Allo
 pub struct Pages;
 
 impl ViewText for Pages {
-    ghost is_text = { λ asked. IsPageText };
+    ghost is_text = { λ asked _. IsPageText };
 
     ghost is_without = { λ asked. IsWithoutText None };
 

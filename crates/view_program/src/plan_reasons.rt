@@ -83,7 +83,7 @@ pub struct Reasons {
 }
 
 impl ViewText for Reasons {
-    ghost is_text = { λ asked. IsWhyText asked.all };
+    ghost is_text = { λ asked _. IsWhyText asked.all };
 
     ghost is_without = { λ asked. IsWithoutText None };
 

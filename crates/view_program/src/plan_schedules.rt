@@ -12,7 +12,7 @@ use plan_states::states_text;
 use rand_core::SeedableRng;
 use rand_xoshiro::Xoshiro256PlusPlus;
 use realm_plan::Plan;
-use realm_program::{Fault, PlanText};
+use realm_program::Fault;
 use std::alloc::{AllocError, Global};
 
 // The text of the outcomes of schedules that were drawn at random.
@@ -47,7 +47,7 @@ fn schedules_text_of<P: Progress>(
     schedules: Schedules,
     progress: &P,
 ) -> Result<Vec<u8>, Fault>
-    ensures ok { IfOk result (λ text. IsSchedulesText schedules (plan_view plan.now) text.items) }
+    ensures ok { IfOk result (λ text. IsSchedulesText schedules source.now (plan_view plan.now) text.items) }
     ensures err { IfErr result (IsWithoutSchedules schedules (plan_view plan.now)) }
 {
     match schedules {

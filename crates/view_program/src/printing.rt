@@ -1,5 +1,5 @@
 //! Functions that parse a plan, and print a text made from it.
-ghost use Rattle.std.specs.Prelude.{◌≡◌, ◌↔◌, ◌⊎◌, false, true, Err, IfOk, IfErr};
+ghost use Rattle.std.specs.Prelude.{◌≡◌, ◌+◌, ◌≤◌, ◌↔◌, ◌⊎◌, false, true, Err, IfOk, IfErr};
 ghost use Rattle.realm_plan.specs.Plan.{plan_of};
 ghost use Rattle.realm_plan.specs.PlanView.{plan_view};
 ghost use Rattle.view_program.specs.Checked.{GivesNoPlan};
@@ -47,6 +47,7 @@ pub fn print<T: ViewText, R: Read, W: Write>(
     ensures end { IsPlanEnd (T.is_text asked.now) (T.is_without asked.now) source.now input.new.failed
         (R.remaining input.old.device) (W.contents output.old.device) (W.contents output.new.device) result }
     ensures device { ((input.new.failed ≡ true) ⊎ (output.new.failed ≡ true)) ↔ (result ≡ Err Device) }
+    ensures asked { input.new.reads ≤ input.old.reads + 1048578 }
 {
     let bytes = read_whole(alloc, input)?;
     let plan = plan_from(alloc, source, &bytes)?;

@@ -11,10 +11,22 @@ fn is_same_on_pages(one: &Cmd, other: &Cmd) -> bool
     ensures { result ≡ true → one.now ≡ other.now }
 {
     match (one, other) {
-        (Cmd::Take { order: a }, Cmd::Take { order: b }) => a == b,
-        (Cmd::Fill { page: a, value: v }, Cmd::Fill { page: b, value: w }) => a == b && v == w,
-        (Cmd::Peek { page: a, offset: o }, Cmd::Peek { page: b, offset: p }) => a == b && o == p,
-        (Cmd::Delegate { page: a }, Cmd::Delegate { page: b }) => a == b,
+        (Cmd::Take { order }, Cmd::Take { order: other_order }) => order == other_order,
+        (
+            Cmd::Fill { page, value },
+            Cmd::Fill {
+                page: other_page,
+                value: other_value,
+            },
+        ) => page == other_page && value == other_value,
+        (
+            Cmd::Peek { page, offset },
+            Cmd::Peek {
+                page: other_page,
+                offset: other_offset,
+            },
+        ) => page == other_page && offset == other_offset,
+        (Cmd::Delegate { page }, Cmd::Delegate { page: other_page }) => page == other_page,
         _ => false,
     }
 }
@@ -25,43 +37,43 @@ fn is_same_on_realms(one: &Cmd, other: &Cmd) -> bool
 {
     match (one, other) {
         (
+            Cmd::Realm { rd, root, width },
             Cmd::Realm {
-                rd: a,
-                root: r,
-                width: w,
+                rd: other_rd,
+                root: other_root,
+                width: other_width,
             },
-            Cmd::Realm {
-                rd: b,
-                root: s,
-                width: x,
-            },
-        ) => a == b && r == s && w == x,
+        ) => rd == other_rd && root == other_root && width == other_width,
         (
+            Cmd::Rtt { page, ipa, level },
             Cmd::Rtt {
-                page: a,
-                ipa: i,
-                level: l,
+                page: other_page,
+                ipa: other_ipa,
+                level: other_level,
             },
-            Cmd::Rtt {
-                page: b,
-                ipa: j,
-                level: m,
-            },
-        ) => a == b && i == j && l == m,
-        (Cmd::Ripas { ipa: i, count: a }, Cmd::Ripas { ipa: j, count: b }) => i == j && a == b,
+        ) => page == other_page && ipa == other_ipa && level == other_level,
         (
-            Cmd::Data {
-                page: a,
-                ipa: i,
-                source: s,
+            Cmd::Ripas { ipa, count },
+            Cmd::Ripas {
+                ipa: other_ipa,
+                count: other_count,
             },
+        ) => ipa == other_ipa && count == other_count,
+        (
+            Cmd::Data { page, ipa, source },
             Cmd::Data {
-                page: b,
-                ipa: j,
-                source: t,
+                page: other_page,
+                ipa: other_ipa,
+                source: other_source,
             },
-        ) => a == b && i == j && s == t,
-        (Cmd::Unknown { page: a, ipa: i }, Cmd::Unknown { page: b, ipa: j }) => a == b && i == j,
+        ) => page == other_page && ipa == other_ipa && source == other_source,
+        (
+            Cmd::Unknown { page, ipa },
+            Cmd::Unknown {
+                page: other_page,
+                ipa: other_ipa,
+            },
+        ) => page == other_page && ipa == other_ipa,
         (Cmd::Activate, Cmd::Activate) => true,
         _ => false,
     }
@@ -73,31 +85,43 @@ fn is_same_on_recs(one: &Cmd, other: &Cmd) -> bool
 {
     match (one, other) {
         (
+            Cmd::Rec { page, auxiliaries },
             Cmd::Rec {
-                page: a,
-                auxiliaries: x,
+                page: other_page,
+                auxiliaries: other_auxiliaries,
             },
-            Cmd::Rec {
-                page: b,
-                auxiliaries: y,
+        ) => page == other_page && auxiliaries.as_slice() == other_auxiliaries.as_slice(),
+        (
+            Cmd::Enter { number },
+            Cmd::Enter {
+                number: other_number,
             },
-        ) => a == b && x.as_slice() == y.as_slice(),
-        (Cmd::Enter { number: a }, Cmd::Enter { number: b }) => a == b,
-        (Cmd::Exit { number: a }, Cmd::Exit { number: b }) => a == b,
+        ) => number == other_number,
+        (
+            Cmd::Exit { number },
+            Cmd::Exit {
+                number: other_number,
+            },
+        ) => number == other_number,
         (
             Cmd::Poke {
-                number: a,
-                ipa: i,
-                offset: o,
-                value: v,
+                number,
+                ipa,
+                offset,
+                value,
             },
             Cmd::Poke {
-                number: b,
-                ipa: j,
-                offset: p,
-                value: w,
+                number: other_number,
+                ipa: other_ipa,
+                offset: other_offset,
+                value: other_value,
             },
-        ) => a == b && i == j && o == p && v == w,
+        ) => {
+            number == other_number
+                && ipa == other_ipa
+                && offset == other_offset
+                && value == other_value
+        }
         _ => false,
     }
 }
@@ -114,14 +138,20 @@ fn is_same_step(one: &PlanStep, other: &PlanStep) -> bool
     ensures { result ≡ true → one.now ≡ other.now }
 {
     match (one, other) {
-        (PlanStep::Whole(Step::Ask(a)), PlanStep::Whole(Step::Ask(b))) => is_same_cmd(a, b),
+        (PlanStep::Whole(Step::Ask(cmd)), PlanStep::Whole(Step::Ask(other_cmd))) => {
+            is_same_cmd(cmd, other_cmd)
+        }
         (PlanStep::Whole(Step::Undo), PlanStep::Whole(Step::Undo)) => true,
         (PlanStep::Whole(Step::Abort), PlanStep::Whole(Step::Abort)) => true,
         (PlanStep::Whole(Step::Mark), PlanStep::Whole(Step::Mark)) => true,
         (PlanStep::Whole(Step::Back), PlanStep::Whole(Step::Back)) => true,
-        (PlanStep::WidthLeftOut { rd: a, root: r }, PlanStep::WidthLeftOut { rd: b, root: s }) => a
-            == b
-            && r == s,
+        (
+            PlanStep::WidthLeftOut { rd, root },
+            PlanStep::WidthLeftOut {
+                rd: other_rd,
+                root: other_root,
+            },
+        ) => rd == other_rd && root == other_root,
         _ => false,
     }
 }

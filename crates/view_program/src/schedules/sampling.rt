@@ -33,8 +33,7 @@ fn count_run(
     if !leave_nothing(alloc, plan, &ledger, &map)? {
         unreachable!()
     }
-    totals.add(alloc, plan.builds.len(), choices, ends, map)?;
-    Ok(())
+    totals.add(alloc, plan.builds.len(), choices, ends, map)
 }
 
 // Runs a drawn schedule on a fresh host, and counts the run.
@@ -50,8 +49,7 @@ fn visit_drawn<R: Rng>(
 {
     let mut host = boot::<BuddyArena>(alloc, plan)?;
     run_drawn(&mut host, plan, rng, choices, ends)?;
-    count_run(alloc, plan, host, choices, ends, totals)?;
-    Ok(())
+    count_run(alloc, plan, host, choices, ends, totals)
 }
 
 /// Runs a plan `count` times, each time with a randomly drawn schedule. Each run is on a host of its own. The build of

@@ -16,8 +16,7 @@ fn push_drawn_count(text: &mut String, schedule_count: &Count) -> Result<(), All
 {
     text.push_str("schedules drawn ")?;
     schedule_count.push_to(text)?;
-    text.push_str("\n")?;
-    Ok(())
+    text.push_str("\n")
 }
 
 // Appends the lines of the final maps.
@@ -41,6 +40,5 @@ pub fn push_drawn(text: &mut String, plan: &Plan, totals: &Totals) -> Result<(),
 {
     push_drawn_count(text, &totals.steps.schedule_count)?;
     push_step_outcomes(text, plan, &totals.steps)?;
-    push_maps(text, &totals.steps.schedule_count, &totals.maps)?;
-    Ok(())
+    push_maps(text, &totals.steps.schedule_count, &totals.maps)
 }

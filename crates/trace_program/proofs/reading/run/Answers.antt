@@ -1,5 +1,5 @@
 use Rattle.std.proofs.Common.{[], zero-le, arith}
-use Rattle.std.proofs.lemmas.Result.{err_from_is_err_and}
+use Rattle.std.proofs.lemmas.Result.{err_from_is_err_and, on_ok_weaker}
 use Rattle.checked_io.proofs.Read.{consumes_none, keeps_same}
 use Rattle.trace_program.specs.declared.fault.TraceError.TheVariants.{TooLong}
 use Rattle.trace_program.proofs.Long.{passed_on}
@@ -34,6 +34,19 @@ returns-in_err-read_on-clause-err g c =
 
 pub returns-then-not-branch-clause-ok : goal.returns-then-not-branch-clause-ok
 returns-then-not-branch-clause-ok g c = run_ok _ _ _ _ _ _ _ (reads_no_more _ _ _ _ _ _ _ _ _ c.if-not-branch.true (c.in_ok-read_on.ensures.ok _ _ c.reads.invariant.underway)) _ _ c.finish.ensures.verdict c.finish.ensures.ok
+
+pub returns-then-not-branch-clause-stop : goal.returns-then-not-branch-clause-stop
+returns-then-not-branch-clause-stop g c =
+    let u = c.reads.invariant.underway in
+    on_ok_weaker c.finish.result (λ _. record {
+      before = u.read;
+      last = c.in_ok-read_on.ensures.part _ u.read u.consumed;
+      written = u.written;
+      s = c.reads.reading.session;
+      line = c.reads.reading.line.items;
+      taken = u.taken;
+      going = c.reads.invariant.going;
+    }) c.finish.ensures.ok
 
 pub returns-then-not-branch-clause-err : goal.returns-then-not-branch-clause-err
 returns-then-not-branch-clause-err g c = run_err _ _ _ _ _ _ _ (reads_no_more _ _ _ _ _ _ _ _ _ c.if-not-branch.true (c.in_ok-read_on.ensures.ok _ _ c.reads.invariant.underway)) _ _ c.finish.ensures.err

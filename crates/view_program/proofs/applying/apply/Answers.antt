@@ -8,19 +8,19 @@ use Rattle.view_program.proofs.Takings.{fresh_like-taken}
 use Rattle.view_program.proofs.ApplyEnds.{no_history, no_map, cut_map, printed_map, read_well}
 use Rattle.view_program.proofs.applying.apply.Goals as goal
 
-pub returns-in_err-found-clause-end : goal.returns-in_err-found-clause-end
-returns-in_err-found-clause-end g c =
+pub returns-in_err-opening-clause-end : goal.returns-in_err-opening-clause-end
+returns-in_err-opening-clause-end g c =
     let told = err_from_is_err_and c.from_residual.result c.from_residual.ensures.1 in
     let input = g.R.Read.remaining c.args.input.now.device in
     let output = g.W.Write.contents c.args.output.now.device in
     let unread = c.host_in.new.input.failed in
     subst (IsApplyEnd c.args.erase unread input output output) (sym (told.1 ∙ ap Err told.2))
-    (no_history c.args.erase unread input output c.in_err-found.field-0.0 c.in_err-found.ensures.err (λ is. c.in_err-found.ensures.told.1 (ap Err is)))
+    (no_history c.args.erase unread input output c.in_err-opening.field-0.0 c.in_err-opening.ensures.err (λ is. c.in_err-opening.ensures.told.1 (ap Err is)))
 
 pub asked_map-requires : goal.asked_map-requires
 asked_map-requires g c =
-    let history = c.in_ok-found.ensures.ok.history in
-    record { size = history.opens.size; machine = fresh_like-taken (host_of_opening c.in_ok-found.found.0) history.events c.in_ok-found.found.1 history.taken }
+    let history = c.in_ok-opening.ensures.ok.history in
+    record { size = history.opens.size; machine = fresh_like-taken (host_of_opening c.in_ok-opening.opening) history.events c.in_ok-opening.host history.taken }
 
 pub returns-in_err-text-clause-end : goal.returns-in_err-text-clause-end
 returns-in_err-text-clause-end g c =
@@ -29,7 +29,7 @@ returns-in_err-text-clause-end g c =
     let output = g.W.Write.contents c.args.output.now.device in
     let unread = c.host_in.new.input.failed in
     subst (IsApplyEnd c.args.erase unread input output output) (sym (told.1 ∙ ap Err told.2))
-    (no_map c.args.erase unread input output c.in_ok-found.found.0 c.in_ok-found.found.1 c.in_err-text.field-0.0 c.in_ok-found.ensures.ok c.in_err-text.ensures.err)
+    (no_map c.args.erase unread input output c.in_ok-opening.opening c.in_ok-opening.host c.in_err-text.field-0.0 c.in_ok-opening.ensures.ok c.in_err-text.ensures.err)
 
 pub returns-in_err-write_whole-clause-end : goal.returns-in_err-write_whole-clause-end
 returns-in_err-write_whole-clause-end g c =
@@ -39,13 +39,13 @@ returns-in_err-write_whole-clause-end g c =
     let new = g.W.Write.contents c.write_whole.new.self.device in
     let unread = c.host_in.new.input.failed in
     subst (IsApplyEnd c.args.erase unread input old new) (sym (told.1 ∙ ap Err told.2))
-    (cut_map c.args.erase unread input old new c.in_ok-found.found.0 c.in_ok-found.found.1 (string_bytes c.in_ok-text.text) (read_well unread c.in_ok-found.found c.in_ok-found.ensures.told)
-    c.in_ok-found.ensures.ok c.in_ok-text.ensures.ok (subst (AppendsFront old new) c.as_bytes.ensures.value c.in_err-write_whole.ensures.err))
+    (cut_map c.args.erase unread input old new c.in_ok-opening.opening c.in_ok-opening.host (string_bytes c.in_ok-text.text) (read_well unread _ c.in_ok-opening.ensures.told)
+    c.in_ok-opening.ensures.ok c.in_ok-text.ensures.ok (subst (AppendsFront old new) c.as_bytes.ensures.value c.in_err-write_whole.ensures.err))
 
 pub returns-clause-end : goal.returns-clause-end
 returns-clause-end g c =
     let input = g.R.Read.remaining c.args.input.now.device in
     let old = g.W.Write.contents c.args.output.now.device in
     let new = g.W.Write.contents c.write_whole.new.self.device in
-    printed_map c.args.erase c.host_in.new.input.failed input old new c.in_ok-found.found.0 c.in_ok-found.found.1 (string_bytes c.in_ok-text.text)
-    c.in_ok-found.ensures.ok c.in_ok-text.ensures.ok (subst (Appends old new) c.as_bytes.ensures.value c.in_ok-write_whole.ensures.ok)
+    printed_map c.args.erase c.host_in.new.input.failed input old new c.in_ok-opening.opening c.in_ok-opening.host (string_bytes c.in_ok-text.text)
+    c.in_ok-opening.ensures.ok c.in_ok-text.ensures.ok (subst (Appends old new) c.as_bytes.ensures.value c.in_ok-write_whole.ensures.ok)

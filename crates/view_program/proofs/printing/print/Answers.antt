@@ -1,13 +1,14 @@
 use Rattle.std.proofs.Common.{ℕ, List, Err, ap, sym, ◌∙◌, subst}
 use Rattle.std.specs.Io.KnownBytes.{Appends}
 use Rattle.std.proofs.lemmas.Result.{err_from_is_err_and}
+use Rattle.realm_plan.specs.Plan.{plan_of}
 use Rattle.realm_plan.specs.PlanView.{plan_view}
 use Rattle.checked_io.specs.Whole.{AppendsFront}
 use Rattle.checked_io.proofs.Read.{keeps_same}
 use Rattle.view_program.specs.Checked.{GivesNoPlan}
 use Rattle.view_program.specs.Printed.{IsPlanEnd}
 use Rattle.view_program.proofs.CheckEnds.{bytes_read_well}
-use Rattle.view_program.proofs.PlanEnds.{unread_plan, no_plan, cut, input_is}
+use Rattle.view_program.proofs.PlanEnds.{unread_plan, no_plan, cut, input_is, text_from}
 use Rattle.view_program.proofs.printing.print.Goals as goal
 
 pub returns-in_err-bytes-clause-end : goal.returns-in_err-bytes-clause-end
@@ -62,7 +63,9 @@ returns-in_err-write_whole-clause-end g c =
     subst (IsPlanEnd texts without c.args.source.now unread input old new) (sym (told.1 ∙ ap Err told.2))
     (cut texts without c.args.source.now unread input old new (plan_view c.in_ok-plan.plan) c.in_ok-text.text.items (bytes_read_well unread c.in_ok-bytes.bytes c.in_ok-bytes.ensures.told)
     (input_is input c.in_ok-bytes.bytes.items c.deref.result.now (plan_view c.in_ok-plan.plan) c.in_ok-bytes.ensures.bytes c.deref.ensures.value c.in_ok-plan.ensures.ok)
-    c.in_ok-text.ensures.ok (subst (AppendsFront old new) c.as_slice.ensures.value c.in_err-write_whole.ensures.err))
+    (text_from texts input c.in_ok-bytes.bytes.items c.deref-2.result.now (plan_view c.in_ok-plan.plan) c.in_ok-text.text.items c.in_ok-bytes.ensures.bytes
+    c.deref-2.ensures.value (ap plan_of (sym c.deref.ensures.value) ∙ c.in_ok-plan.ensures.ok) c.in_ok-text.ensures.ok)
+    (subst (AppendsFront old new) c.as_slice.ensures.value c.in_err-write_whole.ensures.err))
 
 pub returns-clause-end : goal.returns-clause-end
 returns-clause-end g c =
@@ -74,7 +77,8 @@ returns-clause-end g c =
       text_of = record {
         plan = plan_view c.in_ok-plan.plan;
         of_input = input_is input c.in_ok-bytes.bytes.items c.deref.result.now (plan_view c.in_ok-plan.plan) c.in_ok-bytes.ensures.bytes c.deref.ensures.value c.in_ok-plan.ensures.ok;
-        is_text = c.in_ok-text.ensures.ok;
+        is_text = text_from (g.T.ViewText.is_text c.args.asked.now) input c.in_ok-bytes.bytes.items c.deref-2.result.now (plan_view c.in_ok-plan.plan) c.in_ok-text.text.items
+            c.in_ok-bytes.ensures.bytes c.deref-2.ensures.value (ap plan_of (sym c.deref.ensures.value) ∙ c.in_ok-plan.ensures.ok) c.in_ok-text.ensures.ok;
       };
       written = subst (Appends old new) c.as_slice.ensures.value c.in_ok-write_whole.ensures.ok;
     }

@@ -71,3 +71,21 @@ returns-clause-more g c = λ count begin h more.
       consumed = consumes_more begin _ _ h.read part h.consumed c.in_ok-n.ensures.bytes.0;
       at_least = omega (arith, h.at_least, length-append h.read part, length-take-le c.in_ok-n.n c.read.new.buf c.in_ok-n.ensures.bound.0, c.if-n-eq0.false);
     }
+
+-- ---- the part of this read
+
+pub returns-then-n-eq0-clause-part : goal.returns-then-n-eq0-clause-part
+returns-then-n-eq0-clause-part g c = λ begin read consumed.
+    let part = take c.in_ok-n.n c.read.new.buf in record {
+      part = part;
+      consumed = consumes_more begin _ _ read part consumed c.in_ok-n.ensures.bytes.0;
+      short = omega (arith, length-take-le c.in_ok-n.n c.read.new.buf c.in_ok-n.ensures.bound.0, c.in_ok-n.ensures.bound.0);
+    }
+
+pub returns-clause-part : goal.returns-clause-part
+returns-clause-part g c = λ begin read consumed.
+    let part = take c.in_ok-n.n c.read.new.buf in record {
+      part = part;
+      consumed = consumes_more begin _ _ read part consumed c.in_ok-n.ensures.bytes.0;
+      short = omega (arith, length-take-le c.in_ok-n.n c.read.new.buf c.in_ok-n.ensures.bound.0, c.in_ok-n.ensures.bound.0);
+    }

@@ -1,6 +1,8 @@
 use Rattle.std.proofs.Common.{[], ◌∷◌, ◌++◌, codes, string_bytes}
+use Rattle.std.proofs.lemmas.Result.{on_ok_weaker}
 use Rattle.schedule_graph.specs.Number.{numeral}
 use Rattle.plan_states.proofs.Joined.{joined}
+use Rattle.view_program.proofs.CallsBelow.{if_ok}
 use Rattle.view_program.proofs.schedules.text.push_drawn_count.Goals as goal
 
 pub returns : goal.returns
@@ -9,5 +11,7 @@ returns c =
     let one = string_bytes c.push_str.new.self in
     let two = string_bytes c.push_to.new.text in
     let three = string_bytes c.push_str-2.new.self in
+    on_ok_weaker c.push_str-2.result (λ ended.
     joined (string_bytes c.args.text.now) (codes "schedules drawn ") (number ++ 10 ∷ []) one three c.in_ok-push_str.ensures.bytes
-    (joined one number (10 ∷ []) two three c.in_ok-push_to.ensures c.in_ok-push_str-2.ensures.bytes)
+    (joined one number (10 ∷ []) two three c.in_ok-push_to.ensures ended))
+    (if_ok c.push_str-2.result _ _ _ c.push_str-2.ensures.bytes)

@@ -4,7 +4,7 @@ use Rattle.std.proofs.lemmas.List.{flat_map_more, take_more}
 use Rattle.history_calls.specs.Lines.{action_line}
 use Rattle.history_calls.specs.declared.action.HostAction.{HostAction}
 use Rattle.view_program.specs.Calls.{action_lines}
-use Rattle.view_program.proofs.plan_calls.push_operations.Goals as goal
+use Rattle.view_program.proofs.plan_calls.push_actions.Goals as goal
 
 pub loop-action-preserved : goal.loop-action-preserved
 loop-action-preserved c = λ is_trace.
@@ -13,7 +13,7 @@ loop-action-preserved c = λ is_trace.
     let action = c.action-item.result in
     let old = string_bytes c.args.text.now in
     let line : HostAction → List ℕ = λ it. action_line it None in
-    c.in_ok-push_operation.ensures is_trace ∙ ap (λ (t : List ℕ). t ++ line action) (c.loop-action.invariant is_trace)
+    c.in_ok-push_in_form.ensures is_trace ∙ ap (λ (t : List ℕ). t ++ line action) (c.loop-action.invariant is_trace)
     ∙ append_assoc old (action_lines (take i actions)) (line action)
     ∙ ap (λ (t : List ℕ). old ++ t) (flat_map_more line [] (take i actions) action
     ∙ ap (flat_map line) (ap (λ a. take i actions ++ a ∷ []) c.action-item.is ∙ sym (take_more actions i action c.loop-action-test.true)))
