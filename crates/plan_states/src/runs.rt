@@ -43,13 +43,7 @@ impl Drop for Walk {
 fn is_same_number(one: Option<usize>, other: Option<usize>) -> bool
     ensures { OnTrue result (one ≡ other) }
 {
-    match one {
-        Some(one) => match other {
-            Some(other) => one == other,
-            None => false,
-        },
-        None => other.is_none(),
-    }
+    one == other
 }
 
 // Whether two labels are the same.

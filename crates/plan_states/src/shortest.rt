@@ -10,7 +10,7 @@ ghost use Rattle.plan_states.specs.Tallies.{count_of_tally};
 ghost use Rattle.plan_states.specs.Turned.{end_taken};
 
 use crate::edges::Label;
-use crate::graph::{Exploration, Graph, Layer, explore, push};
+use crate::graph::{Exploration, Graph, Layer, explore};
 use crate::outcomes::tally_with;
 use crate::question::{AnswersQuestion, TurnQuestion, pages_of_builds};
 use crate::running::{TurnTaken, run_to, take};
@@ -89,7 +89,7 @@ fn without_edges(alloc: Global, layer: &[Vec<Edge<Label>>]) -> Result<Layer, All
 {
     let mut bare = Vec::new(alloc);
     for _edges in layer {
-        push(&mut bare, Vec::new(alloc))?;
+        bare.push(Vec::new(alloc))?;
     }
     Ok(bare)
 }
@@ -102,7 +102,7 @@ fn cut_after(alloc: Global, layers: Vec<Layer>, depth: usize) -> Result<Vec<Laye
     let states = without_edges(alloc, layer_at(&layers, depth + 1))?;
     let mut layers = layers;
     layers.truncate(depth + 1);
-    push(&mut layers, states)?;
+    layers.push(states)?;
     Ok(layers)
 }
 

@@ -2,13 +2,10 @@
 //! nothing of the schedule.
 ghost use Rattle.std.specs.Prelude.{◌≡◌, ◌<◌, IfOk};
 ghost use Rattle.std.specs.Bool.{OnTrue};
-ghost use Rattle.host_ledger.specs.View.{mark_of, is_aborting};
 ghost use Rattle.realm_model.specs.History.{events_of};
 ghost use Rattle.plan_states.specs.Snapshots.{is_kept_mark, length_of, point_at, shown_build, AreBuildsAt, AreSameBuilds, IsOfHost};
 
-use crate::graph::push;
 use granule_addr::BuildId;
-use host_commands::BuildsView;
 use page_arena::PageStore;
 use plan_replay::PlanCursor;
 use realm_host::{Host, Mark};
@@ -64,47 +61,20 @@ fn is_kept_mark(kept: &Option<Mark>, mark: &Option<Mark>) -> bool
     }
 }
 
-// The mark that a host keeps for a build.
-fn kept_mark<S: PageStore>(host: &Host<S>, build: usize) -> Option<Mark>
-    requires { build < 8 }
-    ensures { result ≡ mark_of host.now build }
-{
-    let id = BuildId::at(build);
-    let ledger = host.ledger();
-    if ledger.has_build(id) {
-        ledger.mark(id)
-    } else {
-        None
-    }
-}
-
-// Whether a build is aborting.
-fn is_aborting<S: PageStore>(host: &Host<S>, build: usize) -> bool
-    requires { build < 8 }
-    ensures { result ≡ is_aborting host.now build }
-{
-    let id = BuildId::at(build);
-    let ledger = host.ledger();
-    if ledger.has_build(id) {
-        BuildsView::is_aborting(ledger, id)
-    } else {
-        false
-    }
-}
-
 // The cursor, the marks and the abort flag of a build.
 fn point_of<S: PageStore>(host: &Host<S>, places: &[PlanCursor; 8], build: usize) -> BuildPoint
     requires { build < 8 }
     ensures { result ≡ point_at (record { host = host.now; places = places.now }) build }
 {
+    let id = BuildId::at(build);
     let place = &places[build];
-    let kept = kept_mark(host, build);
+    let kept = host.kept_mark(id);
     BuildPoint {
         done: place.done,
         left: place.left,
         mark: length_of(&place.mark),
         has_way_back: is_kept_mark(&kept, &place.mark),
-        is_aborting: is_aborting(host, build),
+        is_aborting: host.is_aborting(id),
         kept: length_of(&kept),
     }
 }
@@ -120,7 +90,7 @@ fn events_of(alloc: Global, history: &[Event], build: usize) -> Result<Vec<Event
                 build: event.build,
                 act: event.act.clone(),
             };
-            push(&mut events, copy)?;
+            events.push(copy)?;
         }
     }
     Ok(events)
@@ -140,7 +110,7 @@ pub(crate) fn snapshot_of<S: PageStore>(
     for build in 0..8 {
         let point = point_of(host, places, build);
         let events = events_of(alloc, history, build)?;
-        push(&mut builds, BuildSnapshot { point, events })?;
+        builds.push(BuildSnapshot { point, events })?;
     }
     Ok(Snapshot { builds })
 }
@@ -149,13 +119,7 @@ pub(crate) fn snapshot_of<S: PageStore>(
 fn is_same_length(one: Option<u16>, other: Option<u16>) -> bool
     ensures { OnTrue result (one ≡ other) }
 {
-    match one {
-        Some(one) => match other {
-            Some(other) => one == other,
-            None => false,
-        },
-        None => other.is_none(),
-    }
+    one == other
 }
 
 // Whether the cursors, marks and abort flags of two snapshots are the same.
