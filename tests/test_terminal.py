@@ -118,7 +118,7 @@ def test_input(check):
     """A line says what is awaited, at a terminal alone."""
     plan, trace = (TOP / PLAN).read_text(), "platform 0x80000000 64\nrmi_granule_delegate 0x80000000 = RMI_SUCCESS\n"
     history = run(["realmview", "history", PLAN])[1]
-    asked = [(["realmview", it], "a plan", plan) for it in ("history", "json", "page", "why", "check")]
+    asked = [(["realmview", it], "a plan", plan) for it in ("history", "json", "page", "why", "order", "calls", "check")]
     asked += [(["realmview", "apply"], "a history", history), (["realmview", "explore", "--most-states", "1"], "a plan", plan)]
     asked += [(["rmitrace", it], "a trace", trace) for it in ("answer", "check", "names", "why")]
     for words, awaited, given in asked:
