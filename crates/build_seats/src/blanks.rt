@@ -3,7 +3,7 @@ ghost use Rattle.std.specs.Prelude.{◌≡◌};
 
 use std::sync::ledger::Blank;
 
-/// A blank ghost ledger for each build. Each ledger has a single part.
+/// A ghost ledger for each build, not opened yet. A ghost ledger counts in proofs only. Each has a single part.
 #[derive(Drop)]
 pub struct Blanks {
     pub blank0: Blank,

@@ -1,5 +1,7 @@
 -- The input of a program.
-use Rattle.std.specs.Prelude.{Bool, true, false}
+use Rattle.std.specs.Prelude.{◌≡◌, ℕ, ◌++◌, Bool, true, false, List, codes, string_bytes, Option, Some, None}
+use Rattle.command_line.specs.declared.stop.Stop.{Stop}
+use Rattle.command_line.specs.declared.stop.Stop.TheVariants.{Usage, NotUtf8, Unopened, Run}
 use Rattle.command_line.specs.declared.terminal.Input.{Input}
 use Rattle.command_line.specs.declared.terminal.Input.TheVariants.{Standard, File}
 
@@ -7,3 +9,22 @@ use Rattle.command_line.specs.declared.terminal.Input.TheVariants.{Standard, Fil
 abbrev pub is_file : Input → Bool
 is_file (Standard stdin) = false
 is_file (File file) = true
+
+-- ---- a file that cannot be opened
+
+-- the program, the name of the file, and the reason
+pub record IsUnopenedLine (program name line : List ℕ) : Type 0 where
+  pub reason : List ℕ
+  pub whole : line ≡ program ++ (codes ": " ++ (name ++ (codes ": " ++ reason)))
+
+-- A program stops at the file of this name: the line says so, or memory ran out.
+abbrev pub StopsAtFile : {F : Type 0} → F → List ℕ → List ℕ → Stop F → Type 0
+StopsAtFile memory program name (Unopened line) = IsUnopenedLine program name (string_bytes line)
+StopsAtFile memory program name (Run fault) = fault ≡ memory
+StopsAtFile memory program name (Usage error) = ⊥
+StopsAtFile memory program name NotUtf8 = ⊥
+
+-- .. and at none if no file is given, for then standard input is read
+abbrev pub StopsAtInput : {F : Type 0} → F → List ℕ → Option (List ℕ) → Stop F → Type 0
+StopsAtInput memory program None stop = ⊥
+StopsAtInput memory program (Some name) stop = StopsAtFile memory program name stop

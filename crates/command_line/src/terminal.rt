@@ -1,8 +1,8 @@
 //! Input and output of a program at a terminal.
-ghost use Rattle.std.specs.Prelude.{◌≡◌, ◌⊎◌, IfErr, IfOk, is_some, true, None};
+ghost use Rattle.std.specs.Prelude.{◌≡◌, ◌⊎◌, IfErr, IfOk, is_some, option_map, true, None};
 ghost use Rattle.std.specs.Process.{exit_status};
 ghost use Rattle.command_line.specs.Stop.{status_of_stop};
-ghost use Rattle.command_line.specs.Terminal.{is_file};
+ghost use Rattle.command_line.specs.Terminal.{is_file, StopsAtFile, StopsAtInput};
 ghost use Rattle.command_line.specs.declared.stop.Stop.TheVariants.{Run};
 
 use crate::paint::{TextKind, painted};
@@ -29,7 +29,8 @@ const EISDIR: i32 = 21;
 
 // The reason why a program stops at a file that cannot be opened.
 fn unopened<F: Reason>(alloc: Global, program: &str, name: &str, error: &io::Error) -> Stop<F>
-    ensures { (status_of_stop F.status_of result ≡ 5) ⊎ (result ≡ Run F.memory) }
+    ensures status { (status_of_stop F.status_of result ≡ 5) ⊎ (result ≡ Run F.memory) }
+    ensures line { StopsAtFile F.memory program.now name.now result }
 {
     let Ok(why) = format!(in alloc; "{error}") else {
         return Stop::Run(F::of_memory());
@@ -63,6 +64,7 @@ impl<'a> Input<'a> {
         ensures ok { IfOk result (λ input. is_file input ≡ is_some file.entry) }
         ensures err { IfErr result (λ stop. (status_of_stop F.status_of stop ≡ 5) ⊎ (stop ≡ Run F.memory)) }
         ensures named { IfErr result (λ _. is_some file.entry ≡ true) }
+        ensures line { IfErr result (StopsAtInput F.memory program.now (option_map (λ s. s.now) file.entry)) }
     {
         let Some(name) = file else {
             let stdin = rt.stdin();

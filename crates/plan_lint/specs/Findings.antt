@@ -1,4 +1,4 @@
--- The findings on bytes.
+-- The errors and warnings that a check of bytes as a plan finds.
 use Rattle.std.specs.Prelude.{◌≡◌, ◌⊎◌, ℕ, ◌≤◌, List, length, sum_by, All, Any, Option, Some, None, Result, Ok, Err}
 use Rattle.std.specs.List.Sorted.{IsNonDecreasingBy}
 use Rattle.realm_plan.specs.Plan.{Plan, plan_of}

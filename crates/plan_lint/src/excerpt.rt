@@ -61,7 +61,7 @@ fn shown_byte(byte: u8) -> u8
     }
 }
 
-/// Returns the bytes as one line of text. A space replaces each control character, and U+FFFD replaces invalid UTF-8.
+/// Returns the bytes as one line of text. A space replaces each ASCII control character, and U+FFFD invalid UTF-8.
 pub(crate) fn plain_text(alloc: Global, bytes: &[u8]) -> Result<String, AllocError>
     ensures { IfOk result (λ text. string_bytes text ≡ plain_text bytes.now) }
 {

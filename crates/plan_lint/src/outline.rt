@@ -28,7 +28,7 @@ impl Drop for Content {
 }
 
 impl Content {
-    /// Returns the kind's name for messages, with an article.
+    /// Returns the TOML type of the value for messages, with an article: `an integer`.
     pub(crate) fn kind(&self) -> &'static str {
         match self {
             Content::Text(_) => "a string",

@@ -1,4 +1,4 @@
--- The log of runs along a graph, which covers its edges.
+-- The log of the turns that were run to check a state graph. Each edge of the graph has a logged turn.
 use Rattle.std.specs.Prelude.{◌≡◌, ◌<◌, ◌+◌, ℕ, List, [], All, map, length, Option, Some, Vec, vec_items, option_and_then, slice_get, slice_index_or}
 use Rattle.std.specs.declared.alloc.Global.{Global}
 use Rattle.std.specs.declared.string.String.{String}

@@ -1,4 +1,4 @@
--- The shortest schedules that answer a question.
+-- The shortest schedules whose last turn has a given property, such as that a given step is refused.
 use Rattle.std.specs.Prelude.{◌≡◌, ◌≢◌, ◌≤◌, ◌<◌, ℕ, ◌+◌, ◌⊎◌, Bool, true, false, List, [], ◌∷◌, ◌++◌, length, map, sum, take, Vec, vec_items, option_map, Option, Some, None, slice_index_or}
 use Rattle.std.specs.List.{list_any, position}
 use Rattle.std.specs.declared.alloc.Global.{Global}

@@ -1,11 +1,11 @@
 -- The bytes that are kept of an input, one read after another.
-use Rattle.std.proofs.Common.{◌≡◌, ℕ, ◌≤◌, List, [], ◌++◌, length, take, Option, Some, None, sym, ap, ◌∙◌}
+use Rattle.std.proofs.Common.{◌≡◌, ℕ, ◌+◌, ◌≤◌, List, [], ◌++◌, length, take, Option, Some, None, sym, ap, ◌∙◌, arith}
 use mathlib.Core.List.{append-nil}
 use Rattle.std.specs.Prelude.{IfSome}
 use Rattle.std.specs.Io.KnownBytes.{Consumes, IsAtEnd}
 use Rattle.std.proofs.Math.Seq.{take-append_seam}
-use Rattle.std.proofs.lemmas.List.{take_all}
-use Rattle.realm_program.specs.Whole.{kept_of}
+use Rattle.std.proofs.lemmas.List.{take_all, length-append}
+use Rattle.realm_program.specs.Whole.{kept_of, ReadsOnce}
 
 -- `kept` bytes were read
 taken_at_limit : (kept : ℕ) (xs ys front : List ℕ) → xs ≡ front ++ ys → length front ≡ kept → front ≡ take kept xs
@@ -31,3 +31,12 @@ kept_at_end (Some xs) None c front more h k none ends few = absurd h
 kept_at_end (Some xs) (Some ys) None front more h k none ends few = absurd k
 kept_at_end (Some xs) (Some ys) (Some zs) front more h k none ends few =
     taken_at_end 1048577 xs ys front h (k ∙ ap (λ t. t ++ zs) none ∙ ends) few
+
+-- each read but the last gave a byte or more
+pub reads_once : (a b : Option (List ℕ)) (front : List ℕ) (old new count : ℕ) → Consumes a b front → count ≤ length front → new ≤ old + (count + 1)
+    → ReadsOnce a old new
+reads_once None b front old new count taken few is = tt
+reads_once (Some xs) None front old new count taken few is = absurd taken
+reads_once (Some xs) (Some ys) front old new count taken few is =
+    let whole : length xs ≡ length front + length ys = ap length taken ∙ length-append front ys in
+    omega (arith, whole, few, is)

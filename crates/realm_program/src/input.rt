@@ -1,6 +1,6 @@
 //! A function that reads a whole input into memory. At most one byte more than a plan may have is read.
 ghost use Rattle.std.specs.Prelude.{◌≡◌, ◌+◌, ◌≤◌, ◌↔◌, [], false, true, IfOk, IfSome, OnOk, Err};
-ghost use Rattle.realm_program.specs.Whole.{kept_of};
+ghost use Rattle.realm_program.specs.Whole.{kept_of, ReadsOnce};
 ghost use Rattle.checked_io.specs.declared.told.ReadError.TheVariants.{Device};
 
 use checked_io::{ReadError, Told};
@@ -31,6 +31,7 @@ fn read_into<R: Read>(bytes: &mut Vec<u8>, input: &mut Told<R>) -> Result<(), Re
     ensures told { (input.new.failed ≡ true) ↔ (result ≡ Err Device) }
     ensures asked { input.new.reads ≤ input.old.reads + 1048578 }
     ensures not_lowered { input.old.reads ≤ input.new.reads }
+    ensures once { ReadsOnce (R.remaining input.old.device) input.old.reads input.new.reads }
     ensures bytes { OnOk result (IfSome (R.remaining input.old.device) (λ xs. bytes.new.items ≡ kept_of xs)) }
 {
     let mut buf = [0u8; 4096];
@@ -59,6 +60,7 @@ pub fn read_whole<R: Read>(alloc: Global, input: &mut Told<R>) -> Result<Vec<u8>
     ensures told { (input.new.failed ≡ true) ↔ (result ≡ Err Device) }
     ensures asked { input.new.reads ≤ input.old.reads + 1048578 }
     ensures not_lowered { input.old.reads ≤ input.new.reads }
+    ensures once { ReadsOnce (R.remaining input.old.device) input.old.reads input.new.reads }
     ensures bytes { IfOk result (λ v. IfSome (R.remaining input.old.device) (λ xs. v.items ≡ kept_of xs)) }
 {
     let mut bytes = room(alloc);

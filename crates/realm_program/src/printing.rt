@@ -2,6 +2,7 @@
 ghost use Rattle.std.specs.Prelude.{◌≡◌, ◌+◌, ◌≤◌, ◌↔◌, ◌⊎◌, ℕ, List, false, true, Err, IfOk, IfErr};
 ghost use Rattle.realm_plan.specs.Plan.{Plan as PlanModel};
 ghost use Rattle.realm_plan.specs.PlanView.{plan_view};
+ghost use Rattle.realm_program.specs.Whole.{ReadsOnce};
 ghost use Rattle.realm_program.specs.Printed.{IsEnd, IsFaultOfText};
 ghost use Rattle.realm_program.specs.declared.fault.Fault.{Fault as FaultModel};
 ghost use Rattle.realm_program.specs.declared.fault.Fault.TheVariants.{Device};
@@ -43,6 +44,7 @@ pub fn print<T: PlanText, R: Read, W: Write>(
         (R.remaining input.old.device) (W.contents output.old.device) (W.contents output.new.device) result }
     ensures device { ((input.new.failed ≡ true) ⊎ (output.new.failed ≡ true)) ↔ (result ≡ Err Device) }
     ensures asked { input.new.reads ≤ input.old.reads + 1048578 }
+    ensures once { ReadsOnce (R.remaining input.old.device) input.old.reads input.new.reads }
 {
     let plan = plan_in(alloc, input)?;
     let text = asked.text_of(alloc, &plan)?;

@@ -1,6 +1,7 @@
 //! Reads a plan, runs its builds in threads, and writes the output text.
 ghost use Rattle.std.specs.Prelude.{◌≡◌, ◌+◌, ◌≤◌, ◌↔◌, ◌⊎◌, false, true, Err, IfOk, IfErr, string_bytes};
 ghost use Rattle.realm_plan.specs.PlanView.{plan_view};
+ghost use Rattle.realm_program.specs.Whole.{ReadsOnce};
 ghost use Rattle.realm_program.specs.Printed.{IsEnd};
 ghost use Rattle.realm_program.specs.Threads.{IsThreadsText, IsWithoutThreadsText, ScheduleIsNotPrinted};
 ghost use Rattle.realm_program.specs.RunFault.{fault_of_run};
@@ -64,6 +65,7 @@ pub fn run<H: Threads + Wait + Sync, R: Read, W: Write, G: Gate + Sync>(
         (R.remaining input.old.device) (W.contents output.old.device) (W.contents output.new.device) result }
     ensures device { ((input.new.failed ≡ true) ⊎ (output.new.failed ≡ true)) ↔ (result ≡ Err Device) }
     ensures asked { input.new.reads ≤ input.old.reads + 1048578 }
+    ensures once { ReadsOnce (R.remaining input.old.device) input.old.reads input.new.reads }
     ensures order { ScheduleIsNotPrinted (G.passes gate.now) (G.stops gate.now) }
 {
     let plan = plan_in(alloc, input)?;

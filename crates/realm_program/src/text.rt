@@ -3,6 +3,7 @@ ghost use Rattle.std.specs.Prelude.{◌≡◌, ◌+◌, ◌<◌, ◌≤◌, ◌�
 ghost use Rattle.std.specs.Result.{OnOk};
 ghost use Rattle.plan_replay.specs.Run.{IsReportedRun};
 ghost use Rattle.realm_plan.specs.PlanView.{plan_view};
+ghost use Rattle.realm_program.specs.Whole.{ReadsOnce};
 ghost use Rattle.realm_program.specs.Printed.{IsEnd};
 ghost use Rattle.realm_host.specs.Recorded.{fresh_like};
 ghost use Rattle.realm_program.specs.Replay.{opening_host, RunLeadsTo, IsMapWithout, IsText, IsErasedText, IsAskedText, IsWithoutText};
@@ -149,6 +150,7 @@ pub fn replay<R: Read, W: Write>(
     ensures never_mismatch { result ≢ Err Mismatch }
     ensures device { ((input.new.failed ≡ true) ⊎ (output.new.failed ≡ true)) ↔ (result ≡ Err Device) }
     ensures asked { input.new.reads ≤ input.old.reads + 1048578 }
+    ensures once { ReadsOnce (R.remaining input.old.device) input.old.reads input.new.reads }
 {
     print(&ReplayRequest { erase }, alloc, input, output)
 }

@@ -26,8 +26,8 @@ pub fn count_all<L>(
     Ok(counts)
 }
 
-/// Counts, for each state of each layer, its paths on which some label has `property`. `all` has the counts of all
-/// paths. The one error is that allocation failed.
+/// Counts, for each state of each layer, the paths from that state on which some label has `property`. `all` has the
+/// counts of all paths. The one error is that allocation failed.
 pub fn count_all_with<L, S: LabelProperty<L>>(
     alloc: Global,
     layers: &[Vec<Vec<Edge<L>>>],
@@ -49,8 +49,8 @@ pub fn count_all_with<L, S: LabelProperty<L>>(
     Ok(counts)
 }
 
-/// Counts, for each state of each layer, its paths on which no label has `property`. The one error is that allocation
-/// failed.
+/// Counts, for each state of each layer, the paths from that state on which no label has `property`. The one error is
+/// that allocation failed.
 pub fn count_all_without<L, S: LabelProperty<L>>(
     alloc: Global,
     layers: &[Vec<Vec<Edge<L>>>],

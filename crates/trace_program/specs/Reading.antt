@@ -56,13 +56,13 @@ pub record HasRead (count : ℕ) (input left : Option (List ℕ)) : Type 0 where
   pub consumed : Consumes input left read
   pub at_least : count ≤ length read
 
--- The bytes `before` of the input were read, and then a part of it in one read.
+-- The bytes `before` of the input were read, and then at most 4,096 bytes more.
 pub record HasReadPart (before : List ℕ) (input left : Option (List ℕ)) : Type 0 where
   pub part : List ℕ
   pub consumed : Consumes input left (before ++ part)
   pub short : length part ≤ 4096
 
--- Up to the last read, the check was not done.
+-- Up to the last 4,096 bytes that were read, the check was not done.
 pub record IsReadToStop (asked : TraceSubcommand) (source : List ℕ) (input left : Option (List ℕ)) : Type 0 where
   pub before : List ℕ
   pub last : HasReadPart before input left

@@ -28,6 +28,7 @@ pub text_from : (texts : List ℕ → Plan → List ℕ → Type 0) (input : Opt
 text_from texts input bytes read plan text kept same is_plan is = record {
   bytes = bytes;
   of_input = input_has (λ (them : List ℕ). bytes ≡ them) input bytes plan kept is_plan refl;
+  is_plan = is_plan;
   is_text = subst (λ (them : List ℕ). texts them plan text) same is;
 }
 

@@ -8,6 +8,7 @@ use Rattle.view_program.specs.Applied.{IsHistoryIn, IsNoHistoryIn, IsMap, HasNoM
 use Rattle.view_program.specs.declared.fault.ViewError.{ViewError}
 use Rattle.realm_program.specs.Printed.{IsPrinted, HasNoText, IsEndOfDevice}
 use Rattle.realm_program.specs.Replay.{IsWithoutText}
+use Rattle.realm_program.specs.Whole.{ReadsOnce}
 use Rattle.realm_plan.specs.Plan as plan
 use Rattle.realm_program.specs.declared.fault.Fault as plan_fault
 use Rattle.view_program.specs.History.{IsHistoryText}
@@ -72,6 +73,7 @@ IsApplyEnd erase unread input old new (Err fault) = ⊥
 pub record IsTextFrom (texts : List ℕ → plan.Plan → List ℕ → Type 0) (input : Option (List ℕ)) (it : plan.Plan) (text : List ℕ) : Type 0 where
   pub bytes : List ℕ
   pub of_input : IfSome input (λ known. bytes ≡ known)
+  pub is_plan : plan.plan_of bytes ≡ Ok it
   pub is_text : texts bytes it text
 
 -- The end of a request for a plan's text: it is printed whole or not at all, unless a write fails on the way. For an
@@ -101,7 +103,12 @@ IsRunEnd (Explore schedules after) source unread input old new result = EndsAs (
 IsRunEnd (Order turns) source unread input old new result = EndsAs (IsReorderEnd turns source unread input old new) result
 IsRunEnd Check source unread input old new result = IsCheckEnd source unread input old new result
 
--- The number of reads, before and after: a plan takes up to 1,048,578 of them, and a history is read to its end.
+-- The number of reads, before and after: a plan takes up to 1,048,578 of them. For a history there is no bound.
 abbrev pub AreFewReads : ViewSubcommand → (old new : ℕ) → Type 0
 AreFewReads (Apply erase) old new = Unit {0}
 AreFewReads asked old new = new ≤ old + 1048578
+
+-- A known input is read once, but for a history, of which that is in no clause.
+abbrev pub ReadsOnceFor : ViewSubcommand → Option (List ℕ) → (old new : ℕ) → Type 0
+ReadsOnceFor (Apply erase) input old new = Unit {0}
+ReadsOnceFor asked input old new = ReadsOnce input old new

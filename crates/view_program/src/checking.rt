@@ -1,5 +1,6 @@
 //! The subcommand `check`, which reports the findings on a plan.
 ghost use Rattle.std.specs.Prelude.{◌≡◌, ◌+◌, ◌≤◌, ◌↔◌, ◌⊎◌, false, true, Err};
+ghost use Rattle.realm_program.specs.Whole.{ReadsOnce};
 ghost use Rattle.view_program.specs.Checked.{verdict_of, IsCheckEnd};
 ghost use Rattle.view_program.specs.declared.fault.ViewError.TheVariants.{Device};
 
@@ -46,6 +47,7 @@ pub fn check<R: Read, W: Write>(
     ensures end { IsCheckEnd source.now input.new.failed (R.remaining input.old.device) (W.contents output.old.device) (W.contents output.new.device) result }
     ensures device { ((input.new.failed ≡ true) ⊎ (output.new.failed ≡ true)) ↔ (result ≡ Err Device) }
     ensures asked { input.new.reads ≤ input.old.reads + 1048578 }
+    ensures once { ReadsOnce (R.remaining input.old.device) input.old.reads input.new.reads }
 {
     let bytes = read_whole(alloc, input)?;
     let report = LintReport::on(alloc, source, &bytes)?;

@@ -3,6 +3,7 @@
 ghost use Rattle.std.specs.Prelude.{◌≡◌, ◌+◌, ◌≤◌, ◌↔◌, ◌⊎◌, false, true, Ok, Err, IfOk, IfErr, OnOk, string_bytes};
 ghost use Rattle.realm_plan.specs.Plan.{plan_of};
 ghost use Rattle.realm_plan.specs.PlanView.{plan_view};
+ghost use Rattle.realm_program.specs.Whole.{ReadsOnce};
 ghost use Rattle.view_program.specs.OrderText.{order_part, with_schedule, IsWithOrder};
 ghost use Rattle.view_program.specs.Reordered.{IsOrderOf, IsWholeText, IsReorderedText, IsNotWhole, IsNotReordered, IsReorderEnd};
 ghost use Rattle.view_program.specs.declared.fault.ViewError.TheVariants.{Device};
@@ -173,6 +174,7 @@ pub fn reorder<R: Read, W: Write>(
         (W.contents output.old.device) (W.contents output.new.device) result }
     ensures device { ((input.new.failed ≡ true) ⊎ (output.new.failed ≡ true)) ↔ (result ≡ Err Device) }
     ensures asked { input.new.reads ≤ input.old.reads + 1048578 }
+    ensures once { ReadsOnce (R.remaining input.old.device) input.old.reads input.new.reads }
 {
     let bytes = read_whole(alloc, input)?;
     let plan = plan_from(alloc, source, &bytes)?;

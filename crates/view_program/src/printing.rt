@@ -2,6 +2,7 @@
 ghost use Rattle.std.specs.Prelude.{◌≡◌, ◌+◌, ◌≤◌, ◌↔◌, ◌⊎◌, false, true, Err, IfOk, IfErr};
 ghost use Rattle.realm_plan.specs.Plan.{plan_of};
 ghost use Rattle.realm_plan.specs.PlanView.{plan_view};
+ghost use Rattle.realm_program.specs.Whole.{ReadsOnce};
 ghost use Rattle.view_program.specs.Checked.{GivesNoPlan};
 ghost use Rattle.view_program.specs.Printed.{IsPlanEnd};
 ghost use Rattle.view_program.specs.declared.fault.ViewError.TheVariants.{Device};
@@ -48,6 +49,7 @@ pub fn print<T: ViewText, R: Read, W: Write>(
         (R.remaining input.old.device) (W.contents output.old.device) (W.contents output.new.device) result }
     ensures device { ((input.new.failed ≡ true) ⊎ (output.new.failed ≡ true)) ↔ (result ≡ Err Device) }
     ensures asked { input.new.reads ≤ input.old.reads + 1048578 }
+    ensures once { ReadsOnce (R.remaining input.old.device) input.old.reads input.new.reads }
 {
     let bytes = read_whole(alloc, input)?;
     let plan = plan_from(alloc, source, &bytes)?;

@@ -1,6 +1,6 @@
 //! The function that performs the requested subcommand of `realmview`.
 ghost use Rattle.std.specs.Prelude.{◌≡◌, ◌↔◌, ◌⊎◌, false, true, Err};
-ghost use Rattle.view_program.specs.Printed.{AreFewReads, IsRunEnd};
+ghost use Rattle.view_program.specs.Printed.{AreFewReads, IsRunEnd, ReadsOnceFor};
 ghost use Rattle.view_program.specs.declared.fault.ViewError.TheVariants.{Device};
 
 use crate::printing::print;
@@ -28,6 +28,7 @@ pub fn run<R: Read, W: Write, P: Progress>(
     ensures device { ((input.new.failed ≡ true) ⊎ (output.new.failed ≡ true)) ↔ (result ≡ Err Device) }
     ensures end { IsRunEnd asked source.now input.new.failed (R.remaining input.old.device) (W.contents output.old.device) (W.contents output.new.device) result }
     ensures reads { AreFewReads asked input.old.reads input.new.reads }
+    ensures once { ReadsOnceFor asked (R.remaining input.old.device) input.old.reads input.new.reads }
 {
     match asked {
         ViewSubcommand::History(erase) => print(

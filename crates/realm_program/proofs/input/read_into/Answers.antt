@@ -1,5 +1,5 @@
 use Rattle.std.proofs.Common.{◌≡◌, ◌<◌, ◌≤◌, length, length-take-le, take, [], arith}
-use Rattle.realm_program.proofs.Kept.{kept_at_limit, kept_at_end}
+use Rattle.realm_program.proofs.Kept.{kept_at_limit, kept_at_end, reads_once}
 use Rattle.realm_program.proofs.input.read_into.Goals as goal
 use Rattle.checked_io.proofs.Read.{consumes_more}
 
@@ -34,3 +34,19 @@ loop-preserved g c =
       few = grind arith;
       taken = rw more (consumes_more _ _ _ _ _ c.loop.invariant.taken c.in_ok-n.ensures.bytes.0);
     }
+
+pub returns-in_err-n-clause-once : goal.returns-in_err-n-clause-once
+returns-in_err-n-clause-once g c =
+    reads_once _ _ _ _ _ _ c.loop.invariant.taken c.loop.invariant.some (omega (arith, c.in_err-n.ensures.counted, c.loop.invariant.asked))
+
+pub returns-then-n-eq0-clause-once : goal.returns-then-n-eq0-clause-once
+returns-then-n-eq0-clause-once g c =
+    reads_once _ _ _ _ _ _ c.loop.invariant.taken c.loop.invariant.some (omega (arith, c.in_ok-n.ensures.counted, c.loop.invariant.asked))
+
+pub returns-in_default-clause-once : goal.returns-in_default-clause-once
+returns-in_default-clause-once g c =
+    reads_once _ _ _ _ _ _ c.loop.invariant.taken c.loop.invariant.some (omega (arith, c.in_ok-n.ensures.counted, c.loop.invariant.asked))
+
+pub returns-then-len-ge-KEPT-clause-once : goal.returns-then-len-ge-KEPT-clause-once
+returns-then-len-ge-KEPT-clause-once g c =
+    reads_once _ _ _ _ _ _ c.loop.invariant.taken c.loop.invariant.some (omega (arith, c.in_ok-n.ensures.counted, c.loop.invariant.asked))
