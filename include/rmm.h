@@ -9,16 +9,17 @@
  * Commands by name, parameter pages and names of values are in `rmm_commands.h`, which can be left out. Each name here
  * begins with `rmm_` or `RMM_`, so a host's own headers can be included too.
  *
- * A handle is 16 bytes of the caller's. All of them 0 is a closed handle. A closed handle is no mistake in any call: it
- * is firmware without an RMM. Numbers have 64 bits, as registers have, and nothing is cut. rmm_open takes memory, and
- * rmm_line does; no other call.
+ * A handle is 16 bytes of the caller's memory. A handle whose bytes are all 0 is closed. Every call accepts a closed
+ * handle, which is firmware without an RMM. Numbers have 64 bits, as registers have, and no number is cut. Only
+ * rmm_open and rmm_line allocate memory.
  *
- * What a caller has to guarantee is at each function after `Required:`, and nothing checks it. There `handle` is:
- *   - a pointer to an rmm_handle, and not NULL;
- *   - it is RMM_CLOSED, all bytes of it are 0, or it is as the last call with it left it: neither copied, moved nor
- *     written to since;
+ * After `Required:`, each function says what its caller has to guarantee, and nothing checks it. There `handle` means:
+ *   - `handle` points to an rmm_handle, and is not NULL;
+ *   - the handle is RMM_CLOSED, all bytes of it are 0, or it is as the last call with it left it: neither copied, moved
+ *     nor written to since;
  *   - no two pointers of the call lead into the same memory;
- *   - one call with it at a time, and none from a signal handler, nor from the forked child of a process with threads.
+ *   - one call with the handle is made at a time, and none from a signal handler, nor from the forked child of a
+ *     process with threads.
  * Two handles have nothing in common: each may be in a thread of its own.
  */
 #ifndef RMM_H
@@ -35,7 +36,7 @@ extern "C" {
 #define RMM_STATIC_ASSERT _Static_assert
 #endif
 
-/* Compilers that know it warn of a NULL. */
+/* Compilers that have this attribute warn of a NULL argument. */
 #if defined(__GNUC__)
 #define RMM_NO_NULL __attribute__((nonnull))
 #else
@@ -91,16 +92,16 @@ enum { RMM_REL0 = 0, RMM_EAC5 = 1 };
 RMM_STATIC_ASSERT(sizeof(rmm_settings) == 120 && offsetof(rmm_settings, stops_at_destroyed) == 104,
                   "rmm_settings has 120 bytes");
 
-/* The answers of rmm_open. */
+/* The return values of rmm_open. */
 enum { RMM_OPENED = 0, RMM_NO_MACHINE = 1, RMM_NO_MEMORY = 2, RMM_ALREADY_OPEN = 3 };
 
-/* Opens a closed handle: a fresh machine, all of whose granules are UNDELEGATED and 0.
- * RMM_OPENED, or nothing has changed: RMM_ALREADY_OPEN exactly if it was open, RMM_NO_MACHINE exactly if it was closed
- * and a setting is out of its range, RMM_NO_MEMORY if allocation failed.
+/* Opens a closed handle with a fresh machine, all of whose granules are UNDELEGATED and 0.
+ * Returns RMM_OPENED, or nothing has changed: RMM_ALREADY_OPEN exactly if the handle was open, RMM_NO_MACHINE exactly
+ * if it was closed and a setting is out of its range, RMM_NO_MEMORY if allocation failed.
  * Required: handle; `settings` is not NULL, each of its fields is written, and its bools are true or false. */
 uint64_t rmm_open(rmm_handle *handle, const rmm_settings *settings) RMM_NO_NULL;
 
-/* Closes a handle, and gives its memory back. A closed one stays closed.   Required: handle. */
+/* Closes a handle, and frees its memory. A handle that is closed already stays closed. Required: handle. */
 void rmm_close(rmm_handle *handle) RMM_NO_NULL;
 
 /* ---- calls */
@@ -118,16 +119,18 @@ typedef struct rmm_registers {
 
 RMM_STATIC_ASSERT(sizeof(rmm_registers) == 56, "rmm_registers has 56 bytes");
 
-/* An SMC: X0 to X6 before the call; after it X0 is the result word, X1 to X4 are the outputs, 0 if there is none.
+/* Performs an SMC. `registers` has X0 to X6 before the call. After it X0 is the result word, and X1 to X4 are the
+ * outputs, 0 if there is none.
  *
  * X0 is RMM_NOT_SUPPORTED, and no other register changes, for a function that is no command, and on a closed handle.
- * X0 is RMM_RUNS_ON if the guest that was entered spins: RMI_REC_ENTER would not have come back. The REC is RUNNING,
- * and rmm_interrupt ends that.   Required: handle; `registers` is not NULL, and each of its fields is written. */
+ * X0 is RMM_RUNS_ON if the guest that was entered spins: RMI_REC_ENTER would not have returned. The REC is RUNNING
+ * then, and rmm_interrupt ends its run.
+ * Required: handle; `registers` is not NULL, and each of its fields is written. */
 void rmm_smc(rmm_handle *handle, rmm_registers *registers) RMM_NO_NULL;
 
 #define RMM_NOT_SUPPORTED 0xffffffffffffffff
 #define RMM_RUNS_ON 0xfffffffffffffffe
-#define RMM_RUNNING RMM_RUNS_ON /* old name, which goes with librmm.so.1 */
+#define RMM_RUNNING RMM_RUNS_ON /* old name, to be removed in librmm.so.1 */
 
 /* Result words. RMM 1.0, RmiCommandReturnCode: the status in bits 7:0, the index in bits 15:8. */
 enum { RMM_SUCCESS = 0, RMM_ERROR_INPUT = 1, RMM_ERROR_REALM = 2, RMM_ERROR_REC = 3, RMM_ERROR_RTT = 4 };
@@ -135,37 +138,38 @@ enum { RMM_SUCCESS = 0, RMM_ERROR_INPUT = 1, RMM_ERROR_REALM = 2, RMM_ERROR_REC 
 static inline unsigned rmm_status(uint64_t word) { return (unsigned)(word & 0xff); }
 static inline unsigned rmm_index(uint64_t word) { return (unsigned)(word >> 8 & 0xff); }
 
-/* Judgements of a call, which do not perform it. They are of the machine as it is, so ask before rmm_smc.
+/* Judgements of a call, which is not performed. They are of the machine as it is, so ask for them before rmm_smc.
  *
- * RMM 1.0 says of some failure conditions of a command which comes first. A check is made if each check that it comes
- * after was made and passed. If several are made and fail, an RMM may answer the word of each. */
+ * RMM 1.0 orders some failure conditions of a command before others. A check is made if each check that it comes after
+ * was made and passed. If several checks are made and fail, an RMM may answer with the word of any of them. */
 
-/* The check that decides in this RMM: the first that fails. 0 if none fails, for a function that is no command, and on
- * a closed handle. The numbers and rmm_check_name are in rmm_commands.h.
+/* Returns the number of the check that decides in this RMM: the first that fails. The number is 0 if none fails, for a
+ * function that is no command, and on a closed handle. The numbers and rmm_check_name are in rmm_commands.h.
  * Required: handle; `registers` is not NULL, and each of its fields is written. */
 uint64_t rmm_deciding_check(rmm_handle *handle, const rmm_registers *registers) RMM_NO_NULL;
 
-/* Whether an RMM may answer this X0: the word of a check that is made and fails; RMM_SUCCESS if none does. For a function
- * that is no command, and on a closed handle, RMM_NOT_SUPPORTED alone. RMM_RUNS_ON is the answer of no RMM.
+/* Returns whether an RMM may answer with this X0: the word of a check that is made and fails, or RMM_SUCCESS if none
+ * does. For a function that is no command, and on a closed handle, only RMM_NOT_SUPPORTED is allowed. RMM_RUNS_ON is
+ * never allowed.
  * Required: handle; `registers` is not NULL, and each of its fields is written. */
 bool rmm_is_allowed(rmm_handle *handle, const rmm_registers *registers, uint64_t x0) RMM_NO_NULL;
 
 /* ---- memory of the host */
 
-/* Reads and writes bytes within one granule. False, with nothing changed, if a host gets a granule protection fault:
- * the granule is not UNDELEGATED, is secure, or there is none. False also for bytes of more than one granule, and on a
- * closed handle.
+/* Load and store bytes within one granule. Each returns false, and changes nothing, if a host gets a granule protection
+ * fault: the granule is not UNDELEGATED, is secure, or does not exist. Each also returns false if the bytes are in more
+ * than one granule, or the handle is closed.
  * Required: handle; `bytes` is not NULL, not even if `count` is 0; it points to `count` bytes, which rmm_store reads
  * and rmm_load may write to. */
 bool rmm_load(rmm_handle *handle, uint64_t address, void *bytes, size_t count) RMM_NO_NULL;
 bool rmm_store(rmm_handle *handle, uint64_t address, const void *bytes, size_t count) RMM_NO_NULL;
 
-/* ---- guests. A REC has a list of at most 16 steps. RMI_REC_ENTER performs them until one makes an exit; if none is
+/* ---- guests. A REC has a list of at most 16 steps. RMI_REC_ENTER performs them until one causes an exit; if none is
  * left, the exit is IRQ. A step whose exit is SYNC stays, and is tried again at the next entry unless the host answers
  * it there; RMM_STEP_SYSTEM_REGISTER is done with its exit. A host call, a change of RIPAS and a PSCI call with an exit
  * have their result after the next entry */
 
-/* A step, and its operands a to d in the sequence here. An operand that is not named is not looked at. */
+/* A step, and its operands a to d in the sequence here. An operand that is not named is ignored. */
 enum {
     RMM_STEP_WRITE = 0,           /* ipa, value, bytes: 2, 4 or 8; any other number is 1 byte */
     RMM_STEP_READ = 1,            /* ipa, bytes */
@@ -179,7 +183,7 @@ enum {
     RMM_STEP_SYSTEM_RESET = 9,
     RMM_STEP_WFI = 10,
     RMM_STEP_WFE = 11,
-    RMM_STEP_SPIN = 12,           /* until rmm_interrupt; so is each number that is not here */
+    RMM_STEP_SPIN = 12,           /* spins until rmm_interrupt; any number that is not here does too */
     RMM_STEP_FETCH = 13,          /* ipa */
     RMM_STEP_SYSTEM_REGISTER = 14 /* iss, value: a write, as of ICC_SGI1R */
 };
@@ -194,17 +198,17 @@ typedef struct rmm_step {
 
 RMM_STATIC_ASSERT(sizeof(rmm_step) == 40, "rmm_step has 40 bytes");
 
-/* The answers of rmm_guest. */
+/* The return values of rmm_guest. */
 enum { RMM_QUEUED = 0, RMM_FULL = 1, RMM_NO_REC = 2 };
 
-/* Gives the guest of a REC a step, after those that it has. RMM_FULL if it has 16, RMM_NO_REC if no REC is at the
- * address, and then nothing changes. A closed handle has no REC.
+/* Queues a step for the guest of a REC, after those that it has. Returns RMM_QUEUED; or RMM_FULL if it has 16, or
+ * RMM_NO_REC if no REC is at the address, and then nothing changes. A closed handle has no REC.
  * Required: handle; `step` is not NULL, and each of its fields is written. */
 uint64_t rmm_guest(rmm_handle *handle, uint64_t rec, const rmm_step *step) RMM_NO_NULL;
 
-/* Ends the run of a REC, and `word` is what its RMI_REC_ENTER returns. It is 0, and the exit IRQ is in the run page that
- * the entry named; or RMI_ERROR_INPUT, with no exit written, if that page is the host's no longer. False, with nothing
- * changed, if the REC is not RUNNING.
+/* Ends the run of a REC, and writes the result word of its RMI_REC_ENTER to `word`. The word is 0, and the exit IRQ is
+ * in the run page that the entry named; or it is RMI_ERROR_INPUT, with no exit written, if that page is no longer the
+ * host's. Returns false, with nothing changed, if the REC is not RUNNING.
  * Required: handle; `word` is not NULL, and may be written to. */
 bool rmm_interrupt(rmm_handle *handle, uint64_t rec, uint64_t *word) RMM_NO_NULL;
 
@@ -212,7 +216,7 @@ bool rmm_interrupt(rmm_handle *handle, uint64_t rec, uint64_t *word) RMM_NO_NULL
 enum {
     RMM_RESULT_DONE = 0,
     RMM_RESULT_READ = 1,     /* what was read */
-    RMM_RESULT_SEA = 2,      /* an abort of the guest's own */
+    RMM_RESULT_SEA = 2,      /* a synchronous external abort in the guest */
     RMM_RESULT_ACCEPTED = 3, /* up to which address the RIPAS is changed */
     RMM_RESULT_REJECTED = 4, /* the same */
     RMM_RESULT_RETURNED = 5, /* gprs 0 of RmiRecEnter */
@@ -227,12 +231,13 @@ typedef struct rmm_step_result {
 
 RMM_STATIC_ASSERT(sizeof(rmm_step_result) == 16, "rmm_step_result has 16 bytes");
 
-/* Result `number` of those since the last entry of a REC, from 0 on. False, and nothing is written, if there is none.
+/* Reads result `number` of those since the last entry of a REC, from 0 on. Returns false, and writes nothing, if there
+ * is no such result.
  * Required: handle; `result` is not NULL, and may be written to. */
 bool rmm_result(rmm_handle *handle, uint64_t rec, uint64_t number, rmm_step_result *result) RMM_NO_NULL;
 
-/* ---- readings, which no host has. False, and nothing is written, if there is nothing to read. None changes the
- * machine. An address is that of a whole granule. */
+/* ---- readings, which no firmware offers a host. Each returns false, and writes nothing, if there is nothing to read.
+ * None changes the machine. An address is that of the first byte of a granule. */
 
 /* RMM 1.0, RmmGranuleState. The numbers are this library's. */
 enum {
@@ -245,11 +250,11 @@ enum {
     RMM_RTT = 6
 };
 
-/* The state of a granule.   Required: handle; `state` is not NULL, and may be written to. */
+/* Reads the state of a granule. Required: handle; `state` is not NULL, and may be written to. */
 bool rmm_read_state(rmm_handle *handle, uint64_t address, uint64_t *state) RMM_NO_NULL;
 
-/* The eight bytes from 8 * index on of a granule in any state, the least first; `index` is at most 511. Of a REC, words
- * 0 to 30 are its gprs, and word 31 is its pc.   Required: handle; `word` is not NULL, and may be written to. */
+/* Reads the eight bytes from 8 * index on of a granule in any state, the least first; `index` is at most 511. Of a REC,
+ * words 0 to 30 are its gprs, and word 31 is its pc. Required: handle; `word` is not NULL, and may be written to. */
 bool rmm_read_word(rmm_handle *handle, uint64_t address, uint64_t index, uint64_t *word) RMM_NO_NULL;
 
 /* RMM 1.0, RmmRealmState. The numbers are this library's. */
@@ -267,14 +272,14 @@ typedef struct rmm_realm {
     uint64_t rtt_num_start;
     uint64_t rtt_base;
     uint64_t vmid;
-    uint64_t next_rec;  /* how many RECs it was given, so the number of its next REC */
-    uint64_t rec_count; /* how many RECs it has */
+    uint64_t next_rec;  /* the number of RECs that it was given, which is the number of its next REC */
+    uint64_t rec_count; /* the number of RECs that it has */
     uint8_t rim[64];    /* with SHA-256, zeros from byte 32 on */
 } rmm_realm;
 
 RMM_STATIC_ASSERT(sizeof(rmm_realm) == 136 && offsetof(rmm_realm, rim) == 72, "rmm_realm has 136 bytes");
 
-/* The realm whose RD is at an address.   Required: handle; `realm` is not NULL, and may be written to. */
+/* Reads the realm whose RD is at an address. Required: handle; `realm` is not NULL, and may be written to. */
 bool rmm_read_realm(rmm_handle *handle, uint64_t rd, rmm_realm *realm) RMM_NO_NULL;
 
 /* RMM 1.0, RmmRecState. The numbers are this library's. */
@@ -287,36 +292,36 @@ enum { RMM_EMPTY = 0, RMM_RAM = 1, RMM_DESTROYED = 2 };
 typedef struct rmm_rec {
     uint64_t state;
     uint64_t mpidr;
-    uint64_t ripas_base;   /* what is left of the change of RIPAS that it asked for; base and top are 0 without one */
+    uint64_t ripas_base;   /* the rest of the RIPAS change that it has requested; base and top are 0 without one */
     uint64_t ripas_top;
     uint64_t ripas_value;
-    uint64_t step_count;   /* how many steps its guest has yet to perform */
-    uint64_t result_count; /* how many results there are since its last entry */
+    uint64_t step_count;   /* the number of steps that its guest has yet to perform */
+    uint64_t result_count; /* the number of results since its last entry */
     uint64_t is_runnable;     /* 1 if it is, and 0 if not */
     uint64_t is_psci_pending; /* the same */
 } rmm_rec;
 
 RMM_STATIC_ASSERT(sizeof(rmm_rec) == 72 && offsetof(rmm_rec, is_runnable) == 56, "rmm_rec has 72 bytes");
 
-/* The REC at an address.   Required: handle; `attributes` is not NULL, and may be written to. */
+/* Reads the REC at an address. Required: handle; `attributes` is not NULL, and may be written to. */
 bool rmm_read_rec(rmm_handle *handle, uint64_t rec, rmm_rec *attributes) RMM_NO_NULL;
 
 /* ---- lines of traces, as `rmi_granule_delegate 0x80000000`, `state 0x80000000`, `platform 0x80000000 64 aux 1` */
 
-/* Performs a line, and writes our answer to it: the text that `rmitrace answer` puts after ` = `. A zero ends the text,
- * and a text without enough room is cut before it. Returns the length of the whole text: 0 for a comment, an empty line,
- * and a platform. An answer that the line has is ignored.
+/* Performs a line, and writes the model's answer to it: the text that `rmitrace answer` puts after ` = `. A zero ends
+ * the text, and a text that does not fit is cut before it. Returns the length of the whole text: 0 for a comment, an
+ * empty line, and a platform. An answer that the line has is ignored.
  *
  * A platform gives the handle a fresh machine, also a closed one. On a closed handle any other question is no command.
- * RMM_NOT_ANSWERED if allocation failed: nothing is written, and the line was performed or nothing has changed. The
- * memory of a text is given back.
- * Required: handle; `line` is not NULL and points to `length` bytes, without the line feed; `answer` is not NULL, not even
- * if `capacity` is 0, and points to `capacity` bytes that may be written to. */
+ * Returns RMM_NOT_ANSWERED if allocation failed: nothing is written, and the line was performed or nothing has changed.
+ * The memory of a text is freed.
+ * Required: handle; `line` is not NULL and points to `length` bytes, without the line feed; `answer` is not NULL, not
+ * even if `capacity` is 0, and points to `capacity` bytes that may be written to. */
 uint64_t rmm_line(rmm_handle *handle, const void *line, size_t length, void *answer, size_t capacity) RMM_NO_NULL;
 
 #define RMM_NOT_ANSWERED 0xffffffffffffffff
 
-/* Room for the text of each answer, and its zero. */
+/* The size of a buffer that holds the text of any answer, and its zero. */
 #define RMM_ANSWER_SIZE 2048
 
 #ifdef __cplusplus

@@ -1,4 +1,5 @@
--- The machine value of `BoxParts` on the C library's heap, and what is owned with it. Assumes `Logic`.
+-- The machine value and the ownership predicate of `BoxParts` on the C library's heap. The proofs assume `Logic`, the
+-- interface of the separation logic.
 use Rattle.std.proofs.Common.{◌≡◌, ℕ, List, [], ◌∷◌, ◌++◌, refl, subst}
 use mathlib.Core.Bool.{true, ◌&&◌}
 use lib.Dec.{T}

@@ -1,4 +1,4 @@
--- Ownership of a box of the C library's heap, by its pointer.
+-- The ownership of a box on the C library's heap, as a predicate of the box's pointer.
 use Rattle.std.specs.Prelude.{Option, Some, None}
 use mir.Syntax.{Ty}
 use base.Fml.{Fml, ftrue}

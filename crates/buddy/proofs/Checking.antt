@@ -1,4 +1,4 @@
--- The visit of one order: a block in hand is split, or a block comes to hand, or there is none of that order.
+-- The steps of cutting a block out of the free lists: each visits one order and preserves the loop's invariant.
 use Rattle.std.proofs.Common.{◌≡◌, ◌≢◌, ℕ, ◌+◌, ◌%◌, ◌^◌, ◌<◌, ◌≤◌, ◌↔◌, Bool, true, false, List, length, set, inl, inr, refl, sym, ap, subst, ◌∙◌, arith}
 use Rattle.std.specs.Prelude.{IsTrue}
 use Rattle.std.specs.Bool.{OnTrue}
@@ -20,7 +20,7 @@ module _ (heads : List ℕ) (flags : List Bool) (granule order : ℕ) where
   abbrev other : ℕ
   other = buddy_at start order
 
-  -- what is in hand is split
+  -- the found block is split, and the half without the granule is put back
   pub check_split : HasChecked heads flags granule (order + 1) true → (head_at heads other ≡ 0) × (other < length heads) × HasChecked (set heads other (order + 1)) flags granule order true
   check_split checked =
       let hand = checked.in_hand refl in
@@ -31,13 +31,13 @@ module _ (heads : List ℕ) (flags : List Bool) (granule order : ℕ) where
       )
 
   module _ (checked : HasChecked heads flags granule (order + 1) false) where
-    -- a block of the order comes to hand
+    -- the block of this order is in its free list: it is found
     pub check_taken : order < 10 → head_at heads start ≡ order + 1 → HasChecked (set heads start 0) flags granule order true
     check_taken low head =
         let before = checked.not_yet refl in
         record { in_hand = λ _. (omega arith, come_to_hand heads flags order start before.0 head); not_yet = λ is. absurd (true≢false is) }
 
-    -- there is none of the order
+    -- the block of this order is in no free list: none is found yet
     pub check_on : head_at heads start ≢ order + 1 → HasChecked heads flags granule order false
     check_on none =
         let before = checked.not_yet refl in
@@ -59,7 +59,7 @@ module _ (heads : List ℕ) (flags : List Bool) (granule order : ℕ) where
         }
 
 module _ (heads : List ℕ) (flags : List Bool) (order first : ℕ) (aligned : first % 2 ^ order ≡ 0) where
-  -- where the look has come down to the order of an aligned block, the answer is whether it is free
+  -- when the check has reached the order of an aligned block, its result is whether the block is free
   starts : start_at first order ≡ first
   starts = let some = pow_pos order in start_is first order first aligned (omega arith, omega arith)
 

@@ -1,4 +1,4 @@
--- Flags of blocks.
+-- The flags of free granules in a block: those of its halves and parts, and those after the block is taken.
 use Rattle.std.proofs.Common.{◌≡◌, ℕ, zero, suc, ◌+◌, ◌%◌, ◌^◌, ◌<◌, ◌≤◌, Bool, true, false, List, length, ◌⊎◌, inl, inr, sym, ap, subst, ◌∙◌, arith}
 use Rattle.std.proofs.Math.Nat.{mod-one}
 use Rattle.std.proofs.lemmas.Bool.{cases_Bool, cases_eq, cases_lt, true≢false}
@@ -14,7 +14,7 @@ use Rattle.buddy.specs.InHand.{LiesIn}
 use Rattle.buddy.proofs.Aligned.{Apart, double, outside_of}
 use Rattle.buddy.proofs.Halves.{lower_first, swapped, half_aligned, half_within, halves_apart, in_half}
 
--- a flag is not both
+-- a flag is not both true and false
 pub clash : {P : Type 0} (b : Bool) → b ≡ true → b ≡ false → P
 clash b is is_not = absurd (true≢false (sym is ∙ is_not))
 
@@ -104,7 +104,7 @@ module _ (flags : List Bool) (k g : ℕ) (block : IsFreeBlock flags k g) where
   abbrev rest : List Bool
   rest = with_taken flags k g
 
-  -- what is free after it was free before
+  -- a granule that is free after the take was free before
   free_before : (x : ℕ) → is_free rest x ≡ true → is_free flags x ≡ true
   free_before x free =
       elim (inside_or_outside g (2 ^ k) x) [
@@ -122,7 +122,7 @@ module _ (flags : List Bool) (k g : ℕ) (block : IsFreeBlock flags k g) where
         run = record { each = λ x low high. free_before x (free.run.each x low high) };
       }
 
-  -- a block beside it stays free
+  -- a free block beside the taken one stays free
   pub block_beside : (j h : ℕ) → Apart k g j h → IsFreeBlock flags j h → IsFreeBlock rest j h
   block_beside j h apart free =
       let len = length-with_taken flags k g block in
@@ -133,7 +133,7 @@ module _ (flags : List Bool) (k g : ℕ) (block : IsFreeBlock flags k g) where
         run = record { each = λ x low high. is_free-with_taken_outside flags k g block x (outside_of k g j h x apart (low, high)) ∙ free.run.each x low high };
       }
 
-  -- no free block begins in it
+  -- no free block begins in the taken one
   pub none_inside : (j h : ℕ) → LiesIn h k g → ¬ (IsFreeBlock rest j h)
   none_inside j h inside free = clash (is_free rest h) (first_flag true rest j h free) (is_free-with_taken_inside flags k g block h inside.0 inside.1)
 

@@ -1,4 +1,4 @@
--- The merge of a block in hand with its other half, or its return to the lists.
+-- The steps of giving a block back: it is merged with its free buddy, or inserted into the free lists.
 use Rattle.std.proofs.Common.{◌≡◌, ◌≢◌, ℕ, ◌+◌, ◌<◌, ◌≤◌, Bool, List, length, set, inl, inr, subst, arith}
 use Rattle.std.proofs.lemmas.List.{get_or-set_same}
 use Rattle.std.proofs.lemmas.Nat.{pow_pos}

@@ -1,4 +1,4 @@
--- The two halves of a block.
+-- The two halves of a block: they are aligned, disjoint, and buddies of each other.
 use Rattle.std.proofs.Common.{◌≡◌, ℕ, ◌+◌, ◌*◌, ◌/◌, ◌%◌, ◌^◌, ◌<◌, ◌⊎◌, inl, inr, refl, sym, ap, ◌∙◌, arith}
 use Rattle.std.specs.Prelude.{bit_xor}
 use Rattle.std.specs.Int.Bits.{xor_add_and, xor_zero_r}
@@ -11,7 +11,7 @@ use Rattle.buddy.specs.MaximalBlock.{LiesWithin}
 use Rattle.buddy.specs.InHand.{LiesIn}
 use Rattle.buddy.proofs.Aligned.{double, mod_lower, mod_plus, Apart, nested, start_aligned}
 
--- the lower half comes first
+-- the halves of an aligned block, the lower one named first
 pub lower_first : (order base : ℕ) → base % 2 ^ (order + 1) ≡ 0 → AreHalves order base base (base + 2 ^ order)
 lower_first order base aligned = record { aligned = aligned; sides = inl (refl, refl) }
 

@@ -1,4 +1,4 @@
--- The heads as a maximal block is taken out or put in.
+-- The table of maximal free blocks, by first granule, after a block is taken out of it or put into it.
 use Rattle.std.proofs.Common.{◌≡◌, ℕ, ◌+◌, ◌-◌, ◌^◌, ◌<◌, ◌≤◌, Bool, true, false, List, length, set, inl, inr, sym, ap, subst, ◌∙◌, arith, length-set}
 use Rattle.std.proofs.lemmas.Bool.{cases_eq, cases_lt}
 use Rattle.std.proofs.lemmas.List.{get_or-set_same, get_or-set_other}
@@ -72,7 +72,7 @@ module _ (flags : List Bool) (k g : ℕ) (block : IsMaximalBlock flags k g) wher
           let before = maximal_before flags k g block order first maximal in
           get_or-set_other heads g first 0 0 before.1 ∙ head_of heads flags lists order first before.0
 
-  -- the other way round
+  -- a maximal block is put back
   pub put_step : (heads : List ℕ) → AreMaximal heads rest → AreMaximal (set heads g (k + 1)) flags
   put_step heads lists = record {
     sized = length-set heads g (k + 1) ∙ lists.sized ∙ length-with_taken flags k g block.free;

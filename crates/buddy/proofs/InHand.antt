@@ -1,4 +1,4 @@
--- The split and the merge of a block in hand.
+-- The split of a free block that is in no free list, and its merge with its buddy.
 use Rattle.std.proofs.Common.{◌≡◌, ◌≢◌, ℕ, ◌+◌, ◌^◌, ◌<◌, ◌≤◌, Bool, true, false, List, length, set, sym, subst, ◌∙◌, arith}
 use Rattle.std.proofs.lemmas.Nat.{pow_pos}
 use Rattle.page_arena.specs.Block.{IsFreeBlock, IsTakenBlock, with_taken, with_given}
@@ -12,13 +12,13 @@ use Rattle.buddy.proofs.Flags.{half_block, whole_block, block_before, block_besi
 use Rattle.buddy.proofs.Maximal.{alone_maximal}
 use Rattle.buddy.proofs.Heads.{of_head, head_of, no_head, take_step, put_step}
 
--- a maximal block comes to hand
+-- a maximal block is taken out of its free list
 pub come_to_hand : (heads : List ℕ) (flags : List Bool) (order first : ℕ) → AreMaximal heads flags → head_at heads first ≡ order + 1 → InHand (set heads first 0) flags order first
 come_to_hand heads flags order first lists head =
     let maximal = of_head heads flags lists order first head in
     record { free = maximal.free; others = take_step flags order first maximal heads lists }
 
--- a taken block that is given back comes to hand
+-- a taken block is given back, and is in no free list yet
 pub given_to_hand : (heads : List ℕ) (flags : List Bool) (order first : ℕ) → AreMaximal heads flags → IsTakenBlock flags order first → InHand heads (with_given flags order first) order first
 given_to_hand heads flags order first lists block =
     let back : with_taken (with_given flags order first) order first ≡ flags =
@@ -26,11 +26,11 @@ given_to_hand heads flags order first lists block =
     record { free = given_block flags order first block; others = subst (AreMaximal heads) (sym back) lists }
 
 module _ (heads : List ℕ) (flags : List Bool) (order first : ℕ) (hand : InHand heads flags order first) where
-  -- no free block begins at its first granule
+  -- without the block's granules no free block begins at its first one
   gone : ¬ (IsFreeBlock (with_taken flags order first) order first)
   gone = let some = pow_pos order in none_inside flags order first hand.free order first (omega arith, omega arith)
 
-  -- it goes back, where its other half is not free and whole
+  -- the block is put back into its list, if its buddy is not in that list or the order is 9
   pub put_back : order ≤ 9 → (base other : ℕ) → AreHalves order base first other → (order < 9 → head_at heads other ≢ order + 1)
       → (head_at heads first ≡ 0) × (first < length heads) × AreMaximal (set heads first (order + 1)) flags
   put_back low base other halves differs =
@@ -48,7 +48,7 @@ module _ (heads : List ℕ) (flags : List Bool) (order first : ℕ) (hand : InHa
       )
 
 module _ (heads : List ℕ) (flags : List Bool) (order base one other : ℕ) (halves : AreHalves order base one other) where
-  -- the other half of the block in hand is put back
+  -- the block is split, and its other half is put back into a list
   pub split : InHand heads flags (order + 1) base → order < 9 → (head_at heads other ≡ 0) × (other < length heads) × InHand (set heads other (order + 1)) flags order one
   split hand low =
       let less = with_taken flags order one in
@@ -69,7 +69,7 @@ module _ (heads : List ℕ) (flags : List Bool) (order base one other : ℕ) (ha
         },
       )
 
-  -- the block in hand is joined by its other half
+  -- the block is merged with its buddy, which is taken out of its list
   pub merge : InHand heads flags order one → head_at heads other ≡ order + 1 → InHand (set heads other 0) flags (order + 1) base
   merge hand head =
       let less = with_taken flags order one in

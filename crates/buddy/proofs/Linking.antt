@@ -1,4 +1,4 @@
--- The insertion of a head into the list of its order, and its removal.
+-- The insertion of a block into the doubly linked list of its order, and its removal from the list.
 use Rattle.std.proofs.Common.{◌≡◌, ◌≢◌, ℕ, zero, suc, ◌+◌, ◌<◌, ◌≤◌, List, length, set, sym, refl, ap, ◌∙◌, subst, arith, ◌⊎◌, inl, inr, length-set}
 use Rattle.std.proofs.lemmas.Bool.{cases_eq, cases_lt}
 use Rattle.std.proofs.lemmas.List.{get_or-set_same, get_or-set_other}
@@ -382,7 +382,7 @@ module _ (count : ℕ) (heads next prev firsts : List ℕ) (L : IsLinked count h
       on = on_new;
     }
 
-  -- the four ways of it
+  -- the four cases: by which neighbours the granule has
   module _ (g k p n : ℕ) (head : head_at heads g ≡ k + 1) (p_is : p ≡ at prev g) (n_is : n ≡ at next g) where
     abbrev gone_from : List ℕ → List ℕ → List ℕ → Type 0
     gone_from nexts prevs fronts = IsLinked count (set heads g 0) nexts prevs fronts

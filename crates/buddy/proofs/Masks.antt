@@ -1,4 +1,4 @@
--- The mask as blocks come and go.
+-- The bit mask of nonempty free lists: its lowest bit, and its value after a block is inserted or removed.
 use Rattle.std.proofs.Common.{◌≡◌, ◌≢◌, ℕ, ◌+◌, ◌-◌, ◌*◌, ◌/◌, ◌%◌, ◌^◌, ◌<◌, ◌≤◌, ◌↔◌, List, length, set, inl, inr, sym, ap, ◌∙◌, subst, arith, w16, bit_and, bit_or}
 use Rattle.std.specs.Prelude.{Option, None, Some, is_some, true, false, IfSome, IfNone}
 use Rattle.std.specs.Int.{bit_at, bit_not, trailing_zeros}
@@ -10,7 +10,7 @@ use Rattle.std.proofs.lemmas.Nat.Bits.{bit_at-zero, bit_at-trailing_zeros, bit_a
 use Rattle.buddy.specs.Heads.{head_at}
 use Rattle.buddy.specs.Links.{HasHead, IsMask}
 
--- a bit of what is shifted
+-- a bit of a shifted mask
 shifted : (mask order k : ℕ) → order ≤ k → bit_at mask k ≡ bit_at (mask / 2 ^ order) (k - order)
 shifted mask order k le =
     let sum : order + (k - order) ≡ k = omega arith in
@@ -58,14 +58,14 @@ module _ (mask : ℕ) (heads : List ℕ) (m : IsMask mask heads) (order : ℕ) w
         let zero : bit_at mask k ≡ 0 = shifted mask order k le ∙ lowest.2 (k - order) (omega arith) in
         omega arith
 
--- ---- heads come and go
+-- ---- heads are added and removed
 
 -- a granule that heads a block is one of the machine's
 pub head_inside : (heads : List ℕ) (g k : ℕ) → head_at heads g ≡ k + 1 → g < length heads
 head_inside heads g k head =
     elim (cases_lt g (length heads)) [ inl within ↦ within | inr outside ↦ let past : head_at heads g ≡ 0 = get_or_past heads g 0 outside in absurd (omega arith) ]
 
--- what comes where there is none, and where there is one
+-- what `IfNone` says of a result without a value, and `IfSome` of one with a value
 pub of_none : {P : Type 0} (found : Option ℕ) → is_some found ≡ false → IfNone found P → P
 of_none None is p = p
 of_none (Some first) is p = absurd (true≢false is)
@@ -74,7 +74,7 @@ pub of_some : {P : ℕ → Type 0} (found : Option ℕ) → is_some found ≡ tr
 of_some None is p = absurd (true≢false (sym is))
 of_some (Some first) is p = (first, p)
 
--- an order other than those that a granule's head was of and is of
+-- if a granule's head changes, an order that is neither its old nor its new one has heads exactly if it had some before
 other_order : (heads : List ℕ) (g head k : ℕ) → head_at heads g ≢ k + 1 → head ≢ k + 1 → g < length heads → HasHead (set heads g head) k ↔ HasHead heads k
 other_order heads g head k was is inside = (
   λ (has : HasHead (set heads g head) k). elim (cases_eq has.0 g) [
@@ -95,7 +95,7 @@ module _ (mask : ℕ) (heads : List ℕ) (m : IsMask mask heads) (g order : ℕ)
   bit_is : bit ≡ 2 ^ order
   bit_is = one_shl order 16 (omega arith)
 
-  -- a block comes
+  -- a block is inserted
   pub mask_put : head_at heads g ≡ 0 → IsMask (bit_or mask bit) (set heads g (order + 1))
   mask_put vacant = record {
     ten =
@@ -116,7 +116,7 @@ module _ (mask : ℕ) (heads : List ℕ) (m : IsMask mask heads) (g order : ℕ)
   }
 
   module _ (head : head_at heads g ≡ order + 1) where
-    -- a block goes, and its list has another one
+    -- a block is removed, and its list has another one
     pub mask_kept : HasHead (set heads g 0) order → IsMask mask (set heads g 0)
     mask_kept some = record {
       ten = m.ten;
@@ -129,7 +129,7 @@ module _ (mask : ℕ) (heads : List ℕ) (m : IsMask mask heads) (g order : ℕ)
           ];
     }
 
-    -- a block goes, and its list is empty
+    -- a block is removed, and its list is empty after it
     pub mask_cleared : ¬ (HasHead (set heads g 0) order) → IsMask (bit_and mask (bit_not w16 bit)) (set heads g 0)
     mask_cleared none = record {
       ten = let less = and_le_l mask (bit_not w16 bit) in let ten = m.ten in omega arith;

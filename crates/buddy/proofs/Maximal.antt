@@ -45,7 +45,7 @@ climb flags (suc more) order first sum free =
 pub holder : (flags : List Bool) (order first : ℕ) → order ≤ 9 → IsFreeBlock flags order first → Holder flags order first
 holder flags order first low free = climb flags (9 - order) order first (omega arith) free
 
--- a free block whose other half is not free
+-- a free block of order 9, or whose buddy is not free, is maximal
 pub alone_maximal : (flags : List Bool) (order base one other : ℕ) → AreHalves order base one other → order ≤ 9 → IsFreeBlock flags order one
     → (order < 9 → ¬ (IsFreeBlock flags order other)) → IsMaximalBlock flags order one
 alone_maximal flags order base one other halves low free alone = record {
@@ -83,12 +83,12 @@ module _ (flags : List Bool) (k g : ℕ) (one : IsMaximalBlock flags k g) where
             ]
       ]
 
-  -- ---- it is taken
+  -- ---- a maximal block is taken
 
   abbrev rest : List Bool
   rest = with_taken flags k g
 
-  -- another maximal block stays one
+  -- another maximal block stays maximal
   pub maximal_beside : (j h : ℕ) → IsMaximalBlock flags j h → h ≢ g → IsMaximalBlock rest j h
   maximal_beside j h other differs = record {
     low = other.low;
@@ -96,7 +96,7 @@ module _ (flags : List Bool) (k g : ℕ) (one : IsMaximalBlock flags k g) where
     widest = λ larger start above low wide within. other.widest larger start above low (block_before flags k g one.free larger start wide) within;
   }
 
-  -- none comes to be
+  -- no block becomes maximal
   pub maximal_before : (j h : ℕ) → IsMaximalBlock rest j h → IsMaximalBlock flags j h × (h ≢ g)
   maximal_before j h other =
       let some = pow_pos k in (

@@ -1,4 +1,4 @@
--- The cut of a block out of the first one of the lowest order that has one.
+-- The cut of a block out of the first block in the nonempty free list of the smallest order that suffices.
 use Rattle.std.proofs.Common.{◌≡◌, ℕ, ◌+◌, ◌%◌, ◌^◌, ◌<◌, ◌≤◌, Bool, true, List, length, inl, inr, subst, arith}
 use Rattle.std.specs.Prelude.{Option, None, Some, IfNone}
 use Rattle.std.proofs.Math.Pow.{pow_mono}
@@ -14,7 +14,7 @@ use Rattle.buddy.proofs.Flags.{sub_block}
 use Rattle.buddy.proofs.Heads.{of_head, head_of}
 use Rattle.buddy.proofs.Maximal.{maximal_apart, same_order}
 
--- what an answer of none says
+-- `IfNone` follows from its condition, whatever the result is
 pub if_none : {X P : Type 0} (found : Option X) → P → IfNone found P
 if_none None p = p
 if_none (Some x) p = tt

@@ -1,4 +1,4 @@
--- The heads and the count of free granules, as blocks are taken and given back.
+-- The invariant of the index of free granules, after a block is taken or given back.
 use Rattle.std.proofs.Common.{◌≡◌, ℕ, ◌+◌, ◌-◌, ◌^◌, ◌<◌, ◌≤◌, Bool, true, false, List, length, replicate, inl, inr, sym, ap, subst, ◌∙◌, arith}
 use Rattle.std.proofs.Math.Nat.{mod-one}
 use Rattle.std.proofs.lemmas.Bool.{cases_lt}
@@ -13,7 +13,7 @@ use Rattle.buddy.proofs.Held.{flags_are}
 use Rattle.buddy.proofs.Counts.{count_of, count_of_free, count_of_most, count_of-with_taken, count_of-with_given}
 use Rattle.granule_addr.proofs.Same.{same_each}
 
--- the flags that the lists stand for are those that the heads tell
+-- the heads have the maximal blocks of the flags that are computed from the heads
 pub seen : (heads : List ℕ) (flags : List Bool) → AreMaximal heads flags → AreMaximal heads (held heads)
 seen heads flags lists = subst (AreMaximal heads) (flags_are heads flags lists) lists
 
@@ -51,9 +51,9 @@ module _ (count : ℕ) (heads now : List ℕ) (order first : ℕ) (index : IsInd
         let more = given_more in let counted = ap count_of same in
         record { few = omega arith; lists = seen now (with_given flags order first) lists; counted = omega arith }
 
--- ---- a machine is given granule by granule, from the last to the first
+-- ---- the granules of a machine are freed one by one, from the last to the first
 
--- what is free is from a granule on
+-- exactly the granules from `granule` on are free
 pub record IsGivenFrom (n granule : ℕ) (heads : List ℕ) : Type 0 where
   pub lists : AreMaximal heads (held heads)
   pub sized : length (held heads) ≡ n

@@ -1,4 +1,4 @@
--- The allocator's choice: the first block of the first list that has one.
+-- The allocator's choice: the first block in the nonempty free list of the smallest order that suffices.
 use Rattle.std.specs.Prelude.{ℕ, ◌+◌, ◌-◌, ◌==◌, Bool, List, Option, option_map}
 use Rattle.std.specs.List.{find, list_any, range_with_len}
 use Rattle.buddy.specs.Links.{at}

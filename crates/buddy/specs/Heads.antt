@@ -1,4 +1,4 @@
--- The heads of free blocks: for each granule the order of the block that it heads.
+-- The head of a granule: one more than the order of the free block that begins there, or 0 if none does.
 use Rattle.std.specs.Prelude.{◌≡◌, ℕ, ◌+◌, ◌*◌, ◌/◌, ◌^◌, ◌≤◌, ◌==◌, ◌↔◌, Bool, List, map, length, filter, slice_index_or, bit_xor}
 use Rattle.std.specs.List.{list_any, range_with_len}
 use Rattle.buddy.specs.MaximalBlock.{IsMaximalBlock}

@@ -1,4 +1,4 @@
--- A list for each order, linked both ways by number.
+-- The doubly linked lists of free blocks, one for each order, whose links are granule numbers.
 use Rattle.std.specs.Prelude.{◌≡◌, ℕ, ◌+◌, ◌^◌, ◌<◌, ◌≤◌, ◌↔◌, List, length, slice_index_or}
 use Rattle.std.specs.Int.{bit_at}
 use Rattle.buddy.specs.Heads.{head_at}
@@ -7,8 +7,8 @@ use Rattle.buddy.specs.Heads.{head_at}
 abbrev pub at : List ℕ → ℕ → ℕ
 at xs i = slice_index_or xs i 0
 
--- The list of an order begins at its first, goes on by `next`, goes back by `prev`, and has the heads of that order,
--- each once. `prev` leads up in rank to the first. A number that no granule has ends a list.
+-- The list of an order begins at its granule in `firsts`, and is linked forwards by `next` and backwards by `prev`. It
+-- has each head of that order once, since ranks rise along `prev`. A number that no granule has ends a list.
 pub record IsLinked (count : ℕ) (heads next prev firsts : List ℕ) : Type 0 where
   pub sized : (length heads ≡ count) × (length next ≡ count) × (length prev ≡ count) × (length firsts ≡ 10)
   pub few : count ≤ 4096

@@ -1,4 +1,4 @@
--- The maximal blocks of a free set. This profile's own: orders are at most 9.
+-- The maximal free blocks: those that are inside no larger free block. This profile's own: orders are at most 9.
 use Rattle.std.specs.Prelude.{◌≡◌, ℕ, ◌+◌, ◌^◌, ◌<◌, ◌≤◌, Bool, List}
 use Rattle.page_arena.specs.Block.{IsFreeBlock}
 

@@ -35,8 +35,8 @@ impl Drop for BuddyArena {
 }
 
 impl BuddyArena {
-    /// Creates a buddy allocator of `pages` free pages, all filled with zeros. `BadSize` comes exactly when `pages` is
-    /// not 1 to 4,096; the only other error is `Memory`.
+    /// Creates a buddy allocator of `pages` free pages, all filled with zeros. The error is `BadSize` exactly if
+    /// `pages` is not 1 to 4,096; the only other error is `Memory`.
     pub fn build(alloc: Global, pages: u16) -> Result<BuddyArena, BuildError>
         ensures bad_size { IsErrOf result BuildError.BadSize ↔ ((pages < 1) ⊎ (4096 < pages)) }
         ensures zero { IfOk result (λ arena. ⟦<BuddyArena as PageStore>⟧.page_bytes arena ≡ replicate pages zero_page) }
@@ -85,9 +85,9 @@ impl PageStore for BuddyArena {
         self.index.count()
     }
 
-    /// Takes a block of order `order`, if there is a free one. The block is cut out of the first block in a list: the
-    /// nonempty list of the smallest order that suffices. The visits are one for each order up to that of the list. If
-    /// no order has a block, there are no visits.
+    /// Takes a block of order `order`, if there is a free one. The block is cut out of the first block in the nonempty
+    /// free list of the smallest order that suffices. The visits are one for each order up to that of the list. If no
+    /// order has a block, there are no visits.
     fn take(&mut self, order: Order) -> Option<Gran>
         ensures first { result ≡ first_block self.old.index.lists order }
         ensures block { IfSome result (IsFreeBlock self.old.index.flags order) }
@@ -106,8 +106,8 @@ impl PageStore for BuddyArena {
         Gran::new(first as u16, MOST_PAGES)
     }
 
-    /// Takes the block at granule `first`, if the block is free. The visits are one for each order from 9 down to that
-    /// of the block, whether the block is taken or not. If the block is not aligned, there are no visits.
+    /// Takes the block at granule `first`, if the block is free. Visits each order from 9 down to that of the block,
+    /// whether the block is taken or not. If the block is not aligned, there are no visits.
     fn take_at(&mut self, order: Order, first: Gran) -> bool
         ensures answer { IsTrue result ↔ IsFreeBlock self.old.index.flags order first }
         ensures taken { OnTrue result (self.new.index.flags ≡ with_taken self.old.index.flags order first) }
@@ -122,8 +122,8 @@ impl PageStore for BuddyArena {
         taken
     }
 
-    /// Frees a taken block, and fills its pages with zeros. The visits are one for each order from that of the block up
-    /// to that of the maximal block that it becomes part of.
+    /// Frees a taken block, and fills its pages with zeros. Visits each order from that of the block up to that of the
+    /// maximal free block that it becomes part of.
     fn give(&mut self, first: Gran, order: Order)
         requires { IsTakenBlock self.old.index.flags order first }
         ensures given { self.new.index.flags ≡ with_given self.old.index.flags order first }

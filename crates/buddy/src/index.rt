@@ -62,8 +62,8 @@ impl FreeIndex {
         self.lists.head(first) as usize == order + 1
     }
 
-    /// Takes a block of order `order`, if there is a free one. The block is cut out of the first block in a list: the
-    /// nonempty list of the smallest order that suffices. Returns the number of orders visited, too.
+    /// Takes a block of order `order`, if there is a free one. The block is cut out of the first block in the nonempty
+    /// free list of the smallest order that suffices. Returns the number of orders visited, too.
     pub(crate) fn take(&mut self, order: usize) -> Option<(usize, u8)>
         requires { order < 10 }
         ensures first { option_map (λ r. r.0) result ≡ first_block self.old.lists order }

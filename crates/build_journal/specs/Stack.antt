@@ -1,4 +1,4 @@
--- Stacks of operations.
+-- The condition that each operation on a stack has a reverse.
 use Rattle.std.specs.Prelude.{Bool, List}
 use Rattle.std.specs.List.{list_all}
 use Rattle.realm_model.specs.declared.act.Act.{Act}

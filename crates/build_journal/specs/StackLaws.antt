@@ -1,4 +1,4 @@
--- Theorems on a stack that a block is pushed to.
+-- A theorem on the length of a stack of pages after a block of 2^order pages is pushed.
 use Rattle.std.specs.Prelude.{◌≡◌, ℕ, ◌+◌, ◌^◌, List, length}
 use Rattle.std.specs.List.{range_with_len}
 use Rattle.std.proofs.Common.{ap, ◌∙◌, length-append}

@@ -56,7 +56,7 @@ impl Holders {
         matches!(self.of.get(granule.number() as usize), Some(Some(holder)) if *holder == build)
     }
 
-    /// Returns the build that leases the granule. The result is `None` if nobody does, or if the machine has no such
+    /// Returns the build that leases the granule. The result is `None` if no build does, or if the machine has no such
     /// granule.
     pub fn holder(&self, granule: Gran) -> Option<BuildId>
         ensures { result ≡ slice_index_or self.now granule None }

@@ -5,13 +5,13 @@
 //!
 //! `Leases` has the stack of pages of each build. A block that is taken goes to the end of its build's stack, page by
 //! page in rising order. So the build's page numbers run from 0 in the order of taking. The reverse of the take removes
-//! it again. Memory is taken by `build` alone, and no later call fails. The caller sees to it that there is capacity
-//! for a block that is pushed.
+//! it again. Memory is taken by `build` alone, and no later call fails. The caller ensures that there is capacity for a
+//! block that is pushed.
 //!
-//! `Holders` says by a granule's number which build leases it, so that no stack is searched. It is 2 bytes a page,
-//! taken at boot.
+//! `Holders` has the lease of each granule, by the granule's number, so that no stack is searched. It takes 2 bytes a
+//! granule, allocated at boot.
 //!
-//! The pool of VMIDs has the lowest one that is free. A VMID is claimed, and given back.
+//! The pool of VMIDs returns the lowest one that is free. A VMID is claimed, and given back.
 #![tactic(auto)]
 
 mod history;

@@ -1,4 +1,4 @@
--- The comparison of a trail with its build's part of a history.
+-- Proofs on the comparison of a seat's events with its build's events in the history.
 use Rattle.std.proofs.Common.{◌<◌, ◌≡◌, ℕ, ◌≤◌, ◌↔◌, IsTrue, List, [], length, drop, get_or, nat_eq, refl, sym, ap, ◌∙◌, arith, length-drop}
 use Rattle.std.specs.List.{All}
 use Rattle.std.proofs.lemmas.List.{drop_all}
@@ -14,7 +14,7 @@ all_used at trail inside none =
     let nothing = ap length none in
     omega (arith, left, nothing)
 
--- at the end of the history the two are the same exactly where the trail is at its end too
+-- at the end of the history, the two are the same exactly if the trail is at its end too
 pub same_at_end : (build at i : ℕ) (history trail : List Event) → at ≤ length trail → length history ≤ i
     → (drop at trail ≡ events_of build (drop i history)) ↔ (trail ≡ events_of build history) → IsTrue (nat_eq at (length trail)) ↔ (trail ≡ events_of build history)
 same_at_end build at i history trail inside done rest =
@@ -23,7 +23,7 @@ same_at_end build at i history trail inside done rest =
       (λ e. eq-eqb at (length trail) (all_used at trail inside (rest.1 e ∙ none))),
     )
 
--- where the seats of each build fit, each seat does
+-- if the seats of each build fit, each seat fits
 pub each_fits : (history : List Event) (books : List ℕ) (seats : List SeatView) → FitsAll history seats → All (λ (seat : SeatView). (seat.build < 8) × (get_or books seat.build 0 ≡ seat.count)) seats
     → All (λ (seat : SeatView). seat.trail ≡ events_of seat.build history) seats
 unfolding FitsAll

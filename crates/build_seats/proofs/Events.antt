@@ -1,4 +1,4 @@
--- The lines of a report and the events of its build, one by one.
+-- A proof that the accepted lines of a report match the events of its build one by one.
 use Rattle.std.proofs.Common.{◌≡◌, ℕ, zero, suc, ◌+◌, Bool, true, false, cond, List, [], ◌∷◌, ◌++◌, length, map, replicate, refl, sym, ap, subst, ◌∙◌, arith, append_assoc, length-append}
 use Rattle.std.specs.Prelude.{Option, Some, None, Ok, Err, filter, min, slice_get, option_map, ⊤}
 use Rattle.std.specs.List.{AllZip}
@@ -24,7 +24,7 @@ use Rattle.build_seats.specs.declared.ask.Ending.{Ending}
 use Rattle.build_seats.specs.declared.ask.Ending.TheVariants as ending
 use Rattle.build_seats.proofs.Questions.{Questions}
 
--- The accepted of these lines tell these events.
+-- The accepted lines among these match the events of these exchanges, one by one.
 record Fit (steps : List Step) (lines : List ReportLine) (exchanges : List Exchange) : Type 0 where
   one_by_one : AllZip (IsLineOf steps) (filter is_accepted lines) (filter is_event exchanges)
 

@@ -1,4 +1,5 @@
--- The number of questions that a worker has left to clear its build.
+-- A bound on the number of questions that clear a build of running RECs and open operations: each step adds at most
+-- one.
 use Rattle.std.proofs.Common.{◌≡◌, ℕ, zero, suc, ◌+◌, ◌-◌, ◌≤◌, Bool, true, false, List, [], ◌∷◌, length, refl, sym, ap, subst, arith, cond, eqb, ltb, not}
 use Rattle.std.specs.Prelude.{Option, Some, None, Ok, Err, replicate, min}
 use Rattle.std.proofs.lemmas.List.Filters.{length-filter_both}
@@ -165,7 +166,7 @@ undone_left (suc more) asked standing (accepted {exchange = exchange} of_questio
     let rest = undone_left more asked (after_exchange exchange standing) put in
     omega (arith, one, rest)
 
--- What a step undoes has a line for each exchange.
+-- The undos of a step add at least as many lines as exchanges.
 IsGrowth-undone : (place count : ℕ) (end : Ending) {exchanges : List Exchange} {lines : List ReportLine} (standing : StandingView) → count ≤ standing.journal
     → AreUndone place count exchanges lines end → IsGrowth standing exchanges lines end × (length exchanges ≤ length lines)
 IsGrowth-undone place zero end standing enough tells =

@@ -1,4 +1,4 @@
--- Loops that ask a list of questions.
+-- The invariants of the loops in which a worker asks a list of questions, such as undos.
 use Rattle.std.proofs.Common.{◌≡◌, ℕ, suc, ◌+◌, ◌-◌, ◌<◌, ◌≤◌, List, [], ◌∷◌, ◌++◌, length, drop, get_or, replicate, map}
 use Rattle.std.proofs.Common.{sym, ap, ap₂, subst, ◌∙◌, arith, length-append, add-one, drop-cons, drop_of_length-le}
 use Rattle.std.proofs.lemmas.List.{length-map, length-replicate}
@@ -99,7 +99,7 @@ exits-none numbers place end = ap (map exit_of) (drop_of_length-le numbers end)
 
 -- ---- the clearing of a build
 
--- what runs has exited
+-- the RECs that ran have exited
 pub cleared : {before between after : List Exchange → Type 0} {passes stops : ℕ → Type 0} {old mid new : StandingView} {old_lines mid_lines new_lines : List ReportLine} {end : Ending}
     (standing : StandingView) (numbers : List ℕ) (opened : ℕ)
     → numbers ≡ standing.running

@@ -1,4 +1,4 @@
--- One event more behind the lock.
+-- Proofs that the data under the lock keeps its invariant when one more event is recorded.
 use Rattle.std.proofs.Common.{◌≡◌, ◌≢◌, ℕ, ◌+◌, ◌<◌, inl, inr, List, [], ◌∷◌, ◌++◌, Bool, true, false, ◌&&◌, ◌==◌, cond, length, get_or, set}
 use Rattle.std.proofs.Common.{refl, sym, ap, ◌∙◌, subst, arith, add-zero, length-set, length-append, get_or-set_same, get_or-set_other}
 use Rattle.std.proofs.lemmas.Bool.{eq-eqb, ne_eqb, cases_eq}
@@ -58,7 +58,7 @@ pub no_abort_after : (host : HostView) (build : ℕ) (act : Act) → ((other : �
 no_abort_after host build act none =
     no_abort_set host.aborting build _ (ap (λ t. t && nat_lt 0 (length (open_entries build (host.history ++ by build act ∷ [])))) (none build)) none
 
--- ---- what lies behind the lock, after one event more
+-- ---- the content of the lock, after one more event
 
 module _ (opened : HostView) (kept : KeptView) (is_kept : IsKeptBehindLock opened kept) (build count : ℕ) (below : build < 8) (had : get_or kept.books build 0 ≡ count) where
   pub count_before : length (events_of build kept.host.history) ≡ count

@@ -1,4 +1,4 @@
--- Loops that take the steps of a plan.
+-- The invariant of the loop in which a worker takes the steps of a plan.
 use Rattle.std.proofs.Common.{◌≡◌, ℕ, ◌+◌, ◌<◌, ◌≤◌, Bool, true, false, List, [], ◌∷◌, ◌++◌, length, drop, get_or, refl, sym}
 use Rattle.std.proofs.Common.{ap, subst, ◌∙◌, arith, append_assoc, add-one, drop-cons, drop_of_length-le, length-append}
 use Rattle.std.proofs.lemmas.List.{append-nil}
@@ -14,7 +14,7 @@ use Rattle.build_seats.specs.declared.ask.Ending.TheVariants as ending
 use Rattle.build_seats.proofs.Growth.{IsGrowth-step}
 use Rattle.build_seats.proofs.Stretches.{IsStretch-append, IsStretch-so, turn-standing_after}
 
--- What is reported next makes the report of the plan.
+-- With the report of the remaining steps, these lines are a report of all steps.
 pub record LeadsOn (place : ℕ) (standing : StandingView) (rest : List Step) (start : StandingView) (steps : List Step) (exchanges : List Exchange) (lines : List ReportLine) : Type 0 where
   pub on : (more : List Exchange) (its : List ReportLine) (ended : Bool) → IsWorkerReport place standing rest more its ended → IsWorkerReport 0 start steps (exchanges ++ more) (lines ++ its) ended
 
@@ -69,7 +69,7 @@ steps_cleared {mid = mid} {end = end} place step from rest steps is so_far taken
     subst (λ xs. IsWorkerReport place mid xs (exchanges ++ more) (lines ++ its) (is_over end)) (sym is)
     (refused exchanges more lines its one (subst (λ s. ArePut (clearing s) more its end) counts cleared) refl refl)))
 
--- the next step waits for a turn that does not come
+-- the next step waits for a turn that the gate withholds
 pub steps_cut : {before between after : List Exchange → Type 0} {passes stops : ℕ → Type 0} {old mid new : StandingView} {old_lines mid_lines new_lines : List ReportLine}
     (place : ℕ) (step : Step) (from rest steps : List Step)
     → from ≡ step ∷ rest

@@ -1,4 +1,4 @@
--- Lists of questions, one after the other.
+-- Proofs on lists of a worker's questions that are asked one after another.
 use Rattle.std.proofs.Common.{◌≡◌, ℕ, ◌+◌, ◌≤◌, List, [], ◌∷◌, ◌++◌, length, refl, sym, ap, subst, ◌∙◌, arith, append_assoc, length-append}
 use Rattle.std.proofs.lemmas.List.{append-nil}
 use Rattle.build_seats.specs.Asked.{told, line, ArePut, all_put, cut_short, refused, accepted}
@@ -15,7 +15,7 @@ use Rattle.build_seats.proofs.Stretches.{turn-standing_after}
 abbrev pub Questions : Type 0
 Questions = List (Asked × Question)
 
--- What is put next puts the whole.
+-- If the rest is asked after these exchanges, the whole list is asked.
 pub record Leads (rest all : Questions) (exchanges : List Exchange) (lines : List ReportLine) : Type 0 where
   pub on : (more : List Exchange) (its : List ReportLine) (end : Ending) → ArePut rest more its end → ArePut all (exchanges ++ more) (lines ++ its) end
 

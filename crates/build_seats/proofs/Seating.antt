@@ -1,4 +1,4 @@
--- One more seat, made of the passes and the trails that are left.
+-- Proofs for the loop that makes each build's seat from its pass and an empty trail.
 use Rattle.std.proofs.Common.{◌≡◌, ℕ, suc, ◌+◌, ◌-◌, ◌<◌, List, [], ◌∷◌, ◌++◌, length, map, take, get_or, replicate, Option, Some, None, sym, ap, ◌∙◌, subst, arith, zero-add}
 use Rattle.std.specs.Array.Iter.{array_into_iter_items, array_steps}
 use Rattle.std.specs.List.{range_with_len}

@@ -1,4 +1,4 @@
--- Parts of a worker's run, one after the other.
+-- Proofs on the parts of a worker's run: one question, no question, and two adjacent parts joined.
 use Rattle.std.proofs.Common.{◌≡◌, ℕ, ◌+◌, Bool, true, false, List, [], ◌∷◌, ◌++◌, length, refl, sym, ap, subst, ◌∙◌, arith, append_assoc, cond, ltb}
 use Rattle.std.specs.Prelude.{Some, Result, Ok, Err, MatchResult}
 use Rattle.std.proofs.lemmas.List.{append-nil}
@@ -50,16 +50,16 @@ pub cut_at : (is : Bool) → cond is ending.Refused ending.Done ≡ ending.Cut �
 cut_at true is = cc
 cut_at false is = cc
 
--- a line is no cut
+-- no answer ends a stretch as a withheld turn does
 pub not_cut : (answer : Answer) → ending_of answer ≡ ending.Cut → ⊥
 not_cut answer is = cut_at (is_refused answer) is
 
--- what was answered, or was a refusal
+-- the answer of a result, which is a reply or a refusal
 pub answered : (result : Result Answer Refusal) (answer : Answer) → MatchResult result (λ said. answer ≡ said) (λ refusal. answer ≡ Refused refusal) → answer ≡ answer_of result
 answered (Ok said) answer is = is
 answered (Err refusal) answer is = is
 
--- An exchange is of a question, and was told and counted.
+-- An exchange has the question, and was reported and counted.
 pub IsExchange-of : {before after : List Exchange → Type 0} {question : Question} {old new : StandingView} {answer : Answer} (exchange : Exchange)
     → question_of exchange ≡ Some question
     → ((earlier : List Exchange) → before earlier → after (earlier ++ exchange ∷ []))
@@ -115,7 +115,7 @@ IsStretch-one {question = question} {answer = answer} {asked = asked} {end = end
     (subst (λ e. ArePut ((asked, question) ∷ []) (put.exchange ∷ []) its e) (ap (λ a. ending_of a) (sym tells) ∙ sym is)
     (put_alone asked question put.exchange (is_refused (told put.exchange)) put.of_question refl))
 
--- The next turn does not come.
+-- The gate withholds the next turn.
 pub IsStretch-cut : {before : List Exchange → Type 0} {passes stops : ℕ → Type 0} {standing : StandingView} {lines : List ReportLine} {AreThose : List Exchange → List ReportLine → Type 0} {turn : ℕ}
     → turn ≡ standing.turn
     → stops turn

@@ -1,4 +1,4 @@
--- Steps that ask nothing, and ways back.
+-- Proofs on the report of steps that ask the host nothing, and of rollbacks to a mark.
 use Rattle.std.proofs.Common.{◌≡◌, ℕ, ◌<◌, true, false, List, [], ◌∷◌, ◌++◌, length, refl, sym, subst, ◌∙◌, arith}
 use Rattle.std.specs.Prelude.{Ok, Err, min, Option, None}
 use Rattle.std.proofs.lemmas.List.{append-nil}

@@ -1,4 +1,4 @@
--- The questions of a worker in sequence, and the lines of their answers.
+-- The questions that a worker asks in sequence, and the report lines of their answers.
 use Rattle.std.specs.Prelude.{◌≡◌, Bool, true, false, List, [], ◌∷◌, Option, Some, None, Result, Ok, Err}
 use Rattle.host_commands.specs.declared.refusal.Refusal.{Refusal}
 use Rattle.build_seats.specs.Exchange.{Exchange, Did, Undid, KeptMark, CheckedBack}
@@ -11,8 +11,8 @@ use Rattle.build_seats.specs.declared.ask.Question.TheVariants as question
 use Rattle.build_seats.specs.declared.ask.Ending.{Ending}
 use Rattle.build_seats.specs.declared.ask.Ending.TheVariants as ending
 
--- The answer of an exchange as its report line has it: the teller's own. The answer to an open way back is in a
--- line if it has nothing to undo, as Nothing.
+-- The answer of an exchange as its report line has it: the teller's own. If a step back is not refused but has nothing
+-- to undo, its line has the answer Nothing.
 abbrev pub told : Exchange → Answer
 told (Did cmd (Ok reply)) = Replied reply
 told (Did cmd (Err refusal)) = Refused refusal
@@ -45,8 +45,8 @@ question_of (CheckedBack mark result) = None
 abbrev pub line : Asked → Answer → ReportLine
 line asked answer = record { asked = asked; answer = answer }
 
--- Questions are asked in sequence, with a line for each, up to the first that is refused, or until a turn does not
--- come.
+-- Questions are asked in sequence, with a line for each, up to the first that is refused, or until the gate withholds a
+-- turn.
 pub data ArePut : List (Asked × Question) → List Exchange → List ReportLine → Ending → Type 0 where
   all_put : ArePut [] [] [] ending.Done
   cut_short : {question : Asked × Question} {questions : List (Asked × Question)}

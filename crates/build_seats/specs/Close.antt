@@ -1,4 +1,4 @@
--- The conditions of a close: each build has one seat, whose trail is the build's part of the history.
+-- The conditions for closing a shared host: each build has one seat, whose trail is the build's part of the history.
 use Rattle.std.specs.Prelude.{◌≡◌, ◌≢◌, ℕ, ◌<◌, ◌==◌, List, length, filter}
 use Rattle.std.specs.List.{All}
 use Rattle.realm_model.specs.declared.act.Event.{Event}
@@ -39,7 +39,7 @@ pub record Differs (build : ℕ) (history : List Event) (seats : List SeatView) 
   pub differs : ¬ (Fits build history seats)
   pub lowest : (lower : ℕ) → lower < build → Fits lower history seats
 
--- ---- the host that comes back
+-- ---- the host that is given back
 
 -- The host is one that the lock can hold, on the machine of the start. Each seat's count is the number of its
 -- build's events in the host's history.

@@ -1,4 +1,4 @@
--- The code of the content of the lock.
+-- An injective encoding of the data under the lock: a host and its event counts.
 use Rattle.std.specs.Prelude.{ℕ, List, refl}
 use Rattle.std.specs.Coded.{Coded, code_by, coded×, coded_ℕ, coded_list}
 use Rattle.host_ledger.specs.Codes.{host_code}

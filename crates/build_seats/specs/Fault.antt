@@ -1,4 +1,4 @@
--- The faults by which a close is refused.
+-- The reasons for which the close of a shared host is refused.
 use Rattle.std.specs.Prelude.{List}
 use Rattle.host_ledger.specs.View.{HostView}
 use Rattle.build_seats.specs.declared.close.CloseFault.{CloseFault}

@@ -1,4 +1,4 @@
--- The content of the lock: a host, and for each build the number of its events.
+-- The data that the lock protects: a host, and for each build the number of its events.
 use Rattle.std.specs.Prelude.{◌≡◌, ℕ, ◌+◌, ◌<◌, List, length, false, slice_index, slice_set}
 use Rattle.realm_model.specs.declared.act.Act.{Act}
 use Rattle.realm_model.specs.declared.act.Event.{Event}
@@ -23,7 +23,7 @@ pub record IsSound (host : HostView) : Type 0 where
   pub each : AreOfEach host
   pub points : (build : ℕ) → PointsHold host build
 
--- A host behind the lock: it is sound, and no build is in abort.
+-- A host under the lock: it is sound, and no build is in abort.
 pub record IsShared (host : HostView) : Type 0 where
   pub sound : IsSound host
   pub no_abort : (build : ℕ) → is_aborting host build ≡ false
@@ -40,8 +40,8 @@ pub record IsKeptBehindLock (opened : HostView) (kept : KeptView) : Type 0 where
   pub counted : IsCounted kept.host.history kept.books
   pub of_start : IsOfStart opened kept.host
 
--- One event of the seat's build ends the history, and the same one ends the trail. The build's count behind the lock
--- and the seat's count rise by one.
+-- One event of the seat's build ends the history, and the same one ends the trail. The build's count under the lock and
+-- the seat's count rise by one.
 pub record IsNoted (kept : KeptView) (seat : SeatView) (new : KeptView) (new_seat : SeatView) : Type 0 where
   pub act : Act
   pub host_is : new.host ≡ with_event kept.host seat.build act

@@ -1,4 +1,4 @@
--- The view of a pass: its build, and the number of the build's events that were counted.
+-- The view of a `Pass`, the only share of a build's ghost ledger: the build, and the number of its counted events.
 use Rattle.std.specs.Prelude.{ℕ}
 
 pub record PassView : Type 0 where

@@ -1,4 +1,4 @@
--- The report of a plan: its questions, and a line for each answer.
+-- The report of a worker on its plan: the questions, and a line for each answer.
 use Rattle.std.specs.Prelude.{◌≡◌, ℕ, zero, suc, ◌+◌, ◌<◌, min, Bool, true, false, List, [], ◌∷◌, ◌++◌, length, map, replicate, Option, Some, None, Ok, Err, if◌then◌else◌}
 use Rattle.host_ledger.specs.declared.mark.Mark.{Mark}
 use Rattle.host_commands.specs.declared.cmd.Cmd.TheVariants as cmd
@@ -45,8 +45,8 @@ abbrev pub IsAbort : ℕ → List ℕ → ℕ → List Exchange → List ReportL
 IsAbort place [] journal exchanges lines end = AreUndone place journal exchanges lines end
 IsAbort place (number ∷ numbers) journal exchanges lines end = IsAnswerReported place (Refused RecRunning) exchanges lines end
 
--- A step back first asks for the number of operations above its mark. If the way is open, up to that number of undos
--- are asked for, but no more than the journal has.
+-- A step back first asks for the number of operations above its mark. If the build can go back, up to that number of
+-- undos are asked for, but no more than the journal has.
 pub data IsWayBack (place : ℕ) (mark : Mark) (journal : ℕ) : List Exchange → List ReportLine → Ending → Type 0 where
   cut_short : IsWayBack place mark journal [] [] ending.Cut
   refused : (refusal : Refusal)
@@ -83,8 +83,8 @@ is_over ending.Done = true
 is_over ending.Refused = true
 is_over ending.Cut = false
 
--- The report of the steps from an index on, with a standing. The steps are taken in sequence, and after the first refusal
--- the build is cleared.
+-- The report of the steps from an index on, with a standing. The steps are taken in sequence, and after the first
+-- refusal the build is cleared.
 pub data IsWorkerReport : ℕ → StandingView → List Step → List Exchange → List ReportLine → Bool → Type 0 where
   no_step_left : {place : ℕ} {standing : StandingView} → IsWorkerReport place standing [] [] [] true
   accepted : {place : ℕ} {standing : StandingView} {step : Step} {steps : List Step} {exchanges : List Exchange} {lines : List ReportLine} {ended : Bool}
@@ -105,8 +105,8 @@ pub data IsWorkerReport : ℕ → StandingView → List Step → List Exchange �
       → IsStepReported place standing step exchanges lines ending.Cut
       → IsWorkerReport place standing (step ∷ steps) exchanges lines false
 
--- A worker has done its work, or waits for a turn that does not come. The teller was asked just this, the gate let the
--- turn of each question pass, and the report has the answers.
+-- A worker has done its work, or waits for a turn that the gate withholds. The teller was asked just this, the gate let
+-- the turn of each question pass, and the report has the answers.
 pub record IsWork (before after : List Exchange → Type 0) (passes stops : ℕ → Type 0) (steps : List Step) (lines : List ReportLine) (ended : Bool) : Type 0 where
   pub exchanges : List Exchange
   pub told : (earlier : List Exchange) → before earlier → after (earlier ++ exchanges)

@@ -1,4 +1,4 @@
--- The state of a build as its worker knows it from its own replies.
+-- The state of a build as the build's worker derives it from the host's replies.
 use Rattle.std.specs.Prelude.{ℕ, ◌+◌, ◌-◌, ◌==◌, nat_lt, not, List, [], ◌∷◌, length, filter, Option, Some, None, Ok, Err, if◌then◌else◌}
 use Rattle.host_ledger.specs.declared.mark.Mark.{Mark}
 use Rattle.host_commands.specs.Needs.{needs_of}

@@ -1,4 +1,4 @@
--- The host that builds are started with.
+-- The condition that a host has the limits and the capacity of the host with which builds were started.
 use Rattle.std.specs.Prelude.{◌≡◌}
 use Rattle.host_ledger.specs.Booted.{booted}
 use Rattle.host_ledger.specs.View.{HostView}

@@ -1,4 +1,4 @@
--- Parts of a worker's run: the exchanges and the lines of some of its questions.
+-- A part of a worker's run: the exchanges for some of the worker's questions, and their report lines.
 use Rattle.std.specs.Prelude.{◌≡◌, ℕ, ◌<◌, ◌≤◌, List, [], ◌∷◌, ◌++◌, Some}
 use Rattle.build_seats.specs.Asked.{told, question_of}
 use Rattle.build_seats.specs.Exchange.{Exchange}

@@ -1,6 +1,5 @@
--- The answer to a call through the lock, as far as it determines the host behind the lock. It does not say which host
--- that was. But the host's machine is that of the start, and it has as many events of the seat's build as the seat
--- counts.
+-- The facts about the host under a lock that follow from the answer to one call. They do not say which host that was.
+-- But the host's machine is that of the start, and it has as many events of the seat's build as the seat counts.
 use Rattle.std.specs.Prelude.{◌≡◌, ℕ, ◌-◌, [], ◌∷◌, ◌++◌, length, Result}
 use Rattle.std.specs.Result.{IfOk, OnOk}
 use Rattle.realm_model.specs.declared.act.Event.{Event}

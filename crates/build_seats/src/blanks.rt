@@ -1,4 +1,4 @@
-//! Blank ghost ledgers, whose types are chosen when they are opened.
+//! Ghost ledgers that are not opened yet. The type of a ghost ledger is chosen when the ledger is opened.
 ghost use Rattle.std.specs.Prelude.{◌≡◌};
 
 use std::sync::ledger::Blank;

@@ -1,5 +1,5 @@
-//! Performs a build's steps. After the first refusal it asks for the exits of the build's running RECs, and then for
-//! undos of its open operations.
+//! Performs the steps of a build as the build's worker. After the first refusal, the worker asks for the exits of the
+//! running RECs, and then for undos of the open operations.
 ghost use Rattle.std.specs.Prelude.{◌≡◌, ◌+◌, ◌*◌, ◌^◌, ◌<◌, ◌≤◌, [], length, map, is_ok, vec_len, vec_capacity};
 ghost use Rattle.build_seats.specs.Asked.{ArePut};
 ghost use Rattle.build_seats.specs.Report.{clearing, exit_of, is_over, IsWorkerReport, IsWork};

@@ -15,8 +15,7 @@ use realm_model::Event;
 pub enum CloseFault {
     /// A build that does not have exactly one seat on the shared host.
     SeatMissing(BuildId),
-    /// A build whose seat lists other events than the host's history. The seat's trail has to be the build's part of
-    /// the history.
+    /// A build whose seat has a list of events that differs from the build's events in the host's history.
     RecordMismatch(BuildId),
 }
 

@@ -2,7 +2,7 @@
 use granule_addr::{BuildId, RecNo};
 use host_commands::{Refusal, Reply, Undone};
 
-/// The step, exit or undo that a worker asked for, as a line of its report has it.
+/// The step, exit or undo that a worker asked for, as recorded in a line of the worker's report.
 #[derive(Clone, Copy, PartialEq, Eq)]
 pub enum Asked {
     /// A step of a build in the plan, by its index from 0.
@@ -34,13 +34,13 @@ pub struct ReportLine {
     pub answer: Answer,
 }
 
-/// The answers that the worker of a build got, line by line.
+/// The answers that the worker of a build received, line by line.
 #[derive(Drop)]
 pub struct Report {
     pub build: BuildId,
     pub lines: Vec<ReportLine>,
 }
 
-/// The error of a build's worker that waited in vain for its next turn.
+/// The error of a build's worker whose next turn was withheld by the scheduler.
 #[derive(Clone, Copy)]
 pub struct Stuck;

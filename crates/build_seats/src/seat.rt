@@ -10,7 +10,8 @@ use realm_model::Event;
 use std::alloc::{AllocError, Global};
 use std::marker::{Model, PhantomData};
 
-/// The accepted events of one build, in sequence. Its capacity is the room of the build in the history.
+/// The list of the accepted events of one build, in sequence. The list's capacity is the room of the build in the
+/// history.
 #[derive(Drop)]
 pub struct Trail<L: Ledgers> {
     events: Vec<Event>,

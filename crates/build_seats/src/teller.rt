@@ -50,7 +50,7 @@ pub trait Gate {
     /// of the turn.
     ghost stops: { Self → ℕ → ℕ → Type 0 };
 
-    /// Waits for the scheduler to give a build's worker the turn with number `turn`. `Err` comes if the turn is
+    /// Waits for the scheduler to give a build's worker the turn with number `turn`. Returns `Err` if the turn is
     /// withheld. The build's worker calls this function before each question. Turns are counted from 0.
     fn pass(&self, build: BuildId, turn: usize) -> Result<(), Stuck>
         ensures ok { OnOk result (passes self.now build turn) }

@@ -1,4 +1,4 @@
--- Histories with the same events of each seat's build.
+-- Proofs that two legal histories that agree with the trails of the same seats have the same events of each build.
 use Rattle.std.proofs.Common.{◌≡◌, ℕ, ◌<◌, ◌≤◌, Bool, true, false, cond, List, [], ◌∷◌, length, Result, Ok, Err, refl, sym, ◌∙◌, subst, arith}
 use Rattle.std.specs.Prelude.{◌==◌, nat_lt, filter, IfOk, MatchResult}
 use Rattle.std.specs.List.{All}
@@ -18,7 +18,7 @@ use Rattle.build_seats.specs.Close.{seats_of, AreSeatsWhole, IsHostGivenBack, Is
 use Rattle.builders.specs.Order.{IsWorldOfSeats}
 use Rattle.build_seats.specs.Seats.{SeatView}
 
--- a build that has a seat has one of which is so what is so of all
+-- a property of all seats holds of some seat of a build that has one
 of_seat : (b : ℕ) (P : SeatView → Type 0) (seats : List SeatView) → 0 < seats_of b seats → All P seats → (seat : SeatView) × (seat.build ≡ b) × P seat
 of_seat b P [] some all = absurd (omega (arith, some))
 of_seat b P (seat ∷ seats) some all =

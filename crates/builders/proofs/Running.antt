@@ -1,11 +1,11 @@
--- The results of a run of all workers, from those of each.
+-- A proof that the result of a run of all workers follows from the result of each worker.
 use Rattle.std.proofs.Common.{◌≡◌, ℕ, suc, ◌<◌, List, [], ◌∷◌, length, get_or, subst, arith}
 use Rattle.std.specs.List.{AllZip}
 use Rattle.host_ledger.specs.View.{HostView}
 use Rattle.builders.specs.Runs.{AreRun}
 use Rattle.builders.specs.Workers.{WorkerView, IsWorkerRun}
 
--- R holds of what stands at a place of two lists
+-- R holds of the elements at the same index of two lists
 abbrev pub HoldsOf : {X : Type 0} → (X → X → Type 0) → List X → List X → ℕ → X → Type 0
 HoldsOf {X} R xs ys k d = (x : X) × (y : X) × (x ≡ get_or xs k d) × (y ≡ get_or ys k d) × R x y
 

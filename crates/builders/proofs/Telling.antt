@@ -1,4 +1,4 @@
--- The answers to a seat's questions, and its trail.
+-- Proofs that a seat's trail has one event for each accepted question of its worker.
 use Rattle.std.proofs.Common.{◌≡◌, ℕ, List, [], ◌∷◌, ◌++◌, refl, sym, ap, subst, ◌∙◌}
 use Rattle.std.proofs.lemmas.List.{append-nil, append_assoc}
 use Rattle.std.proofs.lemmas.List.Elements.{filter-append}
@@ -93,7 +93,7 @@ trail_same build earlier trail exchange none so =
     subst (λ es. AllZip (IsEventOf build) es trail)
     (sym (filter-append is_event earlier (exchange ∷ []) ∙ ap (λ es. filter is_event earlier ++ es) none ∙ append-nil (filter is_event earlier))) so
 
--- ---- what calls tell
+-- ---- an exchange, and the events that it adds to a trail
 
 unfoldable pub Tells : SeatView → SeatView → Exchange → Type 0
 Tells old new exchange = (earlier : List Exchange) → IsTrailOf old.build earlier old.trail → IsTrailOf new.build (earlier ++ exchange ∷ []) new.trail
@@ -126,7 +126,7 @@ answers_tell opened (exchange ∷ exchanges) earlier old new (between, is, are) 
     subst (λ es. IsTrailOf new.build es new.trail) (append_assoc earlier (exchange ∷ []) exchanges)
     (answers_tell opened exchanges (earlier ++ exchange ∷ []) between new are (answered_tells opened old between exchange is earlier so))
 
--- what a new seat is answered is its trail
+-- the trail of a seat that was new is that of its answers
 pub trail_of_answers : (opened : HostView) (build : ℕ) (exchanges : List Exchange) (new : SeatView) → AreAnswered opened (new_seat build) exchanges new → IsTrailOf new.build exchanges new.trail
 unfolding IsTrailOf
 trail_of_answers opened build exchanges new are = answers_tell opened exchanges [] (new_seat build) new are tt
@@ -149,7 +149,7 @@ asked : (opened : HostView) (old new : SeatView) (cmd : Cmd) (result : Result Re
 asked opened old new cmd (Ok reply) ok err = ok
 asked opened old new cmd (Err refusal) ok err = err
 
--- a worker lends its command, and the seat asks for the same one
+-- a worker's command is borrowed, and the seat asks for the same one
 pub asked_again : (opened : HostView) (old new : SeatView) (cmd again : Cmd) (result : Result Reply Refusal) → again ≡ cmd → IfOk result (λ reply. IsCallTold opened (Ask again) (Replied reply) old new)
     → IfErr result (λ refusal. IsCallRefused opened (Ask again) refusal old × (new ≡ old)) → IsAnswered opened old (Did cmd result) new
 asked_again opened old new cmd again result same ok err = subst (λ c. IsAnswered opened old (Did c result) new) same (asked opened old new again result ok err)

@@ -1,4 +1,4 @@
--- The lowest build of a worker that has not ended, as the least of a list.
+-- A proof that the lowest build whose worker has not ended is the minimum of a list of builds.
 use Rattle.std.proofs.Common.{◌≡◌, ℕ, zero, suc, ◌≤◌, min, Bool, true, false, not, cond, List, [], ◌∷◌, map, fold, filter, MatchOption, ◌⊎◌, inl, inr, refl, sym, subst, ◌∙◌, arith}
 use Rattle.std.proofs.lemmas.Bool.Decides.{leb_tells}
 use Rattle.std.proofs.lemmas.Iterator.Adapters.{option_map_id}
@@ -16,7 +16,7 @@ HasEnded worker = worker.ended ≡ true
 abbrev WaitsAt : ℕ → WorkerView → Type 0
 WaitsAt build worker = (worker.ended ≡ false) × (worker.seat.build ≡ build)
 
--- where it waits, its build is no lower
+-- if it waits, its build is no lower
 abbrev IsAbove : ℕ → WorkerView → Type 0
 IsAbove least worker = worker.ended ≡ false → least ≤ worker.seat.build
 

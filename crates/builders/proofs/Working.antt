@@ -1,4 +1,4 @@
--- A worker's trail and report after its work, and before it.
+-- Proofs on a worker's trail and report: a run meets its contract, and without a report line there is no event.
 use Rattle.std.proofs.Common.{◌≡◌, ℕ, Bool, false, List, [], ◌∷◌, length, inl, inr, refl, sym, ◌∙◌, ap, subst}
 use Rattle.std.specs.Prelude.{filter}
 use Rattle.std.specs.List.{AllZip}

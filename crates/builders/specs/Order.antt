@@ -1,4 +1,4 @@
--- The noninterference of the sequence in which builds took the lock.
+-- The statement that a host's world does not depend on the sequence in which builds took the lock.
 use Rattle.std.specs.Prelude.{◌≡◌, List, Some}
 use Rattle.std.specs.List.{All}
 use Rattle.host_ledger.specs.View.{HostView, world_of}

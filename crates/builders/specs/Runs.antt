@@ -1,4 +1,4 @@
--- The results of a run of all workers.
+-- The result of a run of all workers: that of each worker, and the lowest build whose worker has not ended.
 use Rattle.std.specs.Prelude.{◌≡◌, ℕ, ◌≤◌, false, List, All, Any}
 use Rattle.std.specs.List.{AllZip}
 use Rattle.host_ledger.specs.View.{HostView}

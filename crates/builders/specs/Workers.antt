@@ -23,8 +23,8 @@ pub record IsNew (worker : WorkerView) : Type 0 where
   pub not_ended : worker.ended ≡ false
 
 -- The worker's lines are the report of its steps, with these exchanges. Since the seat was new, they were answered by
--- hosts that can be behind the lock of builds started with `opened`. The accepted ones are the trail's events, which
--- the seat counts.
+-- hosts that the lock of builds started with `opened` can hold. The accepted ones are the trail's events, which the
+-- seat counts.
 pub record HasWorked (opened : HostView) (worker : WorkerView) : Type 0 where
   pub exchanges : List Exchange
   pub is_report : IsWorkerReport 0 first_standing worker.steps exchanges worker.lines worker.ended

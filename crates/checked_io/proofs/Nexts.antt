@@ -1,4 +1,4 @@
--- The next line of an input, from the bytes that were read of it.
+-- Proofs that the bytes read up to a line feed, or up to the end of an input, are the next line of the input.
 use Rattle.std.proofs.Common.{◌≡◌, ℕ, ◌+◌, ◌<◌, ◌==◌, false, List, [], ◌∷◌, ◌++◌, length, take, drop, get_or, length-drop}
 use Rattle.std.proofs.Common.{length-take, drop-cons, add-one, Option, Some, None, IfSome, refl, sym, ap, ◌∙◌, arith, subst}
 use mathlib.Core.List.{append-nil}

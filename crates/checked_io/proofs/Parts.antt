@@ -1,4 +1,4 @@
--- The first line of bytes.
+-- Proofs about the first line of a byte string: it ends before the first line feed, or else at the end.
 use Rattle.std.proofs.Common.{◌≡◌, ℕ, ◌<◌, ◌==◌, not, true, false, List, [], ◌∷◌, ◌++◌, length, refl, ap, ◌∙◌, arith}
 use Rattle.std.specs.List.{onto_first, list_all}
 use Rattle.std.proofs.lemmas.Bool.{and_parts, not-true}
@@ -48,7 +48,7 @@ some_last (b ∷ line) some = refl
 pub lines_last : (line : List ℕ) → HasNoFeed line → 0 < length line → lines_in line ≡ line ∷ []
 lines_last line h some = ap without_empty_last (parts_last line h) ∙ some_last line some
 
--- where the line goes on
+-- a line that goes on
 pub record GoesOn (line bytes : List ℕ) : Type 0 where
   pub whole : List ℕ
   pub more : List (List ℕ)

@@ -1,4 +1,4 @@
--- The bytes that a reader has left, one read after another, and the state that stays as it is.
+-- Lemmas on the bytes that an input has left after one or more reads.
 use Rattle.std.proofs.Common.{ℕ, List, [], ◌++◌, Option, Some, None, refl, sym, ap, ◌∙◌, append_assoc}
 use Rattle.std.specs.Io.KnownBytes.{Keeps, Consumes}
 

@@ -1,4 +1,4 @@
--- The bytes that a writer has, one write after another.
+-- Lemmas on the bytes that an output has after one or more writes.
 use Rattle.std.proofs.Common.{◌≡◌, ℕ, List, [], ◌++◌, take, drop, Option, Some, None, sym, ap, ◌∙◌}
 use mathlib.Core.List.{append_assoc, append-nil}
 use Rattle.std.proofs.lemmas.List.{take-append-drop}

@@ -1,4 +1,4 @@
--- Lines of an input.
+-- The lines of an input, split at line feeds, and the correct result of reading the next line.
 use Rattle.std.specs.Prelude.{◌≡◌, ℕ, ◌<◌, ◌≤◌, ◌==◌, List, [], ◌∷◌, length, Option, Some, None, IfSome}
 use Rattle.std.specs.List.{slice_split}
 use Rattle.checked_io.specs.declared.lines.Next.{Next}

@@ -1,4 +1,4 @@
--- The view of a reader or a writer.
+-- The logical view of a reader or writer that remembers whether a call has failed.
 use Rattle.std.specs.Prelude.{ℕ, Bool}
 
 pub record ToldView (D : Type 0) : Type 0 where

@@ -1,4 +1,4 @@
--- The part of a text that was written.
+-- The condition that the bytes appended to an output are a prefix of a text.
 use Rattle.std.specs.Prelude.{◌≡◌, ℕ, List, ◌++◌, Option}
 use Rattle.std.specs.Io.KnownBytes.{Appends}
 

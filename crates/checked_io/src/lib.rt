@@ -1,7 +1,7 @@
 //! Readers and writers that remember whether a call has failed.
 //!
-//! Nothing outside of `Told` calls the device or sets the flag. So a caller's contract can say that it gives up for the
-//! device's sake exactly when the device has failed.
+//! Nothing outside of `Told` calls the device or sets the flag. So the contract of a caller can state that the caller
+//! returns a device error exactly if the device has failed.
 #![tactic(auto)]
 
 mod lines;

@@ -19,7 +19,7 @@ pub enum Next {
     End,
 }
 
-/// A buffer for reading lines. It has the bytes that were read from an input but not yet consumed.
+/// A buffer for reading lines, with the bytes that were read from an input but not yet consumed.
 #[derive(Drop)]
 pub struct Lines {
     buffer: [u8; 4096],
@@ -78,7 +78,7 @@ impl Lines {
 
     /// Reads the next line, without its line feed. Returns `TooLong` for a line of more than `most` bytes.
     ///
-    /// `Device` comes exactly when a read failed, and `Memory` only if allocation failed.
+    /// The error is `Device` exactly if a read failed, and `Memory` only if allocation failed.
     pub fn next_line<R: Read>(
         &mut self,
         input: &mut Told<R>,

@@ -136,8 +136,8 @@ impl<R: Read> Told<R> {
 }
 
 impl<W: Write> Told<W> {
-    /// Writes bytes to the wrapped writer with one call. If there are any, a successful call writes at least one. Every
-    /// error of the device is a failure, and so is a write that takes none of the bytes. An `Err` sets `failed`.
+    /// Writes bytes to the wrapped writer with one call. If `buf` has any bytes, a successful call writes at least one.
+    /// Every error of the device is a failure, and so is a write that takes none of the bytes. An `Err` sets `failed`.
     pub fn write(&mut self, buf: &[u8]) -> Result<usize, DeviceFailed>
         requires { self.old.failed ≡ false }
         ensures told { self.new.failed ≡ is_err result }
@@ -166,7 +166,7 @@ impl<W: Write> Told<W> {
         }
     }
 
-    /// Writes all of the text, and flushes once. At an `Err` a prefix of the text was written.
+    /// Writes all of the text, and flushes once. After an `Err`, a prefix of the text has been written.
     pub fn write_whole(&mut self, text: &[u8]) -> Result<(), DeviceFailed>
         requires { self.old.failed ≡ false }
         ensures told { self.new.failed ≡ is_err result }

@@ -1,4 +1,5 @@
--- What clap's definition says of `realmhost`, whatever the words.
+-- Proofs about accepted command lines of `realmhost`: the subcommand is `replay` or `run`, and a value of `--erase` has
+-- passed its parser.
 use Rattle.std.proofs.Common.{◌≡◌, List, [], ◌∷◌, refl, codes, inl}
 use Rattle.std.specs.Prelude.{Some, option_map}
 use Rattle.clap.specs.Simple.{built, filled, help_rule}

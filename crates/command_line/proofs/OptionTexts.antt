@@ -1,4 +1,4 @@
--- What the texts of options are read as, where they have passed the parser of their option.
+-- Proofs that an accepted text of the option `--erase` is read as a build number from 0 to 7.
 use Rattle.std.proofs.Common.{◌≡◌, ◌<◌, ℕ, arith, subst, List, false, refl, ap, codes}
 use Rattle.std.specs.Prelude.{Option, Some, None, option_and_then, nat_lt, pos, if◌then◌else◌, Result, Ok}
 use Rattle.std.specs.Str.Parse.{ParsesUnsigned}

@@ -1,5 +1,5 @@
--- Words that have no fault: each value that a row holds has passed the parser of its argument. Of subcommands whose other arguments
--- have values of their own, or ask for help or for the version.
+-- Proofs that each value of an accepted command line has passed the parser of its argument. This holds for subcommands
+-- whose other arguments have values of their own, or ask for help or for the version.
 use Rattle.std.proofs.Common.{◌≡◌, ℕ, zero, suc, List, [], ◌∷◌, ◌++◌, Bool, true, false, cond, refl, sym, subst, ◌∙◌, ◌⊎◌, inl, inr, length, drop, arith}
 use Rattle.std.specs.Prelude.{◌||◌, ◌&&◌, not, find, fold, Option, Some, None, option_map, is_some, encode_utf8, slice_get}
 use Rattle.std.specs.Option.{option_map_or}

@@ -1,4 +1,4 @@
--- What clap's definition says of the subcommand of a program that requires one, whatever the words.
+-- Proofs about the subcommand in an accepted command line of a program that requires a subcommand.
 use Rattle.std.proofs.Common.{◌≡◌, ◌∙◌, List, [], ◌∷◌, ◌++◌, map, Bool, true, false, refl, sym, ap, ap₂, subst, ◌⊎◌, inl, inr}
 use Rattle.std.specs.Prelude.{not, ◌&&◌, find, Option, Some, None, option_map, is_some, Box}
 use Rattle.std.specs.Box.{box_value}
@@ -69,7 +69,7 @@ module _ (a : App) (words : List Text) (well : fault_of a words ≡ []) where
       × (check_fault (built a).top (finished (built a).top.rules (walk (built a).top.rules (names_of (built a)) nothing_held (argument_words a words)).held) (is_some (entered (built a) stop)) ≡ [])
   level = level_nil (built a).top (names_of (built a)) nothing_held (argument_words a words) (is_some (entered (built a) stop)) (entered_fault (built a) stop) well
 
-  -- they name a subcommand, where one is required
+  -- they name a subcommand, if one is required
   is_entered : (built a).top.subcommand_required ≡ true → is_some (subcommand_of a words) ≡ true
   is_entered required = has_from (is_some (entered (built a) stop)) (built a).top.subcommand_required required (required_there _ _ _ level.1)
 
@@ -95,7 +95,7 @@ rows_name : {Z : Type 0} (found : Option (Box SubCommand Z)) → option_map (λ 
 rows_name None = refl
 rows_name (Some b) = refl
 
--- the name that a parse gives is that of the words' subcommand
+-- the name that a parse returns is that of the words' subcommand
 pub name_of_rows : (m : ArgMatches) (sub : Option (Text × List Row)) → subcommand_rows_of m ≡ sub → subcommand_name_of m ≡ name_in sub
 name_of_rows m sub is = rows_name (out-ArgMatches m).subcommand ∙ ap name_in is
 
@@ -105,14 +105,15 @@ pub is_named : (sub : Option (Text × List Row)) (name : Text) (rows : List Row)
 is_named None name rows named found = absurd (cc)
 is_named (Some s) name rows named found = ap₂ (λ (n : Text) (r : List Row). Some (n, r)) (same_Some _ _ named) (same_Some _ _ found)
 
--- what is said of a subcommand of a name is so of the one that has it
+-- what holds of any subcommand with a name holds of the one that has the name
 pub by_name : (P : Option (Text × List Row) → Type 0) (name : Text) → ((r : Text × List Row) → r.0 ≡ name → P (Some r)) → (sub : Option (Text × List Row)) → name_in sub ≡ Some name → P sub
 by_name P name of_row None is = absurd (cc)
 by_name P name of_row (Some r) is = of_row r (same_Some _ _ is)
 
 -- ---- a program
 
--- what is known of its words: how they are read, that a subcommand is required, and that words without a fault name one of these
+-- What is known of a program's words: how they are read, that a subcommand is required, and that words without a fault
+-- name one of these.
 pub record IsKnown (a : App) (names : List Text) : Type 0 where
   pub is_free : is_simple_and_free a ≡ true
   pub required : (built a).top.subcommand_required ≡ true

@@ -1,4 +1,4 @@
--- Parts of a command line: a program as it is declared, its option, and what texts are read as.
+-- Parts of a `clap` command line: the definitions of a program and of `--erase`, and the meaning of option texts.
 use Rattle.std.specs.Prelude.{◌≡◌, ℕ, List, [], ◌∷◌, true, codes, Option, Some, None, Ok, pos, if◌then◌else◌}
 use Rattle.std.specs.Str.{bytes_eq}
 use Rattle.std.specs.Str.Parse.{ParsesUnsigned}
@@ -22,8 +22,7 @@ erase_option = record (new_rule (codes "erase")) { long = Some (codes "erase"); 
 
 -- ---- texts of options
 
--- The build that the text names: the number of 3 bits that it is read as, and there is one. `clap` lets no other text
--- through.
+-- The build that the text names: the number below 8 that the text is read as. `clap` accepts no other text.
 abbrev pub IsErase : Option Text → Option ℕ → Type 0
 IsErase None erase = erase ≡ None
 IsErase (Some text) None = ⊥
@@ -44,7 +43,7 @@ Each P (r ∷ rs) = P r × Each P rs
 abbrev pub IsPassed : Rule → Row → Type 0
 IsPassed a r = bytes_eq r.id a.id ≡ true → (values_fault a r.values ≡ []) × (r.reading ≡ reading_by a)
 
--- the rule of the option where the command is built
+-- the rule of the option in the built command
 abbrev pub built_erase : Rule
 built_erase = filled erase_option
 

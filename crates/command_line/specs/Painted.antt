@@ -1,4 +1,4 @@
--- A text as a terminal is given it, with colours.
+-- The coloured form of a text for a terminal, with escape sequences around its pieces.
 use Rattle.std.specs.Prelude.{◌≡◌, ℕ, List, [], ◌∷◌, ◌++◌, codes, Option, Some, None}
 use Rattle.command_line.specs.declared.paint.Colour.{Colour}
 use Rattle.command_line.specs.declared.paint.Colour.TheVariants.{Error, Red, Green, Yellow, Cyan}

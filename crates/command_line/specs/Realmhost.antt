@@ -1,4 +1,4 @@
--- The command line of `realmhost`: the program as it is declared, and what the words ask for.
+-- The command line of `realmhost`: its `clap` definition, and the request that an accepted command line makes.
 use Rattle.std.specs.Prelude.{◌≡◌, List, codes, true, Option, Some, None}
 use Rattle.clap.specs.Words.{App, Row, Text, new_app, one_of, with_rule, with_subcommand}
 use Rattle.command_line.specs.Options.{IsErase, erase_option, program_named}

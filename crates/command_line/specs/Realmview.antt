@@ -1,4 +1,4 @@
--- The schedules that options of `realmview` ask for, and what builds do in them after a refusal.
+-- The schedules that the options of `realmview` select, and the behaviour of builds after a refusal.
 use Rattle.std.specs.Prelude.{ℕ, ◌==◌, ◌||◌, Bool, true, false, Option, Some, None, unwrap_or, nat_lt, if◌then◌else◌, Result, Ok, Err}
 use Rattle.command_line.specs.declared.realmview.Schedules.{Schedules}
 use Rattle.command_line.specs.declared.realmview.Schedules.TheVariants.{All, Drawn}
@@ -21,8 +21,8 @@ schedules_asked most None None = Ok (All (unwrap_or most 1000000))
 schedules_asked most None (Some seed) = Ok (Drawn 1000 seed)
 schedules_asked most (Some sample) seed = schedules_drawn sample (unwrap_or seed 0)
 
--- The behaviour of builds after a refusal, by whether they are to give up. They give up only in schedules whose outcomes
--- are printed: a plan does not say it.
+-- The behaviour of builds after a refusal, by whether they are to give up. They give up only in schedules whose
+-- outcomes are printed: no plan can say that builds give up.
 abbrev pub after_refusal : Bool → Schedules → Result AfterRefusal BadOption
 after_refusal false schedules = Ok GoOn
 after_refusal true (All most) = Ok GiveUp
@@ -38,8 +38,8 @@ question_of_leased granules = if granules == 0 || nat_lt 4096 granules then Err 
 abbrev pub asked_of_leased : ℕ → Result (Option ScheduleQuestion) BadOption
 asked_of_leased granules = if granules == 0 || nat_lt 4096 granules then Err (GranulesOutOfRange granules) else Ok (Some (Leased granules))
 
--- The one question that is asked, if any is: by the step of `--refused`, if its text is one, by the build of `--waiting`,
--- or by the granules of `--leased`.
+-- The one question that is asked, if any: by the step of `--refused`, the build of `--waiting`, or the granules of
+-- `--leased`. A text of `--refused` that is no step is an error.
 abbrev pub question_asked : Option (Option StepPlace) → Option ℕ → Option ℕ → Result (Option ScheduleQuestion) BadOption
 question_asked None None None = Ok None
 question_asked (Some (Some place)) None None = Ok (Some (Refused place))

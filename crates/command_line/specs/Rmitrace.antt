@@ -1,4 +1,4 @@
--- The names of lines that the words of `rmitrace` give.
+-- Membership in a set of names that a command line of `rmitrace` gives.
 use Rattle.std.specs.Prelude.{ℕ, Bool, false, slice_get, unwrap_or}
 use Rattle.command_line.specs.declared.rmitrace.NameSet.{NameSet}
 

@@ -1,4 +1,4 @@
--- The reasons why a program stops before it has done what it was asked for, and their exit statuses.
+-- The reasons why a program stops before its work is done, with their exit statuses and messages.
 use Rattle.std.specs.Prelude.{ℕ, List, codes, string_bytes, Option, Some, None}
 use Rattle.std.specs.Fmt.{with_newline}
 use Rattle.clap.specs.Values.{kind_of}
@@ -8,8 +8,8 @@ use Rattle.clap.specs.declared.error.kind.ErrorKind.TheVariants.{OutOfMemory}
 use Rattle.command_line.specs.declared.stop.Stop.{Stop}
 use Rattle.command_line.specs.declared.stop.Stop.TheVariants.{Usage, NotUtf8, Unopened, Run}
 
--- status 2 for a command line that is not taken, 5 for a file that cannot be opened, as for a device that fails, else
--- that of the fault
+-- The exit status: 2 for a command line that is refused, 5 for a file that cannot be opened, as for a device that
+-- fails, else that of the fault.
 abbrev pub status_of_stop : {F : Type 0} → (F → ℕ) → Stop F → ℕ
 status_of_stop status_of (Usage error) = 2
 status_of_stop status_of NotUtf8 = 2

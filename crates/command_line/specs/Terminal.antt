@@ -1,4 +1,4 @@
--- The input of a program.
+-- The input of a program, and the error for an input file that cannot be opened.
 use Rattle.std.specs.Prelude.{◌≡◌, ℕ, ◌++◌, Bool, true, false, List, codes, string_bytes, Option, Some, None}
 use Rattle.command_line.specs.declared.stop.Stop.{Stop}
 use Rattle.command_line.specs.declared.stop.Stop.TheVariants.{Usage, NotUtf8, Unopened, Run}
@@ -24,7 +24,7 @@ StopsAtFile memory program name (Run fault) = fault ≡ memory
 StopsAtFile memory program name (Usage error) = ⊥
 StopsAtFile memory program name NotUtf8 = ⊥
 
--- .. and at none if no file is given, for then standard input is read
+-- the same for the input; without a file no program stops here, since standard input is read
 abbrev pub StopsAtInput : {F : Type 0} → F → List ℕ → Option (List ℕ) → Stop F → Type 0
 StopsAtInput memory program None stop = ⊥
 StopsAtInput memory program (Some name) stop = StopsAtFile memory program name stop

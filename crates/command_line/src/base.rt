@@ -3,7 +3,7 @@ ghost use Rattle.std.specs.Prelude.{◌≡◌, ◌<◌, ◌%◌, ◌^◌};
 
 use std::marker::Model;
 
-/// The address of a machine's first granule, in bytes. It is a multiple of 4,096 below 2^46.
+/// The address of a machine's first granule, in bytes: a multiple of 4,096 below 2^46.
 #[derive(Clone, Copy)]
 pub struct BaseAddress(u64);
 

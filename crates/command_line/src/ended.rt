@@ -36,7 +36,8 @@ impl<V> Ended<V> {
         }
     }
 
-    /// Prints the help or version that a command line asks for. Any other error is why the program stops.
+    /// Prints the help or version that a command line asks for. Returns any other error as the reason why the program
+    /// stops.
     pub fn shown<F: Reason + From<DeviceFailed>, W: Write>(
         alloc: Global,
         error: Error,

@@ -21,7 +21,7 @@ fn words_of(alloc: Global, arguments: Args) -> Result<Vec<String>, AllocError>
 
 /// Returns the command line arguments, beginning with the program's name.
 ///
-/// Errors: NotUtf8, where one of them is not UTF-8; Run, with the program's fault for it, where allocation failed.
+/// Errors: `NotUtf8`, if one of them is not UTF-8; `Run`, with the program's fault for it, if allocation failed.
 pub fn arguments<R: Env + AllocGlobal, F: Reason>(rt: &R) -> Result<Vec<String>, Stop<F>>
     ensures { IfErr result (λ stop. (stop ≡ NotUtf8) ⊎ (stop ≡ Run F.memory)) }
 {

@@ -62,7 +62,7 @@ pub enum ScheduleQuestion {
     /// The condition that the given step of a build is refused.
     Refused(StepPlace),
     /// The condition that the given build waits for resources while another build holds no page. A build waits if its
-    /// step is refused for want of a block or a VMID.
+    /// step is refused for lack of a block or a VMID.
     Waiting(u32),
     /// The condition that at least the given number of granules is leased.
     Leased(u32),
@@ -89,8 +89,8 @@ pub struct StepPlace {
 pub enum BadOption {
     /// A request to draw more schedules than the limit allows.
     SampleAboveMost { sample: u32 },
-    /// An option value that is not a valid base address. It is not an address, or the address is too high or not a
-    /// multiple of 4,096.
+    /// An option value that is not a valid base address: no address, an address that is too high, or no multiple of
+    /// 4,096.
     NoBase,
     /// An option value that does not name a step of a build.
     NoStep,
@@ -99,7 +99,7 @@ pub enum BadOption {
     GiveUpInPlan,
     /// A number of granules that is 0 or too large for a machine.
     GranulesOutOfRange { granules: u32 },
-    /// More than one of the options `--refused`, `--waiting` and `--leased`.
+    /// More than one of the options `--refused`, `--waiting` and `--leased` on a command line.
     TwoQuestions,
 }
 

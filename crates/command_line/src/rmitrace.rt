@@ -17,15 +17,15 @@ pub struct NameSet {
     pub places: [bool; 256],
 }
 
-/// The options of `rmitrace check`. They say which lines the check compares, which verdicts it prints, and whether it
-/// stops at a wrong line.
+/// The options of `rmitrace check`: the lines that are compared, the verdicts that are printed, and whether a wrong
+/// line stops the check.
 #[derive(Clone, Copy)]
 pub struct Comparison {
-    /// Whether the verdict on each compared line is printed. That includes the lines whose answers are the same.
+    /// Whether the verdict on each compared line is printed, even if the answers are the same.
     pub is_each: bool,
     /// Whether the check stops at the first wrong line.
     pub stops: bool,
-    /// The names to which the comparison is restricted, if given: those of commands, of other questions and of checks.
+    /// The names of the commands, other questions and checks to which the comparison is restricted, if given.
     pub only: Option<NameSet>,
     /// The names of the commands, other questions and checks whose trace lines are not compared.
     pub skip: Option<NameSet>,
@@ -137,7 +137,7 @@ fn rmitrace() -> Program {
 // ---- names
 
 impl NameSet {
-    /// Whether the set has the name to which the crate `rmm_trace` gives index `place`.
+    /// Whether the set has the name with index `place` in the crate `rmm_trace`.
     pub fn has(&self, place: usize) -> bool
         ensures { result ≡ is_name_in self.now place }
     {

@@ -8,7 +8,8 @@ use clap::error::ErrorKind;
 use std::fmt;
 use std::fmt::Display;
 
-/// A reason why a program has not done what its command line asks for. Its text is a line for standard error.
+/// A reason why a program has not done what its command line asks for. The text of the reason is a line for standard
+/// error.
 pub trait Reason: Display + Drop {
     /// The function from each reason to its exit status.
     ghost status_of: { Self → ℕ };
@@ -25,11 +26,11 @@ pub trait Reason: Display + Drop {
         ensures { result ≡ memory };
 }
 
-/// The reason why a program stops. It has an exit status, and one or more lines for standard error.
+/// The reason why a program stops, with an exit status, and one or more lines for standard error.
 #[derive(Drop)]
 pub enum Stop<F> {
-    /// An error that `clap` returns for the command line. The line is refused, or asks for help or for the version:
-    /// `clap` says which.
+    /// An error that `clap` returns for the command line. The command line is refused, or asks for help or for the
+    /// version: the error says which.
     Usage(Error),
     /// A command line argument that is not UTF-8.
     NotUtf8,

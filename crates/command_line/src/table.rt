@@ -104,7 +104,7 @@ impl Program {
         Ok(command)
     }
 
-    /// Returns the error for options with a value that the program refuses. `clap` accepts it.
+    /// Returns the error for an option value that `clap` accepts but the program refuses.
     pub(crate) fn error(&self, alloc: Global, message: &str) -> Result<Error, AllocError> {
         self.command(alloc)?
             .error(ErrorKind::ValueValidation, message)

@@ -109,7 +109,8 @@ pub struct Output<'a> {
 }
 
 impl<'a> Output<'a> {
-    /// Opens standard output. The output gets the painting if it is a terminal and the environment allows colours.
+    /// Opens standard output. The output is coloured by `painting` if standard output is a terminal and the environment
+    /// allows colours.
     pub fn open(rt: &'a HostRuntime, painting: Option<TextKind>) -> Output<'a>
         ensures { (result.painting ≡ painting) ⊎ (result.painting ≡ None) }
     {

@@ -1,4 +1,4 @@
--- The cut of a text at its first space.
+-- Proofs that `before_space` and `from_space` split a text at its first space.
 use Rattle.std.proofs.Common.{◌≡◌, ◌≢◌, ℕ, zero, suc, ◌<◌, ◌≤◌, List, [], ◌∷◌, ◌++◌, length, get_or, take, drop, true, false, refl, ap, cond, arith}
 use Rattle.std.proofs.lemmas.Bool.Decides.{nat_tests}
 use Rattle.std.specs.Prelude.{◌==◌}
@@ -14,7 +14,7 @@ no_space_cons b bs h = (
   λ i within. h (suc i) (omega arith),
 )
 
--- where there is none
+-- if there is no space
 pub before_space_none : (bs : List ℕ) → HasNoSpace bs → before_space bs ≡ bs
 before_space_none [] h = refl
 before_space_none (b ∷ bs) h = let (apart, more) = no_space_cons b bs h in rw (apart, before_space_none bs more)
@@ -23,7 +23,7 @@ pub from_space_none : (bs : List ℕ) → HasNoSpace bs → from_space bs ≡ []
 from_space_none [] h = refl
 from_space_none (b ∷ bs) h = let (apart, more) = no_space_cons b bs h in rw (apart, from_space_none bs more)
 
--- where the first space is at k
+-- if the first space is at k
 pub before_space_at : (bs : List ℕ) (k : ℕ) → k < length bs → get_or bs k 0 ≡ 32 → ((i : ℕ) → i < k → get_or bs i 0 ≢ 32) → take k bs ≡ before_space bs
 before_space_at [] k within here before = absurd (omega arith)
 before_space_at (b ∷ bs) zero within here before = rw here
@@ -55,7 +55,7 @@ length-from_space-le (b ∷ bs) = elim (b == 32) as (λ t. length (cond t (b ∷
   | false ↦ omega (arith, length-from_space-le bs)
 ]
 
--- numbers behind a text with no space in it
+-- numbers after a text with no space in it
 pub before_space-spelled : (w ns : List ℕ) → HasNoSpace w → before_space (w ++ spelled_numbers ns) ≡ w
 before_space-spelled [] [] h = refl
 before_space-spelled [] (n ∷ ns) h = refl

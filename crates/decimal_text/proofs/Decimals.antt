@@ -1,4 +1,4 @@
--- The result of `parse` on a text that begins as a decimal does.
+-- Proof that a text without `+` and leading zeros parses as a 32-bit number n exactly if the text is n in decimal.
 use Rattle.std.proofs.Common.{◌≡◌, ◌≢◌, ℕ, ◌<◌, ◌^◌, List, length, true, Result, Ok, Err, Option, sym, ◌∙◌, ap, refl, inl, inr, arith}
 use Rattle.std.specs.Prelude.{IfSome, IfNone}
 use Rattle.std.specs.Result.{result_ok}
@@ -11,7 +11,7 @@ use Rattle.std.proofs.lemmas.Fmt.{digits_decimal, decimal_nonempty, decimal_digi
 use Rattle.std.proofs.lemmas.Result.{OkIff-at_ok}
 use Rattle.decimal_text.specs.Numbers.{IsPlain}
 
--- texts of digits, and the number that each stands for
+-- texts of digits, and the number that each spells
 pub ascii_numerals : IsNumeralModel (λ ds. all_ascii_digits ds ≡ true) (digits_value 10)
 ascii_numerals = numerals_by_value (λ ds. all_ascii_digits ds ≡ true) tells_all_ascii_digits
 

@@ -1,4 +1,4 @@
--- One number of a spelled list after another.
+-- The loop invariant of `numbers_of`: the unread text spells the numbers of the list that are not yet found.
 use Rattle.std.proofs.Common.{◌≡◌, ◌≢◌, ℕ, ◌<◌, ◌^◌, List, [], ◌∷◌, ◌++◌, length, length-append, sym, ap, ◌∙◌, arith}
 use mathlib.Core.List.{append_assoc}
 use Rattle.std.specs.List.{AllByRecursion}
@@ -16,7 +16,7 @@ no_space_decimal n small = not_in_digits ascii_numerals (decimal n) 32 (digits_d
 abbrev pub GoesOn : List ℕ → List ℕ → List ℕ → Type 0
 GoesOn found ns rest = (ms : List ℕ) × (ns ≡ found ++ ms) × (rest ≡ spelled_numbers ms)
 
--- the next of them, where the text goes on with a space
+-- the next of them, if the text goes on with a space
 pub record Next (found ns fields : List ℕ) : Type 0 where
   pub number : ℕ
   pub more : List ℕ
@@ -48,7 +48,7 @@ next_of found ns fields (m ∷ ms) all same spelled =
 pub next_field : (most : ℕ) (found ns fields rest : List ℕ) → AreNumbers most ns → rest ≡ 32 ∷ fields → GoesOn found ns rest → Next found ns fields
 next_field most found ns fields rest are begins on = next_of found ns fields on.0 are.1 on.1 (sym begins ∙ on.2)
 
--- there is none where as many were found as there may be
+-- there is none if as many were found as there may be
 pub full_has_no_next : (most : ℕ) (found ns fields : List ℕ) → AreNumbers most ns → length found ≡ most → Next found ns fields → ⊥
 full_has_no_next most found ns fields are full next = omega (arith, are.0, simp length-append at (ap length next.split))
 

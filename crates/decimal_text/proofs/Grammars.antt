@@ -1,4 +1,4 @@
--- Texts of a grammar: each value is written as a word and its numbers, and a word and its numbers mean a value.
+-- Proof about grammars: a text means a value exactly if the text is the value's word and numbers, all in range.
 use Rattle.std.proofs.Common.{◌≡◌, ◌≢◌, ℕ, suc, ◌<◌, ◌^◌, List, [], ◌∷◌, ◌++◌, map, Bool, true, false, cond, ltb, ◌&&◌, Option, Some, None, option_map, refl, sym, ap, ◌∙◌, arith}
 use Rattle.std.specs.Prelude.{option_and_then, ◌==◌}
 use mathlib.Core.List.{append-nil}
@@ -127,7 +127,7 @@ module _ {A : Type 0} {word_of numbers_of : A → List ℕ} {IsInRange : A → T
         is ∙ rw (word, same) (grammar.means value in_range)
   ] refl
 
-  -- where the rest spells no numbers, nothing is meant
+  -- if the rest spells no numbers, the text has no meaning
   pub no_meaning_from_rest : IsGrammar word_of numbers_of IsInRange meaning most → (text : List ℕ) → ((ns : List ℕ) → AreNumbers most ns → from_space text ≢ spelled_numbers ns)
       → None ≡ meaning_of_text meaning text
   no_meaning_from_rest grammar text none = elim (meaning_of_text meaning text) as (λ o. meaning_of_text meaning text ≡ o → None ≡ o) [

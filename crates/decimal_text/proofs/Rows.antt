@@ -1,4 +1,4 @@
--- The values of the rows of words: each has the row's word, and numbers in its ranges.
+-- Case analysis over a table of words: a property shown for the values of each word holds for every value of the table.
 use Rattle.std.proofs.Common.{◌≡◌, ℕ, ◌≤◌, List, [], ◌∷◌, cond, leb, ◌&&◌, Bool, true, false, Option, Some, None, option_map, refl, subst, inl, inr}
 use Rattle.std.specs.Option.{option_or, option_zip}
 use Rattle.std.specs.Str.{bytes_eq}
@@ -96,7 +96,7 @@ module _ {A B : Type 0} (f : A → B) where
   four_mapped a b c d make (k ∷ l ∷ m ∷ n ∷ []) found e = rw e (map_test (leb k a && leb l b && leb m c && leb n d) (make k l m n))
   four_mapped a b c d make (k ∷ l ∷ m ∷ n ∷ o ∷ ns) found e = rw e refl
 
--- where the operands themselves were found
+-- if the operands themselves were found
 module _ {B : Type 0} where
   pub one_made : (a : ℕ) (make : ℕ → B) (ns : List ℕ) (found : Option ℕ) → found ≡ one a (λ k. k) ns → option_map make found ≡ one a make ns
   one_made a make ns found e = one_mapped make a (λ k. k) ns found e
@@ -113,7 +113,7 @@ module _ {B : Type 0} where
       → option_map (λ it. make it.0 it.1 it.2 it.3) found ≡ four a b c d make ns
   four_made a b c d make ns found e = four_mapped (λ it. make it.0 it.1 it.2 it.3) a b c d (λ k l m n. (k, l, m, n)) ns found e
 
--- ---- the row of this word, or what comes after it
+-- ---- the row of this word, or a later row
 
 module _ {A : Type 0} (P : List ℕ → List ℕ → A → Type 0) (word ns : List ℕ) (value : A) where
   pub choose : (here : List ℕ) (row : List ℕ → Option A) (other : Option A) → ((ms : List ℕ) (made : A) → row ms ≡ Some made → P here ms made) → (other ≡ Some value → P word ns value)

@@ -1,4 +1,4 @@
--- Numbers that are spelled alike, and words without a space.
+-- Proofs that different lists of 32-bit numbers have different spellings, and that spellings are ASCII.
 use Rattle.std.proofs.Common.{◌≡◌, ℕ, zero, suc, ◌<◌, ◌^◌, List, [], ◌∷◌, ◌++◌, true, not, eqb, ltb, IsAscii, refl, sym, ap, ◌∙◌, arith}
 use Rattle.std.specs.List.{AllByRecursion, list_all}
 use Rattle.std.specs.Fmt.{decimal}

@@ -1,4 +1,4 @@
--- Texts that are a word and its numbers.
+-- The spelling of a word and its numbers as a text, and the value that such a text means.
 use Rattle.std.specs.Prelude.{ℕ, ◌==◌, List, [], ◌∷◌, ◌++◌, Option, None, option_and_then}
 use Rattle.std.specs.List.{slice_split}
 use Rattle.decimal_text.specs.Numbers.{spelled_numbers, numbers_of_digits}

@@ -1,4 +1,4 @@
--- Numbers and their maxima.
+-- The property that each number of a list is at most the maximum at the same index of another list.
 use Rattle.std.specs.Prelude.{ℕ, ◌≤◌, List, [], ◌∷◌}
 
 -- each number is at most its maximum, and there are as many maxima as numbers

@@ -1,4 +1,4 @@
--- The spelling of a word and its numbers, with their maxima.
+-- The record of a word, its numbers, and the maximum of each number.
 use Rattle.std.specs.Prelude.{ℕ, List}
 
 -- a word and its numbers, each with the greatest that it can be

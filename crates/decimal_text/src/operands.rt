@@ -1,4 +1,4 @@
-//! Converts numbers to typed operands. There are as many numbers as operands, each in the range of its operand's type.
+//! Converts a list of numbers to typed operands, after checks of the list's length and of each operand's range.
 ghost use Rattle.std.specs.Prelude.{◌≡◌, ℕ, nat_le, ◌&&◌, if◌then◌else◌, Some, None};
 ghost use Rattle.decimal_text.specs.Rows.{one, two, three, four};
 ghost use Rattle.decimal_text.specs.Written.{u8, u16, u32};

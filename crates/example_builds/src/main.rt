@@ -1,6 +1,6 @@
-//! An example program that performs realm builds on a host in three ways. One build: commands, a refusal that is
-//! matched on, an undo, an abort, and the history. Two builds in threads of their own. A history from standard input,
-//! applied to a host.
+//! An example program that performs realm builds on a host in three ways. The first way is one build, with commands, a
+//! refusal that is matched on, an undo, an abort, and the history. The second way is two builds, each in its own
+//! thread. The third way applies a history from standard input to a host.
 #![tactic(auto)]
 
 mod history;

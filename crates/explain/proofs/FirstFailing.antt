@@ -1,4 +1,4 @@
--- The first check that fails is the refusal of the host.
+-- Proof that the first failed check of a step gives the host's refusal.
 use Rattle.std.proofs.Common.{◌≡◌, ℕ, Bool, true, false, cond, not, List, [], ◌∷◌, ◌++◌, map, Option, Some, None, Result, Ok, Err, refl, sym, ap, ◌∙◌}
 use Rattle.std.specs.Prelude.{◌-◌, nat_lt, nat_le, if◌then◌else◌, length}
 use Rattle.std.specs.List.{range_with_len, list_any}
@@ -27,7 +27,7 @@ use Rattle.explain.specs.Pages.{pages_named}
 use Rattle.explain.specs.Steps.{is_nothing, is_refused_by_running}
 use Rattle.explain.specs.declared.check.Check.{Check}
 
--- ---- what is behind the check that the build is there
+-- ---- the checks after the one that the build exists
 
 module _ (host : HostView) (build : ℕ) where
   behind_there : (t : Bool) → nat_le host.limits.builds build ≡ t → (x y : Option Refusal) → (nat_lt build host.limits.builds ≡ true → x ≡ y)

@@ -1,4 +1,4 @@
--- Lists that get one more, and what holds of the numbers of a range.
+-- Facts about lists to which an item is appended, and about tests of all numbers in a range.
 use Rattle.std.specs.Prelude.{ℕ, ◌+◌, ◌<◌, ◌≤◌, Bool, true, false, ◌&&◌, ◌||◌, List, [], ◌∷◌, ◌++◌, length, map, Option, Some, None}
 use Rattle.std.proofs.Common.{◌≡◌, zero, suc, take, get_or, refl, sym, ap, ◌∙◌, subst, append_assoc, arith}
 use Rattle.std.specs.List.{filter_map, cons_option, list_all, list_any, range_with_len}
@@ -18,15 +18,15 @@ pub few_more : (old : List ℕ) (found : Option ℕ) (new : List ℕ) (n : ℕ) 
 few_more old None new n is few = let long = ap (λ xs. length xs) is in let both = length-append old [] in omega (arith, long, both, few)
 few_more old (Some g) new n is few = let long = ap (λ xs. length xs) is in let both = length-append old (g ∷ []) in omega (arith, long, both, few)
 
--- a list that got some, and then what comes behind
+-- a list to which elements were added, and then others
 pub before : {X : Type 0} (old some rest mid new : List X) → mid ≡ old ++ some → new ≡ mid ++ rest → new ≡ old ++ (some ++ rest)
 before old some rest mid new one two = two ∙ ap (λ xs. xs ++ rest) one ∙ append_assoc old some rest
 
--- what was added is what is meant
+-- the elements that were added are the expected ones
 pub added : {X : Type 0} (old some meant new : List X) → new ≡ old ++ some → some ≡ meant → new ≡ old ++ meant
 added old some meant new is same = is ∙ ap (λ xs. old ++ xs) same
 
--- what is made of some, and of one more
+-- the values of some elements, and of one more
 pub mapped_more : {Y : Type 0} (f : ℕ → Y) (xs : List ℕ) (i d : ℕ) (old mid new : List Y) → i < length xs
     → mid ≡ old ++ map f (take i xs) → (y : Y) → y ≡ f (get_or xs i d) → new ≡ mid ++ y ∷ [] → new ≡ old ++ map f (take (i + 1) xs)
 mapped_more f xs i d old mid new inside so_far y is more =

@@ -1,4 +1,4 @@
--- The checks by needs, one part after another.
+-- Proof that the parts of `needs_checks`, appended one after another, are the whole list.
 use Rattle.std.proofs.Common.{◌≡◌, ℕ, List, [], ◌∷◌, ◌++◌, map, ap, ◌∙◌}
 use Rattle.host_ledger.specs.View.{HostView}
 use Rattle.host_commands.specs.declared.cmd.Cmd.{Cmd}

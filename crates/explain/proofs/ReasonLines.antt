@@ -1,4 +1,5 @@
--- The lines of a reason, by their parts.
+-- Proof that the lines that explain a refusal are those of its error, its help and its passed checks, appended one
+-- after another.
 use Rattle.std.proofs.Common.{◌≡◌, ℕ, ◌+◌, Bool, true, false, List, [], ◌∷◌, ◌++◌, length, string_bytes, if◌then◌else◌, append_assoc, ap, sym, ◌∙◌}
 use Rattle.std.specs.Prelude.{codes}
 use Rattle.std.specs.List.{flat_map}

@@ -1,4 +1,4 @@
--- The checks of each command, in the order in which they are made. RMM 1.0, RMI commands.
+-- The checks that the host, the page store and the RMM make of each command, in sequence. RMM 1.0, RMI commands.
 use Rattle.std.specs.Prelude.{ℕ, ◌==◌, nat_le, List, [], ◌∷◌, ◌++◌, if◌then◌else◌}
 use Rattle.std.specs.List.{filter_map}
 use Rattle.host_commands.specs.declared.cmd.Cmd.{Cmd}

@@ -20,8 +20,8 @@ use Rattle.explain.specs.declared.explained.Explanation.{Explanation}
 
 -- ---- what is reported of a turn
 
--- The line of a turn, as a replay prints it. Of a turn that is refused also the step that the build asked for, and its
--- checks up to the first that fails.
+-- The line of a turn, as a replay prints it. For a refused turn, also the step that the build asked for, and its checks
+-- up to the first that fails.
 pub record TurnReport : Type 0 where
   pub line : List ℕ
   pub reason : Option (Step × List Check)

@@ -1,4 +1,4 @@
--- The refusal of a step's first failing check, compared with the refusal that the host gives.
+-- The statements that the first failed check of a step gives the same refusal as the host.
 use Rattle.std.specs.Prelude.{◌≡◌, ℕ, ◌+◌, nat_le, List, map, true, Option, Some, None}
 use Rattle.host_commands.specs.Checks.{Check as HostCheck, build_checks as host_build_checks, checks_of, first_that_holds}
 use Rattle.host_commands.specs.Needs.{tables_named}

@@ -1,4 +1,4 @@
--- The check that a block is free, with what it reads.
+-- The check that an aligned block of a given order is free, with the values that the check reads.
 use Rattle.std.specs.Prelude.{ℕ, ◌%◌, ◌^◌, ◌==◌, nat_lt, ◌&&◌, Bool, not, length, is_none, slice_index_or, None}
 use Rattle.std.specs.List.{list_all, list_any, range_with_len}
 use Rattle.host_commands.specs.declared.refusal.Refusal.TheVariants.{NoBlock}

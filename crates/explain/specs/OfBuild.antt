@@ -1,4 +1,4 @@
--- The checks that the host makes of a build before it asks the store or the RMM, with what they read.
+-- The checks that the host makes before it calls the page store or the RMM, with the values that the checks read.
 use Rattle.std.specs.Prelude.{ℕ, ◌-◌, nat_lt, nat_le, List, [], ◌∷◌, ◌++◌, length, map, Bool, true, false, not, is_none, is_some, if◌then◌else◌}
 use Rattle.host_commands.specs.Needs.{needs_of}
 use Rattle.host_commands.specs.declared.cmd.Cmd.{Cmd}

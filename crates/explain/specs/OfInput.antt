@@ -1,4 +1,5 @@
--- Input checks of pages and of IPAs, with what they read. RMM 1.0, RMI command conditions.
+-- The checks of pages, IPA granules, levels and counts whose failure gives RMI_ERROR_INPUT. RMM 1.0, RMI command
+-- conditions.
 use Rattle.std.specs.Prelude.{ℕ, ◌+◌, ◌-◌, ◌/◌, ◌%◌, ◌==◌, nat_le, Bool, true, false, not, ◌&&◌, ◌||◌, Option, Some, option_map, unwrap_or, if◌then◌else◌}
 use Rattle.granule_addr.specs.Ipa.{is_protected_at}
 use Rattle.realm_model.specs.Machine.{RealmRow, cell_at}
@@ -44,7 +45,7 @@ page_undelegated host build page =
 
 -- ---- IPAs
 
--- the IPA width of a build's realm; 0 where it has none
+-- the IPA width of a build's realm; 0 if it has none
 abbrev pub width_of : HostView → ℕ → ℕ
 width_of host build = unwrap_or (option_map (λ (realm : RealmRow). realm.root.width) (row_of (world_of host) build)) 0
 

@@ -1,5 +1,4 @@
--- Checks of a realm to be created, and of an existing realm's state, with what they read.
--- RMM 1.0, RMI_REALM_CREATE, Realm attributes.
+-- The checks of RMI_REALM_CREATE, and of the state of an existing realm. RMM 1.0, RMI_REALM_CREATE, Realm attributes.
 use Rattle.std.specs.Prelude.{ℕ, ◌+◌, ◌%◌, ◌==◌, ◌&&◌, List, [], ◌∷◌, ◌++◌, length, map, Bool, true, false, not, Option, Some, option_map}
 use Rattle.granule_addr.specs.Ipa.{is_width}
 use Rattle.realm_model.specs.Command.Check.{error_realm, is_in}

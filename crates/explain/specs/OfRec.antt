@@ -1,5 +1,4 @@
--- Checks of a REC to be created, and of an existing REC, with what they read. RMM 1.0, RMI_REC_CREATE, REC
--- attributes.
+-- The checks of RMI_REC_CREATE, and of an existing REC and its state. RMM 1.0, RMI_REC_CREATE, REC attributes.
 use Rattle.std.specs.Prelude.{ℕ, ◌-◌, ◌==◌, List, [], ◌∷◌, ◌++◌, length, map, Bool, true, false, not, Option, Some, is_none, option_map}
 use Rattle.realm_model.specs.Command.Check.{error_rec, are_distinct}
 use Rattle.realm_model.specs.declared.states.RecState.{RecState}
@@ -22,7 +21,7 @@ rec_create_checks host build pages granules =
     ∷ input_check (fact.Rec (rec_fact.Auxiliaries (length granules - 1) host.limits.aux)) (not (length granules - 1 == host.limits.aux))
     ∷ realm_new host build ∷ [])
 
--- ---- a REC that is there
+-- ---- an existing REC
 
 abbrev pub state_of_rec : HostView → ℕ → ℕ → Option RecState
 state_of_rec host build number = option_map (λ rec. rec.1.state) (rec_at (world_of host) build number)

@@ -1,4 +1,4 @@
--- Checks of where a walk ends, with what they read. RMM 1.0, RTT walk, RMI_ERROR_RTT.
+-- The checks of the level and the entry at which an RTT walk ends. RMM 1.0, RTT walk, RMI_ERROR_RTT.
 use Rattle.std.specs.Prelude.{ℕ, ◌+◌, ◌==◌, nat_le, ◌&&◌, Bool, true, false, not, Option, Some, is_none, option_map, option_and_then, unwrap_or}
 use Rattle.std.specs.List.{list_all, range_with_len}
 use Rattle.realm_model.specs.Command.Check.{error_rtt}
@@ -17,7 +17,7 @@ use Rattle.explain.specs.declared.check.Check.{Check}
 abbrev pub rtt_check : WalkFact → Bool → ℕ → Check
 rtt_check asks fails level = record { fact = fact.Walk asks; fails = fails; refusal = Rmi (error_rtt level) }
 
--- ---- the row where a walk ends: its level, 0 where it ends nowhere, its state and its granule
+-- ---- the row at which a walk ends: its level, or 0 if there is none, its state and its granule
 
 abbrev pub level_of : Option RowView → ℕ
 level_of row = unwrap_or (option_map (λ (r : RowView). r.level) row) 0

@@ -1,4 +1,4 @@
--- The pages that the checks of a command name.
+-- The pages that a command names, in the sequence of its operands.
 use Rattle.std.specs.Prelude.{ℕ, ◌+◌, nat_le, List, ◌∷◌, if◌then◌else◌}
 use Rattle.std.specs.List.{range_with_len}
 use Rattle.host_commands.specs.Needs.{operands, tables_named}

@@ -1,4 +1,4 @@
--- Checks of the RMM.
+-- The check of a fact that the RMM requires, whose failure gives an RMI result.
 use Rattle.std.specs.Prelude.{Bool}
 use Rattle.host_commands.specs.declared.refusal.Refusal.TheVariants.{Rmi}
 use Rattle.realm_model.specs.declared.rmi.Rmi as answer

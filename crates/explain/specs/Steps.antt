@@ -1,4 +1,4 @@
--- The checks of the turn of a step, in the order of the refusals' numbers.
+-- The checks of a step's turn, by ascending number of the refusals that they give.
 use Rattle.std.specs.Prelude.{ℕ, ◌==◌, nat_lt, List, [], ◌∷◌, ◌++◌, length, Bool, true, false, Option, Some, None, Result, Err, if◌then◌else◌}
 use Rattle.realm_model.specs.Running.{running_count}
 use Rattle.realm_model.specs.World.{realm_of}

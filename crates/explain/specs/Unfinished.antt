@@ -1,4 +1,4 @@
--- Aborts that are under way.
+-- The unfinished abort of a build, and the lines that report it.
 use Rattle.std.specs.Prelude.{ℕ, ◌==◌, List, ◌++◌, ◌∷◌, codes, length, Option, Some, None, if◌then◌else◌}
 use Rattle.std.specs.Fmt.{decimal}
 use Rattle.host_ledger.specs.View.{HostView, open_of, is_aborting}

@@ -1,4 +1,4 @@
--- The lines that say why a step is refused. What their sentences say is in no definition.
+-- The lines that explain why a step is refused. The wording of the sentences is not specified.
 use Rattle.std.specs.Prelude.{◌≡◌, ℕ, ◌-◌, ◌==◌, List, [], ◌∷◌, ◌++◌, codes, length, take, string_bytes, Bool, if◌then◌else◌}
 use Rattle.std.specs.Fmt.{decimal}
 use Rattle.std.specs.List.{flat_map}
@@ -7,12 +7,12 @@ use Rattle.explain.specs.declared.explained.Explanation.{Explanation}
 
 -- ---- lines
 
--- the line of an error or a help message; there is none where the message is empty
+-- the line of an error or a help message; none if the message is empty
 abbrev pub message_line : List ℕ → List ℕ → List ℕ
 message_line kind [] = []
 message_line kind (first ∷ words) = codes "    " ++ (kind ++ (codes ": " ++ (first ∷ words ++ 10 ∷ [])))
 
--- the line with the number of checks that passed; there is none where none did
+-- the line with the number of checks that passed; none if no check did
 abbrev pub count_line : ℕ → List ℕ
 count_line count =
     if count == 0 then [] else if count == 1 then codes "    1 earlier check passed\n"

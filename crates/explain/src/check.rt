@@ -1,4 +1,4 @@
-//! Checks that a step of a plan must pass, with the values that they read.
+//! The checks that a step of a plan must pass, with the values that they read.
 ghost use Rattle.std.specs.Prelude.{◌≡◌, ◌∷◌, ◌++◌, [], OnOk};
 ghost use Rattle.std.specs.List.{cons_option};
 ghost use Rattle.explain.specs.RmiChecks.{rmi_check};
@@ -8,7 +8,7 @@ use crate::rmi_facts::{InputFact, RealmFact, RecFact, WalkFact};
 use realm_host::{Refusal, Rmi};
 use std::alloc::AllocError;
 
-/// A fact that a check of a step requires. It has the values that the check reads.
+/// A fact that a check of a step requires, with the values that the check reads.
 #[derive(Clone, Copy)]
 pub enum Fact {
     Build(BuildFact),
@@ -20,8 +20,8 @@ pub enum Fact {
     Walk(WalkFact),
 }
 
-/// A check that a step of a plan must pass. It has the required fact, whether the check fails, and the refusal that a
-/// failure gives.
+/// A check that a step of a plan must pass: the required fact, whether the check fails, and the refusal that a failure
+/// gives.
 #[derive(Clone, Copy)]
 pub struct Check {
     pub fact: Fact,

@@ -1,4 +1,4 @@
-//! The error message of a refused step. It has the required fact, the found fact, and the name of the refusal.
+//! The error message of a refused step: the required fact, the found fact, and the name of the refusal.
 use crate::check::{Check, Fact};
 use crate::host_facts::{BuildFact, RoomFact, UndoFact};
 use crate::names::{entry_state, granule_state, realm_state, rec_state, refusal_name};
@@ -36,7 +36,7 @@ pub(crate) fn push_error(
     text.push_str(")")
 }
 
-/// Returns the phrase that explains a failed check of a step. It has the required fact, and the fact that was found.
+/// Returns the phrase that explains a failed check of a step, by the required fact and the fact that was found.
 pub(crate) fn error_of<S: PageStore>(
     host: &Host<S>,
     build: BuildId,
@@ -262,7 +262,7 @@ fn of_input(step: &Step, fact: InputFact) -> Phrase {
     }
 }
 
-/// Returns the first IPA granule above the protected half of an address space. The address space has `width` bits.
+/// Returns the first IPA granule above the protected half of an address space of `width` bits.
 pub(crate) fn protected_end(width: u8) -> u64 {
     1 << width.saturating_sub(13).min(32)
 }

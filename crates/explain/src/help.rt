@@ -1,4 +1,4 @@
-//! The help for a refused step. Steps that it proposes are in the notation of plans.
+//! The help for a refused step, with proposed steps in the notation of plans.
 use crate::check::Fact;
 use crate::help_host::{build_help, room_help, undo_help};
 use crate::help_input::input_help;
@@ -28,7 +28,7 @@ pub(crate) enum Help {
     },
     /// Help that proposes an `exit` step for each RUNNING REC.
     Exit,
-    /// Help that proposes a `rec` step with all the pages that a REC needs. The words come before the step.
+    /// Help that proposes a `rec` step with all the pages that a REC needs. The value is the text before the step.
     Rec(&'static str),
 }
 

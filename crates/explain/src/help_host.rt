@@ -12,7 +12,7 @@ use host_commands::Step;
 use page_arena::PageStore;
 use realm_host::{GranuleState, Host};
 
-/// Proposes the smallest `take` step that gives a build at least `count` pages. Returns `None` if no block of its size
+/// Proposes the smallest `take` step that gives a build at least `count` pages. Returns `None` if no block of that size
 /// is free, or if `count` is above 512.
 pub(crate) fn take_of<S: PageStore>(host: &Host<S>, build: BuildId, count: u16) -> Option<Phrase> {
     let order = order_for(count)?;

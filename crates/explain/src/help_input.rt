@@ -1,4 +1,4 @@
-//! The help for failed checks on operands. The operands are pages, IPA granules, levels and numbers of pages.
+//! The help for failed checks on operands: pages, IPA granules, levels and numbers of pages.
 use crate::error::protected_end;
 use crate::help::Help;
 use crate::help_host::take_of;
@@ -13,7 +13,8 @@ use realm_host::{GranuleState, Host};
 
 // ---- pages
 
-/// Proposes a DELEGATED page of the build, or else a page to delegate first. The refused step does not name that page.
+/// Proposes a DELEGATED page of the build, or else a page to delegate first. Pages that the refused step names are left
+/// out.
 pub(crate) fn other_page<S: PageStore>(host: &Host<S>, build: BuildId, step: &Step) -> Help {
     let delegated = other_pages(host, build, step, GranuleState::Delegated);
     if let [page, ..] = delegated.as_slice() {
@@ -154,8 +155,7 @@ fn covering_table(step: &Step, ipa: u32, level: u8) -> Phrase {
     )
 }
 
-/// Returns the help for a failed check on an operand. The operand is a page, an IPA granule, a level or a number of
-/// pages.
+/// Returns the help for a failed check on an operand: a page, an IPA granule, a level or a number of pages.
 pub(crate) fn input_help<S: PageStore>(
     host: &Host<S>,
     build: BuildId,

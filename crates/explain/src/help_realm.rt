@@ -83,8 +83,7 @@ fn state_help<S: PageStore>(
     }
 }
 
-/// Returns the help for a failed check on a realm. The check is on the realm's state, or on the operands of its
-/// creation.
+/// Returns the help for a failed check on a realm's state, or on the operands of the realm's creation.
 pub(crate) fn realm_help<S: PageStore>(
     host: &Host<S>,
     build: BuildId,
@@ -118,8 +117,7 @@ fn missing_rec<S: PageStore>(host: &Host<S>, build: BuildId, number: u16) -> Hel
     Help::Rec("create it first: ")
 }
 
-/// Returns the help for a failed check on a REC. The check is on the REC's existence, its state, or the pages of its
-/// creation.
+/// Returns the help for a failed check on a REC: on its existence, its state, or the pages of its creation.
 pub(crate) fn rec_help<S: PageStore>(
     host: &Host<S>,
     build: BuildId,
@@ -263,8 +261,7 @@ fn other_entry<S: PageStore>(host: &Host<S>, build: BuildId, step: &Step, ipa: u
     }
 }
 
-/// Returns the help for a failed check on a walk of translation tables. The check is on the level or the entry at which
-/// the walk ends.
+/// Returns the help for a failed check on the level or the entry at which a walk of translation tables ends.
 pub(crate) fn walk_help<S: PageStore>(
     host: &Host<S>,
     build: BuildId,

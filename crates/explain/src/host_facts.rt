@@ -1,7 +1,7 @@
 //! Facts that the host checks before it calls the RMM.
 use granule_addr::{Gran, Vmid};
 
-/// A required fact about a build or a block order. Refusals 1 to 6 (`NoBuild` to `NoRealm`) depend on it.
+/// A required fact about a build or a block order, for refusals 1 to 6 (`NoBuild` to `NoRealm`).
 #[derive(Clone, Copy)]
 pub enum BuildFact {
     /// Requires that the build exists. The value is the number of builds of the host.
@@ -13,7 +13,7 @@ pub enum BuildFact {
     /// Requires that the build has a given page.
     Page {
         page: u16,
-        /// The granule that was found, if any.
+        /// The granule of the page, if the build has the page.
         granule: Option<Gran>,
         /// The number of pages of the build.
         count: u16,
@@ -24,14 +24,14 @@ pub enum BuildFact {
     NoRealm(Option<Gran>),
 }
 
-/// A condition on free capacity that a step has to meet, such as a free VMID. Refusals 9 to 12 (`JournalFull` to
-/// `NoVmid`) depend on it.
+/// A condition on free capacity, such as a free VMID, for refusals 9 to 12 (`JournalFull` to `NoVmid`).
 #[derive(Clone, Copy)]
 pub enum RoomFact {
     /// Requires that the build has fewer than 512 open operations: reversible ones that are not undone yet. The value
     /// is the number of open operations.
     Journal(usize),
-    /// Requires that the history has enough free entries for the build. The fields are numbers of entries.
+    /// Requires that the history has enough free entries for the build. The fields are the free and the needed number
+    /// of entries.
     History {
         left: u16,
         needed: u16,
@@ -41,13 +41,12 @@ pub enum RoomFact {
     /// Requires that an aligned block of a given order is free.
     Block {
         order: u8,
-        /// The number of free pages.
+        /// The number of free granules.
         free: u16,
     },
 }
 
-/// A fact that an undo, an abort or a `back` step requires. Refusals 7 (`NothingToUndo`) and 8 (`RecRunning`) depend on
-/// it.
+/// A fact that an undo, an abort or a `back` step requires, for refusals 7 (`NothingToUndo`) and 8 (`RecRunning`).
 #[derive(Clone, Copy)]
 pub enum UndoFact {
     /// Requires that the build has a reversible operation that is not undone yet. The value is the number of open

@@ -16,7 +16,7 @@ fn rmi_name(rmi: Rmi) -> Phrase {
     }
 }
 
-/// Returns the name of a refusal. It is a refusal by the host, or the result of an RMI command.
+/// Returns the name of a refusal: one of the host's own refusals, or the result of an RMI command.
 pub(crate) fn refusal_name(refusal: Refusal) -> Phrase {
     match refusal {
         Refusal::NoBuild => plain("NoBuild"),

@@ -1,4 +1,4 @@
-//! Checks that a host makes before it calls the page store or the RMM. They are for refusals 1 to 6, 9, 10 and 12.
+//! The checks that a host makes before it calls the page store or the RMM, for refusals 1 to 6, 9, 10 and 12.
 ghost use Rattle.std.specs.Prelude.{◌≡◌, ◌++◌, [], OnOk, map};
 ghost use Rattle.std.specs.List.{cons_option};
 ghost use Rattle.explain.specs.OfBuild.{build_there, not_aborting, checks_of_build, checks_of_order, page_there, checks_of_realm, checks_of_journal, room_left, room_check, checks_of_vmid, needs_checks};
@@ -35,7 +35,7 @@ pub(crate) fn not_aborting<S: PageStore>(host: &Host<S>, build: BuildId) -> Chec
     }
 }
 
-/// The checks that the build exists and is not aborting. They are for refusals 1 and 2.
+/// The checks that the build exists and is not aborting, for refusals 1 and 2 (`NoBuild` and `Aborting`).
 pub(crate) fn checks_of_build<S: PageStore>(host: &Host<S>, build: BuildId) -> [Check; 2]
     ensures { result ≡ checks_of_build host.now build }
 {
@@ -164,7 +164,7 @@ fn vmid_check<S: PageStore>(host: &Host<S>, wanted: bool) -> Option<Check>
     })
 }
 
-/// Appends the checks of a command on these pages, in the order of their refusals' numbers.
+/// Appends the host's own checks of a command on the given pages, by ascending number of the refusals that they give.
 pub(crate) fn add_needs<S: PageStore>(
     host: &Host<S>,
     build: BuildId,

@@ -193,8 +193,7 @@ fn add_monitor<S: PageStore>(
     }
 }
 
-/// Appends the checks of a command to a list of checks. Those that the host makes come first, then those that the store
-/// or the RMM makes.
+/// Appends the checks of a command to a list: first the host's own checks, then those of the store or the RMM.
 #[tactic(auto, unfolding(crate::specs::Commands::command_checks))]
 pub(crate) fn add_command<S: PageStore>(
     host: &Host<S>,

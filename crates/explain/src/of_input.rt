@@ -87,8 +87,7 @@ fn is_protected_at(ipa: u32, width: u8) -> bool
     ipa < 1 << top
 }
 
-/// The check that an IPA granule is protected. A protected granule lies in the protected half of the address space of
-/// the build's realm.
+/// The check that an IPA granule lies in the protected half of the address space of the build's realm.
 pub(crate) fn protected<S: PageStore>(host: &Host<S>, build: BuildId, ipa: u32) -> Check
     ensures { result ≡ protected host.now build ipa }
 {
@@ -109,7 +108,7 @@ pub(crate) fn table_level(level: u8) -> Check
     )
 }
 
-/// The check that a table's first IPA granule is aligned for its level.
+/// The check that the first IPA granule of a table is aligned for the level of the table.
 pub(crate) fn table_start(ipa: u32, level: u8) -> Check
     ensures { result ≡ table_start ipa level }
 {
@@ -130,8 +129,7 @@ pub(crate) fn run_count(count: u16) -> Check
     )
 }
 
-/// The check that one table of level 3 covers a range of IPA granules. The range is the `count` IPA granules from `ipa`
-/// on.
+/// The check that one table of level 3 covers the `count` IPA granules from `ipa` on.
 pub(crate) fn one_table(ipa: u32, count: u16) -> Check
     ensures { result ≡ one_table ipa count }
 {

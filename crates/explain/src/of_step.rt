@@ -123,8 +123,8 @@ fn add_step<S: PageStore>(
     }
 }
 
-/// Returns the checks that a plan's step must pass when the schedule next runs it. They are in order. The cursor
-/// `place` has the number of undos that are left of the step, and the build's mark.
+/// Returns, in sequence, the checks that a plan's step must pass when the schedule next runs it. The cursor `place` has
+/// the number of undos that are left of the step, and the build's mark.
 pub fn step_checks<S: PageStore>(
     alloc: Global,
     host: &Host<S>,

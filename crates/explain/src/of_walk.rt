@@ -55,7 +55,7 @@ fn granule_of_row(row: Option<RowView>) -> Option<Gran>
     }
 }
 
-/// The check that a walk towards a level ends at that level. The walk is that of an IPA granule.
+/// The check that the walk for an IPA granule towards a level ends at that level.
 pub(crate) fn walk_ends<S: PageStore>(host: &Host<S>, build: BuildId, ipa: u32, to: Level) -> Check
     ensures { result ≡ walk_ends host.now build ipa to }
 {
@@ -69,7 +69,7 @@ pub(crate) fn walk_ends<S: PageStore>(host: &Host<S>, build: BuildId, ipa: u32, 
     rtt_check(fact, ended != required, ended)
 }
 
-/// The check that the last entry of a walk is UNASSIGNED. The walk is to level 3.
+/// The check that the last entry of a walk to level 3 is UNASSIGNED.
 pub(crate) fn entry_unassigned<S: PageStore>(host: &Host<S>, build: BuildId, ipa: u32) -> Check
     ensures { result ≡ entry_unassigned host.now build ipa }
 {
@@ -83,7 +83,7 @@ pub(crate) fn entry_unassigned<S: PageStore>(host: &Host<S>, build: BuildId, ipa
     rtt_check(fact, !matches!(found, Some(EntryState::Unassigned)), level)
 }
 
-/// The check that the last entry of a walk is ASSIGNED. The walk is to level 3.
+/// The check that the last entry of a walk to level 3 is ASSIGNED.
 pub(crate) fn entry_assigned<S: PageStore>(host: &Host<S>, build: BuildId, ipa: u32) -> Check
     ensures { result ≡ entry_assigned host.now build ipa }
 {
@@ -97,7 +97,7 @@ pub(crate) fn entry_assigned<S: PageStore>(host: &Host<S>, build: BuildId, ipa: 
     rtt_check(fact, !matches!(found, Some(EntryState::Assigned)), level)
 }
 
-/// The check that the last entry of a walk is not TABLE. The walk is towards a level.
+/// The check that the last entry of a walk towards a level is not TABLE.
 pub(crate) fn entry_no_table<S: PageStore>(
     host: &Host<S>,
     build: BuildId,
@@ -115,8 +115,7 @@ pub(crate) fn entry_no_table<S: PageStore>(
     )
 }
 
-/// The check that the last entry of a walk leads to a granule. The walk is to level 3, and the refusal is
-/// RMI_ERROR_INPUT.
+/// The check that the last entry of a walk to level 3 leads to a granule. The refusal is RMI_ERROR_INPUT.
 pub(crate) fn entry_leads<S: PageStore>(host: &Host<S>, build: BuildId, ipa: u32) -> Check
     ensures { result ≡ entry_leads host.now build ipa }
 {
@@ -145,8 +144,8 @@ fn are_free<S: PageStore>(host: &Host<S>, build: BuildId, ipa: u32, count: u16) 
     true
 }
 
-/// Returns the check that `count` table entries from `ipa` on are UNASSIGNED. For each of these IPA granules, the walk
-/// to level 3 ends at an UNASSIGNED entry.
+/// Returns the check that, for each of the `count` IPA granules from `ipa` on, the walk to level 3 ends at an
+/// UNASSIGNED entry.
 pub(crate) fn entries_free<S: PageStore>(
     host: &Host<S>,
     build: BuildId,

@@ -64,7 +64,7 @@ pub(crate) fn pages(count: u16) -> Value {
     Value::Many(count as usize, "page", "pages")
 }
 
-/// Returns a page's number, or a letter if there is no page.
+/// Returns the value for a page's number, or a placeholder letter if there is no page.
 pub(crate) fn page_or(page: Option<u16>, letter: &'static str) -> Value {
     match page {
         Some(page) => Value::Number(page as u64),

@@ -1,4 +1,4 @@
-//! Functions that read from a host or a step what a message shows. These messages need more than the values of a check.
+//! Functions that read values for messages from a host or a step, beyond the values of the failed check.
 use crate::of_block::has_block;
 use crate::operands::pages_named;
 use arrayvec::ArrayVec;
@@ -7,7 +7,7 @@ use host_commands::{Cmd, Step};
 use page_arena::PageStore;
 use realm_host::{Act, EntryState, GranuleState, Host, RecState};
 
-/// Returns the IPA granule that a step names. It is 0 if the step names none.
+/// Returns the IPA granule that a step names, or 0 if the step names none.
 pub(crate) fn ipa_of(step: &Step) -> u32 {
     match step {
         Step::Ask(Cmd::Rtt { ipa, .. })
@@ -27,8 +27,7 @@ pub(crate) fn named_pages(step: &Step) -> ArrayVec<u16, 17> {
     }
 }
 
-/// Returns pages of a build that the step does not name. They are at most 17, and in the given state. The pages with
-/// the lowest numbers come first.
+/// Returns the first pages of a build, at most 17, that are in the given state and that the step does not name.
 pub(crate) fn other_pages<S: PageStore>(
     host: &Host<S>,
     build: BuildId,
@@ -78,8 +77,7 @@ fn are_tables<S: PageStore>(
     true
 }
 
-/// Finds the lowest page at which a realm's starting tables can begin. The realm has `count` starting tables, and its
-/// RD is page `rd`.
+/// Finds the lowest page at which the `count` starting tables of a realm with the RD page `rd` can begin.
 pub(crate) fn first_of_tables<S: PageStore>(
     host: &Host<S>,
     build: BuildId,
@@ -117,7 +115,7 @@ pub(crate) fn largest_free<S: PageStore>(host: &Host<S>) -> Option<Order> {
     largest
 }
 
-/// Returns the number of pages in a block of the given order. It is 1 if no block has the order.
+/// Returns the number of pages in a block of the given order, or 1 if the order is above 9.
 pub(crate) fn size_of_order(order: u8) -> u16 {
     match Order::new(order) {
         Some(order) => order.size(),
@@ -182,15 +180,15 @@ pub(crate) fn next_rec<S: PageStore>(host: &Host<S>, build: BuildId) -> u16 {
     }
 }
 
-/// A choice of a realm's RECs.
+/// A choice of a realm's RECs: all of them, or only the RUNNING ones.
 #[derive(Clone, Copy)]
 pub(crate) enum Recs {
     All,
-    /// The RUNNING ones alone.
+    /// Only the RUNNING RECs.
     Running,
 }
 
-/// Returns whether the realm of a build has REC `number`, and the REC is one of the chosen.
+/// Returns whether the realm of a build has REC `number`, and the choice `recs` includes that REC.
 pub(crate) fn has_rec<S: PageStore>(
     host: &Host<S>,
     build: BuildId,
@@ -231,8 +229,8 @@ pub(crate) fn is_unassigned<S: PageStore>(host: &Host<S>, build: BuildId, ipa: u
     }
 }
 
-/// Finds the first IPA granule that has, or lacks, an UNASSIGNED level 3 entry. The granule has one if `unassigned` is
-/// `true`, and lacks one if not. The search begins at `from`. Only the table of level 3 that serves `from` is searched.
+/// Finds the first IPA granule from `from` on that has an UNASSIGNED level 3 entry, or lacks one if `unassigned` is
+/// `false`. Only the table of level 3 that serves `from` is searched.
 pub(crate) fn first_entry<S: PageStore>(
     host: &Host<S>,
     build: BuildId,
@@ -248,12 +246,12 @@ pub(crate) fn first_entry<S: PageStore>(
     None
 }
 
-/// Returns the number of IPA granules that a table covers. The table is of level 2 or 3.
+/// Returns the number of IPA granules that a table of level 2 or 3 covers.
 pub(crate) fn served(level: u8) -> u32 {
     if level == 2 { 262_144 } else { 512 }
 }
 
-/// Returns the first IPA granule of the table that covers `ipa`. The table is of level 2 or 3.
+/// Returns the first IPA granule of the table of level 2 or 3 that covers `ipa`.
 pub(crate) fn first_served(ipa: u32, level: u8) -> u32 {
     let served = if level == 2 { 262_144 } else { 512 };
     ipa - ipa % served

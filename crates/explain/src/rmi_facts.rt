@@ -2,7 +2,7 @@
 use granule_addr::{Gran, RecNo};
 use realm_model::{EntryState, GranuleState, RealmState, RecState};
 
-/// A required fact about an operand of a command. The operand is a page, an IPA granule, a level or a number of pages.
+/// A required fact about an operand of a command: a page, an IPA granule, a level or a number of pages.
 #[derive(Clone, Copy)]
 pub enum InputFact {
     /// Requires that the granule of a build's page is in a given state.
@@ -11,14 +11,14 @@ pub enum InputFact {
         required: GranuleState,
         found: Option<GranuleState>,
     },
-    /// Requires that an IPA granule is in the protected half of an address space of an IPA width.
+    /// Requires that an IPA granule is in the protected half of an address space of the given IPA width.
     Protected {
         ipa: u32,
         width: u8,
     },
     /// Requires that the level of a new table is 2 or 3. The value is the level.
     Level(u8),
-    /// Requires that a table's first IPA granule is aligned for its level.
+    /// Requires that the first IPA granule of a table is aligned for the level of the table.
     Start {
         ipa: u32,
         level: u8,
@@ -37,11 +37,10 @@ pub enum InputFact {
 pub enum RealmFact {
     /// Requires that the IPA width is allowed for a realm.
     Width(u8),
-    /// Requires that the granules of the starting tables have consecutive numbers. The numbers are in the sequence of
-    /// the tables.
+    /// Requires that the granules of the starting tables have consecutive numbers, in the sequence of the tables.
     Adjacent,
-    /// Requires that the first starting table is aligned to the number of starting tables. Its granule number is a
-    /// multiple of that number, which is the value.
+    /// Requires that the granule number of the first starting table is a multiple of the number of starting tables. The
+    /// value is the number of starting tables.
     Multiple(usize),
     /// Requires that the RD is not one of the starting tables.
     Apart,
@@ -57,7 +56,8 @@ pub enum RealmFact {
 pub enum RecFact {
     /// Requires that the granules named by the command are distinct.
     Distinct,
-    /// Requires that the command names as many auxiliary granules as a REC needs. The fields are these numbers.
+    /// Requires that the command names as many auxiliary granules as a REC needs. The fields are the named and the
+    /// needed number.
     Auxiliaries {
         named: usize,
         needed: u8,
@@ -75,7 +75,7 @@ pub enum RecFact {
 /// A required fact about the end of a table walk. RMM 1.0, RTT walk, RTT entry.
 #[derive(Clone, Copy)]
 pub enum WalkFact {
-    /// Requires that the walk for an IPA granule ends at a given level. It ended at level `ended`.
+    /// Requires that the walk for an IPA granule ends at the level `required`. The walk ended at level `ended`.
     Walk {
         ipa: u32,
         required: u8,

@@ -1,9 +1,8 @@
-//! The roles of pages in a step, such as RD or source. A role is RD, starting table, table, data, source, REC or
-//! auxiliary.
+//! The roles of pages in a step: RD, starting table, table, data, source, REC or auxiliary.
 use host_commands::{Cmd, Step};
 use realm_host::GranuleState;
 
-/// Returns the words for the role of a page in a step, such as RD. They come before the noun `page`, and are empty if
+/// Returns the words for the role of a page in a step, such as RD, that precede the noun `page`. The words are empty if
 /// the step gives the page no role. A page that is named twice has its first role.
 pub(crate) fn role_of(step: &Step, page: u16) -> &'static str {
     let Step::Ask(cmd) = step else {

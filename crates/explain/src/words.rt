@@ -1,5 +1,5 @@
-//! The messages that explain a refused step, as lines. The lines are proved; their sentences are tested, and are
-//! those of `error`, `help` and `passed`.
+//! The messages that explain a refused step, as lines. The layout of the lines is proved. Their sentences are tested,
+//! and are those of `error`, `help` and `passed`.
 ghost use Rattle.std.specs.Prelude.{◌≡◌, ℕ, List, ◌++◌, length, string_bytes, IfOk, OnOk};
 ghost use Rattle.explain.specs.Words.{message_line, count_line, passed_line, earlier_checks, AppendsPassed, AreReasonLines};
 
@@ -85,8 +85,8 @@ fn earlier_checks(checks: &[Check]) -> &[Check]
     }
 }
 
-/// Returns the lines that explain why the host refused a step of a plan. They say the error, the help, and the number
-/// of passed checks. If `all` is set, each passed check has a line too.
+/// Returns the lines that explain why the host refused a step of a plan: the error, the help, and the number of passed
+/// checks. If `all` is set, each passed check has a line too.
 pub fn reason_lines(alloc: Global, reason: &Explanation, all: bool) -> Result<String, AllocError>
     ensures { IfOk result (λ text. AreReasonLines reason.now all (string_bytes text)) }
 {

@@ -1,10 +1,10 @@
--- Runs of numbers.
+-- Runs of consecutive numbers: a run with one more number at its end, and the first numbers of a run.
 use Rattle.std.proofs.Common.{◌≡◌, ℕ, ◌+◌, ◌≤◌, ◌∷◌, [], ◌++◌, take, sym, ap, ◌∙◌}
 use Rattle.std.specs.List.{range_with_len}
 use Rattle.std.proofs.lemmas.List.{map-id}
 use Rattle.std.proofs.lemmas.List.FromFn.{map-range_with_len_more, take-map-range_with_len}
 
--- a run with one more
+-- a run with one more number at its end
 pub range_with_len_more : (a n b : ℕ) → a + n ≡ b → range_with_len a (n + 1) ≡ range_with_len a n ++ b ∷ []
 range_with_len_more a n b next =
     sym (map-id (range_with_len a (n + 1)))

@@ -1,7 +1,7 @@
 -- Lists of one repeated value.
 use Rattle.std.proofs.Common.{◌≡◌, ℕ, zero, suc, replicate, get_or, refl}
 
--- a list of one thing has it at each place
+-- each element of a list of one repeated value is that value
 pub same_each : {A : Type 0} (n i : ℕ) (x : A) → get_or (replicate n x) i x ≡ x
 same_each zero i x = refl
 same_each (suc n) zero x = refl

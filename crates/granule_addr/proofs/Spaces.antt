@@ -1,4 +1,4 @@
--- Address spaces of the widths that a realm may have: half of one is protected.
+-- The address space of each IPA width: the starting tables serve all of it, and half of it is protected.
 use Rattle.std.proofs.Common.{◌≡◌, ◌+◌, ◌-◌, ◌*◌, ◌^◌, ◌≤◌, ℕ, true, sym, ap, ◌∙◌, arith}
 use Rattle.std.proofs.lemmas.Bool.{and_parts, leb-true}
 use Rattle.std.proofs.lemmas.Nat.{pow-add}

@@ -1,4 +1,4 @@
--- The operations for a command and for an undo, by the checks that come first.
+-- Proofs that a prepared command or undo is refused by the host's own checks, or else yields its actions.
 use Rattle.std.proofs.Common.{◌≡◌, ℕ, ◌<◌, Bool, true, false, List, Option, Some, None, Result, Ok, Err, sym, ap, ◌∙◌}
 use Rattle.std.specs.Prelude.{nat_lt, option_and_then}
 use Rattle.std.specs.List.{last_or}

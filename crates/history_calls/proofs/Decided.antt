@@ -1,4 +1,4 @@
--- The refusals of a command that is prepared, and those of the host that is asked for it.
+-- Proofs that a refusal found before any RMM call is the refusal that the host gives for the command.
 use Rattle.std.proofs.Common.{◌≡◌, ℕ, Bool, true, false, cond, not, List, [], ◌∷◌, map, Option, Some, None, Result, Ok, Err, refl, sym, ap, ◌∙◌}
 use Rattle.std.specs.Prelude.{option_map, option_and_then}
 use Rattle.std.specs.List.{filter_map, cons_option}
@@ -97,7 +97,7 @@ exit_decided (Some rd) number actions = at rd.cell.descriptor
     at None = refl
     at (Some realm) = rec_exit_decided (get realm.recs number) number (λ rec. put_rec rd realm number (record rec { state = Ready }) ∷ []) actions
 
--- a REC that there is not is an input error, whatever is asked of it
+-- a command on a REC that does not exist is an input error
 entry_decided : (realm : Option Seen) (number : ℕ) (f : Seen → RealmRow → RecRow → Outcome) (actions : ArrayVec HostAction) (refusal : Refusal)
     → error_in (unless_refused (entry_refusal (rec_in (row_in realm) number)) (Ok actions)) ≡ Some refusal
     → decision (on_realm realm (λ rd. with_realm rd (λ row. with_rec row number (λ rec. f rd row rec)))) ≡ Some refusal
@@ -123,7 +123,7 @@ entry_or_input (Some rec) = refl
 -- ---- commands
 
 module _ (place : Place) (host : HostView) (build run : ℕ) where
-  -- the refusal of the model that comes before the call
+  -- the model's refusal before the call
   abbrev refusal_before : Cmd → Option Refusal
   refusal_before cmd = error_in (actions_or_refusal place host build run cmd (act_before host build cmd))
 
@@ -196,7 +196,7 @@ module _ (place : Place) (host : HostView) (build run : ℕ) where
   decided cmd refusal e = others_decided cmd (act_before host build cmd) (granules_named host build cmd) refl refusal e
 
   module _ (cmd : Cmd) where
-    -- the refusal of what is prepared, if this one comes of the host's own checks
+    -- the refusal of a command that is prepared, if the host's own checks give this one
     prepared_by : Option Refusal → Option Refusal
     prepared_by first = error_in (unless_refused first (actions_or_refusal place host build run cmd (act_before host build cmd)))
 

@@ -1,4 +1,4 @@
--- Blocks of granules that nobody leases, and tests of the numbers of a range.
+-- Proofs on the search for a free block: the tests of granules and ranges, and the refusal of a Take.
 use Rattle.std.proofs.Common.{◌≡◌, ℕ, zero, suc, ◌+◌, ◌<◌, ◌≤◌, Bool, true, false, not, ◌&&◌, ◌||◌, List, [], ◌∷◌, length, Option, Some, None, refl, ap, ◌∙◌, subst, arith}
 use Rattle.std.specs.Prelude.{is_none, is_some, unwrap_or, slice_index_or}
 use Rattle.std.specs.List.{list_all, list_any, range_with_len}
@@ -25,7 +25,7 @@ leases_long host = at (replay host.limits host.history) refl
     at (Some world) is = (sized_reached host.limits host.history world is).leases
     at None is = length-replicate host.limits.pages None
 
--- nobody leases it, read with no default that matters
+-- nobody leases the granule; the default of the lookup does not matter
 pub free_read : (leases : List (Option ℕ)) (g : ℕ) → g < length leases → is_none (slice_index_or leases g None) ≡ is_leased_to None leases g
 free_read [] g inside = absurd (omega arith)
 free_read (None ∷ leases) zero inside = refl

@@ -1,4 +1,4 @@
--- The refusal of a command that is not performed is the one of the host that is asked for it.
+-- Proofs that the refusal computed for a command without performing it equals the host's refusal of that command.
 use Rattle.std.proofs.Common.{◌≡◌, ℕ, zero, suc, ◌+◌, ◌-◌, ◌*◌, ◌/◌, ◌^◌, ◌<◌, ◌≤◌, Bool, true, false, cond, not, List, [], ◌∷◌, ◌++◌, length, map, Option, Some, None, Ok, Err, refl, sym, ap, ◌∙◌, arith}
 use Rattle.std.specs.Prelude.{◌==◌, ◌%◌, ◌&&◌, nat_le, nat_lt, is_some, option_map, option_and_then, unwrap_or}
 use Rattle.std.specs.FinMap.{get}

@@ -1,4 +1,4 @@
--- A host's actions for an event, on an RMM that is called by registers. RMM 1.0, RMI commands.
+-- The host's actions for an event, on an RMM whose calls pass their arguments in registers. RMM 1.0, RMI commands.
 use Rattle.std.specs.Prelude.{ℕ, ◌+◌, ◌-◌, ◌*◌, ◌/◌, ◌%◌, ◌^◌, List, [], ◌∷◌, ◌++◌, map, Option, Some, None}
 use Rattle.std.specs.Option.{unwrap_or, option_to_list}
 use Rattle.granule_addr.specs.declared.width.Root.{Root}
@@ -79,7 +79,7 @@ on_granules place (UnRealm rd root vmid) = plain_call (RealmDestroy (address pla
 on_granules place _ = []
 
 -- The host's actions for an event about a realm and a REC in it. The exits of the REC's run go to the page of the given
--- number. An event is of one of the four kinds; a take has none.
+-- number. An event is of one of the four kinds; a take has no actions.
 abbrev pub actions_of : Place → RealmAndRec → ℕ → Act → List HostAction
 actions_of place subject run act =
     on_granules place act

@@ -1,4 +1,4 @@
--- The place of a history's machine in the address space of an RMM.
+-- The physical addresses of the granules of a history's machine, and of the host's own granules after them.
 use Rattle.std.specs.Prelude.{ℕ, ◌<◌, ◌≤◌, ◌+◌, ◌*◌, ◌^◌}
 
 -- the address of granule 0, and the number of granules of the history's machine

@@ -1,4 +1,4 @@
--- The operations of a history, made one after another on an RMM.
+-- The machine of an RMM after the calls for each event of a history, one after another.
 use Rattle.std.specs.Prelude.{◌≡◌, ℕ, List, [], ◌∷◌, map, Option, Some, None, Ok, Err, option_map, option_and_then}
 use Rattle.realm_model.specs.declared.act.Act.{Act}
 use Rattle.realm_model.specs.declared.act.Event.{Event}

@@ -91,7 +91,7 @@ exit_refusal None = Some (Rmi error_input)
 abbrev pub state_of_leased : HostView → ℕ → ℕ → Option GranuleState
 state_of_leased host build page = option_map (λ g. (cell_at (world_of host).machine g).state) (granule_of_page host build page)
 
--- The refusal of a command that makes no call, or that names a REC which the realm has not.
+-- The refusal of a command that makes no call, or that names a REC which the realm does not have.
 abbrev pub refused_before : HostView → ℕ → Cmd → Option Refusal
 refused_before host build (Take order) = first_that_holds (no_block host order ∷ [])
 refused_before host build (Fill page value) = access_refusal (state_of_leased host build page)
@@ -112,11 +112,11 @@ abbrev pub actions_of_act : Place → HostView → ℕ → ℕ → Cmd → Optio
 actions_of_act place host build run cmd (Some act) = Ok (actions_for place host build run act)
 actions_of_act place host build run cmd None = without_act cmd
 
--- the actions, or the refusal of the model that comes before
+-- the actions, or the model's refusal before the call
 abbrev pub actions_or_refusal : Place → HostView → ℕ → ℕ → Cmd → Option Act → Result (ArrayVec HostAction) Refusal
 actions_or_refusal place host build run cmd act = unless_refused (refused_before host build cmd) (actions_of_act place host build run cmd act)
 
--- The actions on the RMM for a command; or the refusal of the host, or of its model, that comes before the call.
+-- The actions on the RMM for a command; or the refusal before the call, by the host or by its model.
 abbrev pub actions_asked : Place → HostView → ℕ → ℕ → Cmd → Result (ArrayVec HostAction) Refusal
 actions_asked place host build run cmd =
     unless_refused (first_that_holds (checks_of (summary_of host) build cmd)) (actions_or_refusal place host build run cmd (act_before host build cmd))
@@ -156,8 +156,8 @@ actions_of_back place host build None = Err NothingToUndo
 abbrev pub actions_back : Place → HostView → ℕ → Result (ArrayVec HostAction) Refusal
 actions_back place host build = unless_refused (refusal_of host build Undo) (actions_of_back place host build (newest_back host build))
 
--- An undo is prepared as the host performs it: with the host's refusal, or for the operation that the host records. Once
--- it is prepared, the host does not refuse it.
+-- An undo is prepared as the host performs it: with the host's refusal, or for the operation that the host records.
+-- Once it is prepared, the host does not refuse it.
 pub record IsUndoPrepared (place : Place) (host : HostView) (build : ℕ) : Type 0 where
   pub refused : (refusal : Refusal) → refusal_of host build Undo ≡ Some refusal → actions_back place host build ≡ Err refusal
   pub performed : (act : Act) → refusal_of host build Undo ≡ None → IsActOf host build Undo act → actions_back place host build ≡ Ok (actions_for place host build 0 act)

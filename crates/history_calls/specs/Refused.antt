@@ -1,4 +1,4 @@
--- The refusal of a command that a host does not perform: the checks of its model, without their effects.
+-- The refusal of a command by the model's checks, computed without performing the command.
 use Rattle.std.specs.Prelude.{ℕ, ◌-◌, ◌%◌, ◌==◌, List, [], ◌∷◌, length, Bool, true, false, cond, not, ◌&&◌, Option, Some, None, is_some, option_map, option_and_then}
 use Rattle.std.specs.FinMap.{get}
 use Rattle.std.specs.List.{list_all, range_with_len}

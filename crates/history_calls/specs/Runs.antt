@@ -1,4 +1,4 @@
--- The pages for the exits of runs: one for each REC that runs.
+-- The host's run pages for RMI_REC_ENTER, and the running REC that uses each page.
 use Rattle.std.specs.Prelude.{ℕ, List, Bool, Option, Some, None, is_none, slice_set, nat_eq, min}
 use Rattle.std.specs.List.{position_from}
 use Rattle.std.specs.Option.{option_eq, unwrap_or}

@@ -55,7 +55,7 @@ pub enum HostAction {
     Spin {
         rec: u64,
     },
-    /// The completion of a guest's last write, as the guest sees it.
+    /// A reading of the result of a guest's last write. The result is that the write is done.
     Saw {
         rec: u64,
     },

@@ -1,4 +1,4 @@
--- The meaning of an operation's own word and numbers, if they are in its ranges.
+-- A proof that the parser maps an operation's own word and numbers, if in range, back to that operation.
 use Rattle.std.proofs.Common.{◌≡◌, ℕ, ◌≤◌, [], ◌∷◌, replicate, true, eqb, ltb, not, Some, refl}
 use Rattle.std.specs.List.{list_all}
 use Rattle.std.proofs.lemmas.Bool.{le-leb}

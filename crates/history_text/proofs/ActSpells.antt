@@ -1,4 +1,4 @@
--- The spelling of the operation that a word and its numbers mean.
+-- A proof that the operation parsed from a word and numbers is spelled by that word and those numbers.
 use Rattle.std.proofs.Common.{◌≡◌, ℕ, List, Some, codes, refl}
 use Rattle.decimal_text.specs.Ranges.{AreAtMost}
 use Rattle.decimal_text.specs.Rows.{none, one, two, three, four}

@@ -1,4 +1,4 @@
--- The grammar of operations: each is the meaning of its text, and of no other.
+-- Proofs that the parser accepts exactly the texts of operations, and returns the operation of each text.
 use Rattle.std.proofs.Common.{◌≡◌, ℕ, List, Some, IsUtf8}
 use Rattle.std.proofs.lemmas.Str.{IsUtf8-from_ascii, IsAscii-append}
 use Rattle.decimal_text.proofs.Grammars.{IsGrammar, meaning_of_spelled, spelled_from_meaning}

@@ -1,4 +1,4 @@
--- A bound of the numbers of a REC: its granule, its number and its auxiliary granules are not more than are read.
+-- A proof that a REC operation has at most 18 numbers, each small enough for the parser.
 use Rattle.std.proofs.Common.{ℕ, zero, suc, ◌≤◌, List, [], ◌∷◌, ◌++◌, length, replicate, arith}
 use Rattle.decimal_text.specs.Numbers.{AreNumbers}
 use Rattle.decimal_text.specs.Ranges.{AreAtMost}

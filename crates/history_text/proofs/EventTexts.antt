@@ -1,4 +1,4 @@
--- The texts of events, of which no two are the same.
+-- Proofs that different events have different texts, and that a parsed line is the text of its event.
 use Rattle.std.proofs.Common.{◌≡◌, ◌≢◌, ℕ, ◌+◌, ◌-◌, ◌<◌, ◌≤◌, List, [], ◌∷◌, ◌++◌, length, Option, Some, None, cond, ltb, refl, sym, ap, ap₂, ◌∙◌, inl, inr, arith}
 use Rattle.std.specs.Prelude.{IfSome, IfNone}
 use Rattle.std.proofs.lemmas.Bool.{cases_Bool, false≢true, ltb-true, lt-ltb}
@@ -78,7 +78,7 @@ build_none digit o low is = elim (cases_Bool (ltb (digit - 48) 8)) [
       false≢true (sym too_high ∙ lt-ltb (digit - 48) 8 small))
 ]
 
--- two events with one text are one
+-- two events with the same text are equal
 pub written_once : (text : List ℕ) (a b : Event) → IsEventText text a → IsEventText text b → a ≡ b
 written_once text a b is_a is_b =
     let same : (48 + a.build) ∷ 32 ∷ act_text a.act ≡ (48 + b.build) ∷ 32 ∷ act_text b.act =

@@ -1,4 +1,4 @@
--- words and their numbers
+-- proofs on words and their numbers
 pub mod Auxiliaries
 pub mod ActMeans
 pub mod RowsMake

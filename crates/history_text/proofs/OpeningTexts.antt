@@ -1,4 +1,4 @@
--- The first line of a history.
+-- Proofs that the text of a history's first line determines the numbers in the line.
 use Rattle.std.proofs.Common.{◌≡◌, List, ◌++◌, codes, refl, sym, ap, ◌∙◌, IsUtf8, ℕ, subst}
 use Rattle.std.proofs.lemmas.List.{append_cancel_left}
 use Rattle.std.proofs.lemmas.Str.{IsUtf8-from_ascii}
@@ -15,7 +15,7 @@ five_numbers o h = few_from_test 5 (opening_numbers o) opening_maxima h refl
 pub IsUtf8-opening : (o : Opening) → AreAtMost (opening_numbers o) opening_maxima → IsUtf8 (spelled_numbers (opening_numbers o))
 IsUtf8-opening o h = IsUtf8-from_ascii (spelled_numbers (opening_numbers o)) (IsAscii-spelled (opening_numbers o) (five_numbers o h).1)
 
--- ---- the text behind the words
+-- ---- the text after the words
 
 pub same_rest : (text rest : List ℕ) (o : Opening) → text ≡ codes "history 1" ++ rest → IsOpeningText text o → rest ≡ spelled_numbers (opening_numbers o)
 same_rest text rest o parts is = append_cancel_left (codes "history 1") rest (spelled_numbers (opening_numbers o)) (sym parts ∙ is.is_written)
@@ -40,7 +40,7 @@ same_opening a b same =
     rw (pages, vmids, aux, history, builds) refl in
     whole
 
--- nor has another one the text
+-- an opening that has the numbers of an opening's text has no number that is too low
 pub enough_from_text : (text rest ns : List ℕ) (found o : Opening) → AreNumbers 5 ns → text ≡ codes "history 1" ++ rest → rest ≡ spelled_numbers ns → opening_numbers found ≡ ns
     → IsOpeningText text o → HasEnough found
 enough_from_text text rest ns found o are parts spelled numbers is =

@@ -1,4 +1,4 @@
--- The values of the rows with more conditions than maxima.
+-- Proofs that the rows of the parser return an operation exactly if all numbers are in range.
 use Rattle.std.proofs.Common.{◌≡◌, ℕ, ◌≤◌, List, [], ◌∷◌, length, replicate, Bool, true, false, get_or, cond, leb, ◌&&◌, Option, Some, None, option_map, refl, subst}
 use Rattle.std.specs.Option.{option_zip}
 use Rattle.std.proofs.lemmas.Bool.{le-leb, leb-true, and_parts}
@@ -13,7 +13,7 @@ use Rattle.decimal_text.proofs.UpTo.{up_to-some}
 use Rattle.history_text.specs.Acts.{realm_row, table_row, rec_row}
 use Rattle.history_text.specs.Written.{granule, ipa, width, level}
 
--- of one test behind another
+-- two tests, one after the other: if there is a value, both hold
 both_tests : {A : Type 0} (s t : Bool) (made value : A) → cond s (cond t (Some made) None) None ≡ Some value → (s ≡ true) × (t ≡ true) × (made ≡ value)
 both_tests true t made value e = let found = test_from_some t made value e in (refl, found.0, found.1)
 both_tests false t made value e = absurd (cc)
@@ -138,7 +138,7 @@ pub fifth_low : (ns : List ℕ) (a b c d e : ℕ) (ms : List ℕ) → AreAtMost 
 fifth_low [] a b c d e ms h = absurd h
 fifth_low (n ∷ ns) a b c d e ms h = fourth_low ns b c d e ms h.1
 
--- ---- what a row makes of what was found of it
+-- ---- the value that a row makes of the operands that were found
 
 map_tests : {A B : Type 0} (f : A → B) (s t : Bool) (x : A) → option_map f (cond s (cond t (Some x) None) None) ≡ cond s (cond t (Some (f x)) None) None
 map_tests f true true x = refl

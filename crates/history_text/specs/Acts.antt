@@ -1,4 +1,4 @@
--- The operation of a word and its numbers, as a function: a row for each word.
+-- The function from a word and its numbers to the operation that they spell. It has a row for each word.
 use Rattle.std.specs.Prelude.{ℕ, nat_le, ◌&&◌, List, [], ◌∷◌, codes, if◌then◌else◌, Option, Some, None, option_map}
 use Rattle.std.specs.Option.{option_or}
 use Rattle.std.specs.Str.{bytes_eq}

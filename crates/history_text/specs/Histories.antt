@@ -1,4 +1,4 @@
--- The text of a history: the size of the machine, and an event a line.
+-- The text of a history: a line with the size of the machine, and a line for each event.
 use Rattle.std.specs.Prelude.{◌≡◌, ℕ, ◌≤◌, List, [], ◌∷◌, ◌++◌, codes, Option, Some, None}
 use Rattle.std.specs.List.{flat_map}
 use Rattle.decimal_text.specs.Grammar.{spelled}

@@ -15,7 +15,7 @@ pub const IPA: u32 = 2_147_483_647;
 /// The maximum number of auxiliary granules of a REC.
 const MOST_AUXILIARIES: usize = 16;
 
-/// The width of the widest address space, in bits.
+/// The largest IPA width of a realm, in bits.
 const WIDEST: u8 = 43;
 
 pub fn granule_of(number: u32) -> Gran

@@ -97,7 +97,7 @@ fn act_in_range(act: &Act)
     }
 }
 
-/// Proves that each event has a text in a history. The event's numbers are in their ranges.
+/// Proves that the text of each event is a valid line of a history. The numbers of each event are in their ranges.
 pub fn events_have_texts(event: &Event)
     ensures { IsEventText (event_text event.now) event.now }
 {

@@ -6,8 +6,8 @@ use arrayvec::ArrayVec;
 use granule_addr::{Gran, IpaGran, PageOff, RecNo, Root, Vmid};
 use realm_model::Act;
 
-/// The maximum count of numbers in the text of an operation. An operation that creates or destroys a REC can have this
-/// many: the granule and the number of the REC, and 16 auxiliary granules.
+/// The maximum number of operands in the text of an operation. An operation that creates or destroys a REC can have
+/// this many: the granule and the number of the REC, and 16 auxiliary granules.
 const MOST_NUMBERS: usize = 18;
 
 /// The word for an operation in the text of a history.

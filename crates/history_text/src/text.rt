@@ -9,7 +9,7 @@ use realm_model::Event;
 use std::alloc::AllocError;
 
 /// Appends the text of a history to a string. That text has the opening, and a line for each event. Events of the build
-/// `erase` are left out. At an `Err` allocation failed, and `text` may have a part of the history.
+/// `erase` are left out. An `Err` means that allocation failed; `text` may then have a part of the history.
 pub fn push_history(
     text: &mut String,
     opening: &Opening,

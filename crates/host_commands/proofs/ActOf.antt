@@ -1,4 +1,4 @@
--- The operation of each command.
+-- Proofs that the operation of each command is an RMM command on the granules that the command names.
 use Rattle.std.proofs.Common.{◌≡◌, ℕ, ◌≤◌, true, false, Bool, cond, List, [], ◌∷◌, length, Option, Some, None, refl, sym, ap, ◌∙◌, subst, arith}
 use Rattle.std.specs.Prelude.{◌&&◌, option_map, slice_get}
 use Rattle.std.specs.Str.{bytes_eq}
@@ -60,7 +60,7 @@ no_granule _ [] allocated some none = refl
 
 -- ---- of the command
 
--- An act is of its command where its parts are, for any act that is equal.
+-- If an operation is of its command, so is any operation that equals it.
 of_equal : (cmd : Cmd) (gs : List ℕ) (a act : Act) → a ≡ act → IsOfCommand cmd gs a → IsOfCommand cmd gs act
 of_equal cmd gs a act same is = subst (IsOfCommand cmd gs) same is
 

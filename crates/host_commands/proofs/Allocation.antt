@@ -1,4 +1,5 @@
--- The allocations of a command: the fields of its operation that they fill, and the operation's outcome.
+-- Proofs on the values allocated for a command: they match the machine, and the byte and REC number do not affect the
+-- outcome.
 use Rattle.std.proofs.Common.{◌≡◌, ℕ, true, List, [], ◌∷◌, drop, Option, refl, sym, ap, ◌∙◌}
 use Rattle.std.specs.Prelude.{◌==◌, ◌&&◌, is_none, slice_index, option_map}
 use Rattle.std.specs.List.{All, list_all}
@@ -16,7 +17,7 @@ use Rattle.host_commands.specs.Acts.{act_of, is_ipa, is_level, of_granule, root_
 use Rattle.host_commands.specs.Laws.{ActFits, OutcomeIsOfAnyAllocation, outcome_of_act}
 use Rattle.host_commands.proofs.ActOf.{act_in_range, some_root}
 
--- ---- what the act says of what is there
+-- ---- the values in an operation, which agree with the machine
 
 each_byte : (offset byte : ℕ) (cells : List Seen) → All (λ (g : Seen). slice_index g.cell.bytes offset ≡ byte) cells → list_all (λ (g : Seen). slice_index g.cell.bytes offset == byte) cells ≡ true
 each_byte offset byte [] all = refl
@@ -56,7 +57,7 @@ module _ (allocated : Allocated) (realm : Option Seen) (cells : List Seen) where
   act_fits (Exit number) gs act e there = fits_as (acts.Exit number) act (same_Some _ act e) refl
   act_fits (Poke number ipa offset value) gs act e there = fits_as (acts.Poke number ipa offset value) act (act_in_range (is_ipa ipa) _ act e) refl
 
--- ---- what comes of the act
+-- ---- the outcome of the operation
 
 module _ (limits : Limits) (used : List ℕ) (one other : Allocated) (realm : Option Seen) (cells : List Seen) where
   pub any_allocation : (cmd : Cmd) (gs : List ℕ) → OutcomeIsOfAnyAllocation limits used cmd gs one other realm cells

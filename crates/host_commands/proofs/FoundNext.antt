@@ -1,4 +1,4 @@
--- Pages that are looked up one after another.
+-- Proofs on page lookups that follow one another: the granules found so far, or the first missing page.
 use Rattle.std.proofs.Common.{◌≡◌, ℕ, ◌+◌, ◌<◌, List, [], ◌∷◌, ◌++◌, map, length, take, drop, get_or, Option, Some, None, Ok, Err, refl, sym, ap, ◌∙◌, subst, append_assoc, arith}
 use Rattle.std.specs.Prelude.{Result}
 use Rattle.std.proofs.lemmas.List.{map-append, length-append, take_more, take-append-drop}
@@ -22,7 +22,7 @@ module _ (view : BuildsSummary) (build : ℕ) where
       ∙ first_passes (page_checks view build before) (page_checks view build (page ∷ [])) (all_there view build before old had)
       ∙ one_missing view build page [] none
 
-  -- some, and then some more: what comes of these is what comes of both
+  -- the lookup of some pages, and then of others, is the lookup of both lists
   pub next_after : (ps qs a b c d : List ℕ) (result : Result (Unit {0}) Refusal) → AreFoundNext view build ps a (Ok tt) b → AreFoundNext view build qs b result c
       → c ≡ d → AreFoundNext view build (ps ++ qs) a result d
   next_after ps qs a b c d (Ok done) one two same = (

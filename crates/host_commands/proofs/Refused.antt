@@ -1,4 +1,4 @@
--- The refusal by a list of checks.
+-- Proofs on the refusal that a list of checks gives: that of the first check that holds.
 use Rattle.std.proofs.Common.{◌≡◌, ℕ, true, false, cond, List, [], ◌∷◌, ◌++◌, map, Option, Some, None, Ok, Err, refl, sym, ap, ◌∙◌}
 use Rattle.std.specs.Prelude.{Result, is_none}
 use Rattle.host_commands.specs.declared.refusal.Refusal.{Refusal}
@@ -43,11 +43,11 @@ first_append (x ∷ xs) ys = elim x.0 as (λ t. cond t (Some x.1) (first_that_ho
   | false ↦ first_append xs ys
 ]
 
--- where no check of the first list holds, the second decides
+-- if no check of the first list holds, the second list decides
 pub first_passes : (xs ys : List Check) → first_that_holds xs ≡ None → first_that_holds (xs ++ ys) ≡ first_that_holds ys
 first_passes xs ys none = first_append xs ys ∙ ap (λ o. else o (first_that_holds ys)) none
 
--- where one does, it decides
+-- if one does, it decides
 pub first_stops : (xs ys : List Check) (refusal : Refusal) → first_that_holds xs ≡ Some refusal → first_that_holds (xs ++ ys) ≡ Some refusal
 first_stops xs ys refusal some = first_append xs ys ∙ ap (λ o. else o (first_that_holds ys)) some
 

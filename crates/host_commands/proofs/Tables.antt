@@ -1,4 +1,4 @@
--- The starting tables of a realm, checked one after another.
+-- Proofs that the check of a realm's starting tables accepts exactly the right number of adjacent granules.
 use Rattle.std.proofs.Common.{◌≡◌, ◌≢◌, ℕ, ◌+◌, ◌<◌, true, false, Bool, cond, List, [], ◌∷◌, length, get_or, Some, None, refl, sym, ap, ◌∙◌}
 use Rattle.std.specs.Prelude.{slice_get, if◌then◌else◌, ◌&&◌}
 use Rattle.std.specs.List.{range_with_len}

@@ -1,4 +1,5 @@
--- The checks of a command before the store and the RMM decide: one list for all commands, by their needs.
+-- The checks of a command that the host performs before it asks the page store or the RMM. One list serves all
+-- commands, by their needs.
 use Rattle.std.specs.Prelude.{ℕ, nat_lt, nat_le, List, [], ◌∷◌, ◌++◌, map, Bool, true, false, not, cond, Option, Some, None, is_none, Result, Ok, Err}
 use Rattle.host_commands.specs.declared.cmd.Cmd.{Cmd}
 use Rattle.host_commands.specs.declared.cmd.Cmd.TheVariants.{Take}

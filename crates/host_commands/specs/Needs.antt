@@ -1,4 +1,4 @@
--- The pages that each command names, and its requirements on its build.
+-- The pages that each command names, and the requirements of each command on its build.
 use Rattle.std.specs.Prelude.{ℕ, List, [], ◌∷◌, Bool, true, false, if◌then◌else◌}
 use Rattle.std.specs.List.{range_with_len}
 use Rattle.granule_addr.specs.Ipa.{is_width}

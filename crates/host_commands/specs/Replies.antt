@@ -1,4 +1,4 @@
--- The reply to an operation.
+-- The host's reply to a command, as a function of the command's operation.
 use Rattle.std.specs.Prelude.{ℕ}
 use Rattle.realm_model.specs.declared.act.Act.{Act}
 use Rattle.realm_model.specs.declared.act.Act.TheVariants.{Take, Peek, Realm, Rec}

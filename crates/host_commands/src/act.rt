@@ -135,10 +135,10 @@ fn act_on_pages(cmd: &Cmd, granules: &[Gran], allocated: Allocated) -> Option<Ac
 /// Converts a build's command to the operation that the command asks for. `granules` are those of the command's pages,
 /// and `allocated` has the allocated values.
 ///
-/// `None` comes if a number of the command can be in no operation. That is an IPA granule from 2^31 on, a level outside
-/// 1 to 3, a width outside 39 to 43, or starting tables that are not adjacent granules. The command is then refused
-/// with RMI_ERROR_INPUT. A Take has no operation either: the store chooses its block. The numbers that no command
-/// checks, values and offsets in a page, are in range.
+/// The result is `None` if a number of the command can be in no operation. That is an IPA granule from 2^31 on, a level
+/// outside 1 to 3, a width outside 39 to 43, or starting tables that are not adjacent granules. The command is then
+/// refused with RMI_ERROR_INPUT. A Take has no operation either: the store chooses its block. The numbers that no
+/// command checks, values and offsets in a page, are in range.
 #[tactic(auto, unfolding(crate::specs::Acts::act_of, crate::specs::Needs::operands))]
 pub fn act_of(cmd: &Cmd, granules: &ArrayVec<Gran, 17>, allocated: Allocated) -> Option<Act>
     ensures act { result ≡ act_of cmd.now granules.now.items allocated }

@@ -6,9 +6,9 @@ ghost use Rattle.host_commands.specs.declared.cmd.Cmd.{Cmd};
 ghost use Rattle.host_commands.specs.declared.reply.Allocated.{Allocated};
 ghost use Rattle.host_commands.specs.Laws.{ActIsOfCommand, ActFits, OutcomeIsOfAnyAllocation, NoActIsInputError};
 
-/// The operation that a command asks for names the granules of the command's pages. It is a command of the RMM, and not
-/// the reverse of another operation. It is paired if the table of commands says so, and takes the room that the table
-/// says.
+/// Proves that the operation of a command names the granules of the command's pages. The operation is a command of the
+/// RMM, and not the reverse of another operation. It is paired if the table of commands says so, and takes the room
+/// that the table says.
 pub fn act_is_that_of_its_command()
     ensures { (cmd : Cmd) (granules : List ℕ) (allocated : Allocated) (act : Act) → ActIsOfCommand cmd granules allocated act }
 {}
@@ -24,8 +24,8 @@ pub fn outcome_ignores_allocation()
     ensures { (limits : Limits) (used : List ℕ) (cmd : Cmd) (granules : List ℕ) (one other : Allocated) (realm : Option Seen) (cells : List Seen) → OutcomeIsOfAnyAllocation limits used cmd granules one other realm cells }
 {}
 
-/// A command with an impossible IPA granule or level gets RMI_ERROR_INPUT. Such a granule or level can be in no
-/// operation. The RMM refuses the command so, whatever else is wrong.
+/// Proves that a command with an impossible IPA granule or level gets RMI_ERROR_INPUT. Such a granule or level can be
+/// in no operation. The RMM refuses the command so, whatever else is wrong.
 pub fn missing_act_is_an_input_error()
     ensures { (cmd : Cmd) (granules : List ℕ) (allocated : Allocated) (rd : Seen) (cells : List Seen) → NoActIsInputError cmd granules allocated rd cells }
 {}

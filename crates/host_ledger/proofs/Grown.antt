@@ -1,4 +1,4 @@
--- The ledger with one more event.
+-- Proofs that the ledger keeps its invariant when one more event is recorded.
 use Rattle.std.proofs.Common.{◌≡◌, ◌≢◌, ℕ, zero, suc, ◌+◌, ◌-◌, ◌*◌, ◌<◌, ◌≤◌, Bool, true, false, ◌&&◌, cond, take, List, [], ◌∷◌, ◌++◌}
 use Rattle.std.proofs.Common.{length, map, set, get_or, Option, Some, None, refl, sym, ap, ◌∙◌, subst, arith, ⊎_elim, vec_len, vec_capacity}
 use Rattle.std.specs.Prelude.{nat_lt, slice_get, option_map}
@@ -48,7 +48,7 @@ use Rattle.host_ledger.proofs.Totals.{length-le_rooms}
 use Rattle.host_ledger.proofs.VmidsFollow.{can_follow_vmids, vmids_are_after, same_range}
 use Rattle.host_ledger.proofs.Worlds.{world_is, world_of-replay}
 
--- a stack that follows an act does not grow but by one that has a reverse
+-- a stack grows by no operation but one that has a reverse, so it still fits
 entries_fit_after : (stack : List Act) (act : Act) → length stack ≤ 512 → (is_paired act ≡ true → length stack < 512) → length (pushed stack act) ≤ 512
 unfolding pushed
 entries_fit_after stack act few room = at (is_paired act) room (is_reverse act)
@@ -62,7 +62,7 @@ rec_paired : (granule : ℕ) (aux : _) (number : ℕ) → is_paired (Rec granule
 unfolding reverse_of
 rec_paired granule aux number = refl
 
--- there is room for what takes none
+-- an operation that takes no room fits too
 room_fits : (used taken capacity : ℕ) → used ≤ capacity → (0 < taken → used + taken ≤ capacity) → used + taken ≤ capacity
 room_fits used zero capacity fits room = omega arith
 room_fits used (suc taken) capacity fits room = room (omega arith)

@@ -1,4 +1,4 @@
--- The binary search for a REC, whose numbers rise.
+-- Proofs on the binary search for a REC in a list with rising REC numbers.
 use Rattle.std.proofs.Common.{◌≡◌, ℕ, zero, suc, ◌+◌, ◌<◌, ◌≤◌, List, [], ◌∷◌, cond, length, get_or, Some, None, refl, sym, ap, ◌∙◌, arith}
 use Rattle.std.proofs.lemmas.Bool.{eq-eqb, ne_eqb}
 use Rattle.realm_model.specs.RecsOpen.{granule_in, number_at, IsRising}
@@ -35,13 +35,13 @@ none_between recs number low high between met = not_found recs number (λ i insi
   | More more ↦ let over = between.below i (omega arith) inside in absurd (omega (arith, over, same))
 ])
 
--- what stands at a place does not depend on what would stand past the end
+-- the element at an index of a list does not depend on the default
 defaults : (recs : List (ℕ × ℕ)) (place : ℕ) (d e : ℕ × ℕ) → place < length recs → get_or recs place d ≡ get_or recs place e
 defaults [] place d e inside = absurd (omega arith)
 defaults (r ∷ recs) zero d e inside = refl
 defaults (r ∷ recs) (suc place) d e inside = defaults recs place d e (omega arith)
 
--- the granule of a number that is there
+-- the granule of a REC whose number is in the list
 pub found_there : (recs : List (ℕ × ℕ)) (place : ℕ) (rec d : ℕ × ℕ) → IsRising recs → place < length recs → rec ≡ get_or recs place d → granule_in recs rec.0 ≡ Some rec.1
 found_there [] place rec d rising inside is = absurd (omega arith)
 found_there (r ∷ recs) zero rec d rising inside is =

@@ -1,4 +1,4 @@
--- The holder of each granule after one more operation of a build.
+-- Proofs that the table of holders equals the world's leases after one more operation of a build.
 use Rattle.std.proofs.Common.{◌≡◌, ℕ, ◌+◌, ◌-◌, ◌^◌, ◌<◌, ◌≤◌, List, length, Option, Some, None, sym, ap, ◌∙◌, subst, arith}
 use Rattle.std.specs.Prelude.{slice_get}
 use Rattle.std.specs.List.{All}

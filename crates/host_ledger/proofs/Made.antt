@@ -1,4 +1,4 @@
--- The lists that open operations make, after one more operation of their build.
+-- Proofs on the items that a build's open operations have created, such as RECs, after one more operation.
 use Rattle.std.proofs.Common.{◌≡◌, ℕ, true, false, List, [], ◌∷◌, ◌++◌, Some, sym, ap, ◌∙◌}
 use Rattle.std.specs.List.{flat_map}
 use Rattle.std.proofs.lemmas.List.{append-nil}

@@ -19,7 +19,7 @@ use Rattle.std.proofs.lemmas.List.Elements.{All-tail}
 length-block : (order first : ℕ) → length (block order first) ≡ 2 ^ order
 length-block order first = length-range_with_len first (2 ^ order)
 
--- what is left where a block is taken off the end
+-- the pages that are left if a block is removed from the end
 untaken : (pages left : List ℕ) (order first : ℕ) → pages ≡ left ++ block order first → left ≡ take (length pages - 2 ^ order) pages
 untaken pages left order first e =
     let long : length pages ≡ length left + 2 ^ order = ap length e ∙ length-append left (block order first) ∙ ap (λ n. length left + n) (length-block order first) in

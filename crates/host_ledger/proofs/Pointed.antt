@@ -1,4 +1,4 @@
--- The ledger in which a build has another mark, or is in abort.
+-- Proofs that the ledger keeps its invariant when a build's mark is set or its abort begins.
 use Rattle.std.proofs.Common.{◌≡◌, ◌≢◌, ℕ, ◌*◌, ◌<◌, ◌≤◌, Bool, true, false, List, length, set, get_or, Option, Some, None, refl, sym, ap, ◌∙◌, subst, cond, arith, ⊎_elim}
 use Rattle.std.specs.Prelude.{nat_lt, slice_get, IfSome}
 use Rattle.std.specs.Global.{Vec}
@@ -36,7 +36,7 @@ module _ (builds : List Build) (leases : Stacks) (holders : List (Option ℕ)) (
   mark_there : build < length host.marks
   mark_there = subst (λ n. build < n) (sym (length-map builds (λ (b : Build). b.mark))) there
 
-  -- the flag that an abort sets, and the mark that is kept, are told
+  -- the flag that an abort sets, and the mark that is kept, are the ones read
   pub flag_begun : is_aborting (begun now build) build ≡ nat_lt 0 (length (open_of now build))
   flag_begun = get_or-set_same now.aborting build (nat_lt 0 (length (open_of now build))) false (subst (λ (h : HostView). build < length h.aborting) view_is abort_there)
 

@@ -1,4 +1,4 @@
--- Aborts and marks after one more event.
+-- Proofs that each build's abort flag and mark stay valid after one more event.
 use Rattle.std.proofs.Common.{◌≡◌, ◌≢◌, ℕ, ◌<◌, ◌≤◌, Bool, true, false, ◌&&◌, cond, List, [], ◌∷◌, ◌++◌, length, take, Option, Some, None, refl, sym, ap, ◌∙◌, subst, arith, ⊎_elim}
 use Rattle.std.specs.Prelude.{nat_lt, nat_le}
 use Rattle.std.proofs.lemmas.Bool.{and_parts, ltb-true, ltb-false, leb-true, cases_eq}
@@ -17,12 +17,12 @@ use Rattle.host_ledger.specs.Kept.{PointsHold}
 
 -- ---- what is open, at any time
 
--- so now
+-- at most 512 operations are open now
 pub few_now : (build : ℕ) (history : List Event) → ((n : ℕ) → length (open_entries build (take n history)) ≤ 512) → length (open_entries build history) ≤ 512
 few_now build history few =
     subst (λ (es : List Event). length (open_entries build es) ≤ 512) (take_all (length history) history (omega arith)) (few (length history))
 
--- and so after one more event, where it is so after that event
+-- and at any time up to one more event, if so many are open after that event
 pub few_later : (build : ℕ) (history : List Event) (event : Event) → ((n : ℕ) → length (open_entries build (take n history)) ≤ 512)
     → length (open_entries build (history ++ event ∷ [])) ≤ 512 → (n : ℕ) → length (open_entries build (take n (history ++ event ∷ []))) ≤ 512
 few_later build history event few last n = at (nat_lt (length history) n) refl

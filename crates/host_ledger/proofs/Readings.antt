@@ -1,4 +1,4 @@
--- Readings of the ledger.
+-- Proofs that the values read from the ledger agree with the ledger's history.
 use Rattle.std.proofs.Common.{◌≡◌, ℕ, ◌+◌, ◌<◌, ◌≤◌, Bool, true, false, List, [], length, take, get_or, Option, Some, None, refl, sym, ap, ◌∙◌, subst, arith}
 use Rattle.std.specs.Prelude.{nat_lt, slice_get, option_map, IfSome, IsSome}
 use Rattle.std.specs.List.{sum_by}
@@ -34,7 +34,7 @@ pub none_open : (build : ℕ) (history : List Event) → acts_of build history �
 unfolding open_entries
 none_open build history none = ap unmatched none
 
--- a build that is not there is in no abort and has no mark
+-- a build that does not exist is in no abort and has no mark
 pub no_abort : (host : HostView) (build : ℕ) → length host.aborting ≡ host.limits.builds → host.limits.builds ≤ build → is_aborting host build ≡ false
 no_abort host build aborts past = get_or_past host.aborting build false (omega arith)
 
@@ -63,7 +63,7 @@ module _ (host : HostView) (builds : List Build) (leases : Stacks) (holders : Li
   realm_past build past =
       no_realm host.limits host.history world kept.legal (world_is host kept.legal) build (none_open build host.history (no_acts build past))
 
-  -- a build that is not there has used no room
+  -- a build that does not exist has used no room
   pub has_room : (build : ℕ) → HasRoom host build
   has_room build = at (nat_lt build host.limits.builds) refl
     where

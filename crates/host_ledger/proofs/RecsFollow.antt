@@ -39,7 +39,7 @@ few_recs (_ ∷ acts) = let rest = few_recs acts in omega arith
 
 -- ---- numbers that rise
 
--- one more REC comes last
+-- one more REC, at the end
 module _ (recs : List (ℕ × ℕ)) (number granule : ℕ) where
   abbrev more : List (ℕ × ℕ)
   more = recs ++ (number, granule) ∷ []
@@ -59,7 +59,7 @@ module _ (recs : List (ℕ × ℕ)) (number granule : ℕ) where
       let less = rising i (length recs) inside (let more = long in omega (arith, more)) in
       omega (arith, less, before i inside, last (length recs) (omega arith))
 
-  -- and where it is, the numbers rise still
+  -- and if it is, the numbers still rise
   pub rising_with : IsRising recs → IsAbove recs number → IsRising more
   rising_with rising above i j less inside =
       ⊎_elim

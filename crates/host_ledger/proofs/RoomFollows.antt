@@ -1,4 +1,4 @@
--- The number of RECs of a build that run, and the room that it has used, after one more operation of the build.
+-- The number of a build's running RECs, and the room that the build has used, after one more operation of the build.
 use Rattle.std.proofs.Common.{◌≡◌, ℕ, ◌+◌, Bool, true, false, cond, List, [], ◌∷◌, ◌++◌, length, Some, refl, ap, ◌∙◌, arith}
 use Rattle.std.proofs.lemmas.List.{length-append}
 use Rattle.realm_model.specs.declared.act.Act.{Act}

@@ -1,4 +1,4 @@
--- The records of builds, and the view that the checks of a command need.
+-- Proofs that the ledger's records and VMID pool give the view that the checks of a command need.
 use Rattle.std.proofs.Common.{◌≡◌, ℕ, zero, suc, ◌+◌, ◌<◌, ◌≤◌, Bool, true, false, ◌&&◌, not, List, [], ◌∷◌, length, map, get_or, Option, Some, None, refl, sym, ap, ◌∙◌, cond, ⊎_elim, arith}
 use Rattle.std.specs.Prelude.{nat_le, slice_get, IfSome, IfNone}
 use Rattle.std.specs.List.{find, range_with_len}
@@ -9,13 +9,13 @@ use Rattle.build_journal.specs.Vmids.{Vmids, is_free, IsLowestFree}
 use Rattle.host_ledger.specs.View.{HostView, world_of}
 use Rattle.host_ledger.specs.Vmids.{is_vmid_free, lowest_vmid}
 
--- what is said of the element at a place
+-- the mapped list has, at an index, the function's value for the element there
 pub get_or-of : {X Y : Type 0} (f : X → Y) (xs : List X) (place : ℕ) (x : X) (d : Y) → place < length xs → x ≡ get_or xs place x → f x ≡ get_or (map f xs) place d
 get_or-of f [] place x d inside is = absurd (omega arith)
 get_or-of f (y ∷ ys) zero x d inside is = ap f is
 get_or-of f (y ∷ ys) (suc place) x d inside is = get_or-of f ys place x d (omega arith) is
 
--- and so where an element is told
+-- the same for the element that a lookup finds
 pub said_of : {X Y : Type 0} (f : X → Y) (xs : List X) (place : ℕ) (x : X) (d : Y) → slice_get xs place ≡ Some x → f x ≡ get_or (map f xs) place d
 said_of f xs place x d there = get_or-of f xs place x d (slice_get_within xs place x there) (sym (get_or_from_slice_get xs place x x there))
 
@@ -58,7 +58,7 @@ module _ (host : HostView) (vmids : Vmids) (range : vmids.vmids ≡ host.limits.
   pub none_is : ((vmid : ℕ) → is_free vmids vmid ≡ false) → None ≡ lowest_vmid host
   none_is none = sym (find_none (is_vmid_free host) 1 host.limits.vmids (λ vmid. sym (same_free vmid) ∙ none vmid))
 
-  -- so is what the pool tells
+  -- so is the VMID that the pool returns
   pub told_is : (told : Option ℕ) → IfSome told (IsLowestFree vmids) → IfNone told ((vmid : ℕ) → is_free vmids vmid ≡ false) → told ≡ lowest_vmid host
   told_is None lowest none = none_is none
   told_is (Some vmid) lowest none = lowest_is vmid lowest

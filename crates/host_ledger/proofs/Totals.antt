@@ -1,4 +1,4 @@
--- The numbers of events of builds in a history: one by one, and together.
+-- A proof that a history is no longer than the number of builds times the room of each build.
 use Rattle.std.proofs.Common.{◌≡◌, ◌≢◌, ℕ, zero, suc, ◌+◌, ◌*◌, ◌<◌, ◌≤◌, cond, List, [], ◌∷◌, map, length, refl, sym, ap, ◌∙◌, subst, arith, ⊎_elim}
 use Rattle.std.specs.Prelude.{◌==◌, filter}
 use Rattle.std.specs.List.{All}
@@ -66,7 +66,7 @@ total_bound (suc n) most history each =
     let here = each n (omega arith) in
     grind arith
 
--- where no build has more events than its room, the history is no longer than all rooms together
+-- if no build has more events than its room, the history is no longer than all rooms together
 pub length-le_rooms : (n most : ℕ) (history : List Event) → All (λ event. event.build < n) history → ((build : ℕ) → build < n → length (acts_of build history) ≤ most) → length history ≤ n * most
 length-le_rooms n most history all each = subst (λ k. k ≤ n * most) (sym (length-total n history all)) (total_bound n most history each)
 

@@ -1,4 +1,4 @@
--- The world of a host.
+-- A proof that the replay of a host's legal history gives the host's world.
 use Rattle.std.proofs.Common.{◌≡◌, Option, Some, None, refl, ap}
 use Rattle.std.specs.Prelude.{unwrap_or, IsSome}
 use Rattle.realm_model.specs.World.{World, opening}

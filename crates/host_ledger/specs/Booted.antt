@@ -1,4 +1,4 @@
--- A host at the start.
+-- The view of a host that has just been booted, with an empty history.
 use Rattle.std.specs.Prelude.{ℕ, [], replicate, false, None}
 use Rattle.host_ledger.specs.View.{HostView}
 

@@ -1,4 +1,4 @@
--- The code of a host's view.
+-- An injective encoding of the view of a host.
 use Rattle.std.specs.Prelude.{ℕ, List, Bool, Option, refl}
 use Rattle.std.specs.Coded.{Coded, code_by, coded×, coded_ℕ, coded_list, coded_bool, coded_option}
 use Rattle.host_ledger.specs.contracts.mark.Mark as mark

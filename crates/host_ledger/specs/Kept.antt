@@ -1,4 +1,4 @@
--- The records beside a history, which are functions of the history.
+-- The records that a host keeps beside its history, as functions of the history.
 use Rattle.std.specs.Prelude.{◌≡◌, ℕ, nat_lt, ◌+◌, ◌-◌, ◌*◌, ◌^◌, ◌<◌, ◌≤◌, true, false, ◌&&◌, List, [], ◌∷◌, ◌++◌, map, take, Option, Some, None, length, slice_get, vec_capacity}
 use Rattle.std.specs.List.{All}
 use Rattle.std.specs.Global.{Vec}
@@ -153,8 +153,8 @@ pub record PointsHold (host : HostView) (build : ℕ) : Type 0 where
   pub marked : (mark : Mark) → mark_of host build ≡ Some mark → IsMarkOf host build mark
 
 -- The history is legal, and the record of each build agrees with its part of the history. Each granule is held by the
--- build that leases it, and a VMID is in use exactly when a realm has it. There is memory for all that there is room
--- for. A build in abort has something open, and marks are valid.
+-- build that leases it, and a VMID is in use exactly when a realm has it. Memory is allocated for as many events as the
+-- builds' rooms allow. A build in abort has something open, and marks are valid.
 pub record IsKept (host : HostView) (builds : List Build) (leases : Stacks) (holders : List (Option ℕ)) (vmids : Vmids) (events : Vec Event) : Type 0 where
   pub legal : IsLegal host.limits host.history
   pub few_builds : host.limits.builds ≤ 8

@@ -1,4 +1,4 @@
--- Marks: points of builds to which they can go back.
+-- Marks, the points in a history to which builds can be rolled back.
 use Rattle.std.specs.Prelude.{ℕ, nat_le, Bool, ◌&&◌, ◌==◌, cond, Option, Some, None}
 use Rattle.host_ledger.specs.declared.mark.Mark.{Mark}
 use Rattle.realm_model.specs.Marks as marks

@@ -1,4 +1,4 @@
--- The RECs of a build's realm, as a stack.
+-- The condition that a REC number is above the numbers of all RECs in a list.
 use Rattle.std.specs.Prelude.{ℕ, ◌<◌, List, length}
 use Rattle.realm_model.specs.RecsOpen.{number_at}
 

@@ -1,4 +1,4 @@
--- The view that a contract has of a host of builds, and the values that follow from it.
+-- The view of a host in contracts, and the values that follow from the view.
 use Rattle.std.specs.Prelude.{ℕ, nat_lt, List, [], ◌∷◌, ◌++◌, length, Bool, false, ◌&&◌, Option, Some, None, unwrap_or, slice_get, slice_index_or, slice_set}
 use Rattle.host_ledger.specs.declared.mark.Mark.{Mark}
 use Rattle.host_ledger.specs.Marks.{mark_while}

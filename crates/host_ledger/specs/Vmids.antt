@@ -1,4 +1,4 @@
--- The VMIDs that a host's realms have.
+-- The VMIDs that a host's realms have, and the lowest VMID that no realm has.
 use Rattle.std.specs.Prelude.{◌≡◌, ℕ, Bool, true, false, Option, not, ◌&&◌, nat_le}
 use Rattle.std.specs.List.{find, range_with_len}
 use Rattle.build_journal.specs.Vmids.{Vmids, is_free, IsClaimed}

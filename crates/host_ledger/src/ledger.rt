@@ -315,7 +315,8 @@ impl HostLedger {
         self.holders.is_held_by(granule, build)
     }
 
-    /// The build that leases the granule. `None` comes if nobody does, or if the machine does not have the granule.
+    /// The build that leases the granule. The result is `None` if no build does, or if the machine does not have the
+    /// granule.
     pub fn holder(&self, granule: Gran) -> Option<BuildId>
         ensures { result ≡ slice_index_or (world_of self.now).leases granule None }
     {

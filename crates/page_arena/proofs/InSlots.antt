@@ -1,4 +1,4 @@
--- Pages whose bytes are in slots.
+-- Pages whose bytes are in slots, after a page gets a slot of its own and after a page is written.
 use Rattle.std.proofs.Common.{◌≡◌, ◌≢◌, ℕ, zero, suc, ◌+◌, ◌-◌, ◌<◌, ◌≤◌, List, [], ◌∷◌, ◌++◌, length, replicate, set, get_or, refl, sym, ap, ◌∙◌, ⊎_elim, arith, length-set}
 use Rattle.std.proofs.lemmas.Bool.{cases_eq}
 use Rattle.std.proofs.lemmas.List.{length-replicate, length-map, get_or-map, get_or-replicate, get_or_append_left, get_or_at, get_or-set_same, get_or-set_other, set-get_or, ext_get_or}
@@ -9,7 +9,7 @@ use Rattle.page_arena.specs.Block.{with_run}
 use Rattle.page_arena.specs.Runs.{with_run_more}
 use Rattle.page_arena.specs.Slots.{pages_in, owners, IsSlots}
 
--- ---- how many pages have their own
+-- ---- the number of pages that have a slot of their own
 
 owners-replicate : (n : ℕ) → owners (replicate n 0) ≡ 0
 unfolding owners
@@ -22,7 +22,7 @@ owners_all [] = omega arith
 owners_all (zero ∷ slots) = let le = owners_all slots in omega arith
 owners_all (suc k ∷ slots) = let le = owners_all slots in omega arith
 
--- of a page that has none
+-- if a page has no slot of its own, fewer pages have one than there are
 owners_room : (slots : List ℕ) (i : ℕ) → i < length slots → get_or slots i 0 ≡ 0 → owners slots < length slots
 unfolding owners
 owners_room [] i lt e = absurd (omega arith)
@@ -64,7 +64,7 @@ module _ (slots : List ℕ) (used : ℕ) (was : IsSlots slots used) (i : ℕ) (l
   there : (page : ℕ) → page ≢ i → get_or (set slots i used) page 0 ≡ get_or slots page 0
   there page ne = get_or-set_other slots i page used 0 ne
 
-  -- the next slot goes to a page
+  -- a page gets the next slot
   pub one_owner_more : IsSlots (set slots i used) (used + 1)
   one_owner_more =
       let long = length-set slots i used in let pos : 1 ≤ used = (let counted = was.counted in omega arith) in
@@ -100,7 +100,7 @@ module _ (items : List (List ℕ)) (slots : List ℕ) where
   unfolding pages_in
   page_in i d lt = get_or-map _ slots i 0 d lt
 
--- lists of pages are the same where each page is
+-- lists of pages are equal if each page is
 same_pages : (items : List (List ℕ)) (slots : List ℕ) (pages : List (List ℕ)) → length slots ≡ length pages
     → ((i : ℕ) → i < length slots → get_or items (get_or slots i 0) zero_page ≡ get_or pages i zero_page) → pages_in items slots ≡ pages
 same_pages items slots pages long each =
@@ -137,7 +137,7 @@ module _ (items : List (List ℕ)) (slots : List ℕ) (used : ℕ) (are : IsSlot
   pub page_written : (own : ℕ) (now : List (List ℕ)) → own ≡ slot → 1 ≤ own → now ≡ set items own page → pages_in now slots ≡ set (pages_in items slots) i page
   page_written own now e pos is = ap (λ (ps : List (List ℕ)). pages_in ps slots) (is ∙ ap (λ (k : ℕ). set items k page) e) ∙ written_own (omega arith)
 
-  -- a page is written that had none
+  -- a page is written that had no slot of its own
   placed_next : pages_in (items ++ page ∷ []) (set slots i used) ≡ set (pages_in items slots) i page
   placed_next =
       let n = length-pages_in items slots in let m = length-set (pages_in items slots) i page in let long = length-set slots i used in

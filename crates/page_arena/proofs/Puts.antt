@@ -1,4 +1,4 @@
--- A list with an item in the place of one, or after its last.
+-- A list in which an item is replaced, or to which an item is added at the end.
 use Rattle.std.proofs.Common.{◌≡◌, ℕ, suc, ◌+◌, ◌<◌, List, [], ◌∷◌, ◌++◌, length, take, drop, set, sym, ap, ◌∙◌, arith}
 use Rattle.std.proofs.lemmas.List.{take_all, drop_all, set_split}
 use Rattle.page_arena.specs.Owned.{put_at}

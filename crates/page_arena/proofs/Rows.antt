@@ -1,12 +1,13 @@
--- The ownership of a row, taken apart and put together, at its two parameters. Assumes `Logic`.
+-- The ownership of a row (an array of items): items are split off and joined again. Assumes the separation logic
+-- `Logic`.
 --     Starts, Owner, start_val, owner_val      the two structs, and the machine values that they are
---     found            the item at an index.        begins_below      where it begins is a number of the machine
+--     found            the item at an index.        begins_below      the offset where it begins fits 64 bits
 --     null_lends, null_owns        nothing lies at null
---     shows_one        one item of those that a `&` shows
---     item_out, item_in        an item leaves the row, and another comes back in its place
---     Pair, pair       two items leave, and another comes back in the place of the second
---     Place, place     a place that can be written: inside, or after the last item
---     fresh, all_room      a new row, with no item;  the whole row is room
+--     shows_one        one item of a row that is borrowed by a `&`
+--     item_out, item_in        an item is taken out of the row, and another is put in its place
+--     Pair, pair       two items are taken out, and another is put in the place of the second
+--     Place, place     an index that can be written: that of an item, or the one after the last
+--     fresh, all_room      a new row, without items;  the memory of the whole row, without its items
 --     closed, Rest, one_back, PairRest, pair_back      the row after a `&mut`, with other items: all of them, all but
 --                                                      one, all but two
 --     Others           the tokens of the parameters' lifetimes
@@ -45,7 +46,7 @@ use Rattle.page_arena.specs.contracts.row.Start as start
 use Rattle.page_arena.proofs.row.Start.TheLaws as start_laws
 use Rattle.page_arena.proofs.row.Row.TheLaws as row_laws
 
--- the item at an index, whatever stands for one past the end
+-- the item at an index, whatever the default is for one past the end
 pub found : {X : Type 0} (xs : List X) (i : ℕ) → i < length xs → (x : X) × ((d : X) → get_or xs i d ≡ x)
 found [] i lt = absurd (omega arith)
 found (x ∷ xs) zero lt = (x, λ d. refl)
@@ -77,7 +78,7 @@ module _ (E : El) where
   abbrev pub right : E.al.row.Denot → Ty → Ptr → Fml
   right = token E.al
 
-  -- where the items end below 2^63, the byte where one begins is a number of the machine
+  -- if the items end below 2^63, the offset at which one begins fits 64 bits
   pub begins_below : (count index : ℕ) → index < count → Reaches (R E) count → (sz E < 2 ^ 64) × (index * sz E < 2 ^ 64)
   begins_below count index lt reaches =
       let one = one_below count (sz E) (2 ^ 63) (omega arith) reaches.0 in
@@ -91,7 +92,7 @@ module _ (E : El) {M : Type 1} {𝓤 : Ura M} (𝓛 : Logic 𝓤) where
   null_owns t n xs =
       fst∗ 𝓤 (never 𝓤) (sem 𝓛 (fsep (room_for (array_of (R E) (n - length xs)) (null_ptr +ₚ length xs * sz E)) (t (array_of (R E) n) null_ptr)))
 
-  -- one item of those that a `&` shows
+  -- one item of a row that is borrowed by a `&`
   pub shows_one : (κ : Lft) (b : ℕ) (xs : List (el_x E)) (o i : ℕ) (d : el_x E) → i < length xs
       → ent 𝓤 (sem 𝓛 (each_shared xs (shared_of (R E)) (sz E) b o κ)) (sem 𝓛 (shared_of (R E) (get_or xs i d) b (i * sz E + o) κ))
   shows_one κ b [] o i d lt = absurd (omega arith)
@@ -115,7 +116,7 @@ module _ (E : El) {M : Type 1} {𝓤 : Ura M} (𝓛 : Logic 𝓤) where
   start_made s = makes_shadow 𝓛 ((Starts E).own_val s (start_val E s)) (λ vss. (tt, (tt, tt))) ((ptr_val s.first ∷ [], tt), (refl, (refl, tt)))
 
 module _ (E : El) {M : Type 1} {𝓤 : Ura M} (𝓛 : Logic 𝓤) (t : Ty → Ptr → Fml) (b o room : ℕ) where
-  -- the items, and what lies behind them with the right to give all back
+  -- the items, and the unused memory after them with the right to free all of it
   abbrev pub Items : List (el_x E) → Fml
   Items xs = part_at (Array (R E) (length xs)) full_share xs b o
 
@@ -153,14 +154,14 @@ module _ (E : El) {M : Type 1} {𝓤 : Ura M} (𝓛 : Logic 𝓤) (t : Ty → Pt
         use2 𝓛 (‵ (part_at (Array (R E) (length xs)) full_share (set xs i y) b o)) (put_in E 𝓛 (length xs) xs i y b o lt refl) $
         by ! (same_many xs (set xs i y) (length-set xs i y))
 
-  -- two items, one for reading and one for writing: what is owned besides, and the way back with another in the second
-  -- place
+  -- two items, one to read and one to write: what is owned besides them, and the whole row again, with another second
+  -- item
   pub record Pair (xs : List (el_x E)) (i j : ℕ) : Type 1 where
     pub besides : Fml
     pub out : (d : el_x E) → ent 𝓤 (sem 𝓛 (All xs)) (sep 𝓤 (sem 𝓛 (one i (get_or xs i d))) (sep 𝓤 (sem 𝓛 (one j (get_or xs j d))) (sem 𝓛 besides)))
     pub back : (d w : el_x E) → ent 𝓤 (sep 𝓤 (sem 𝓛 (one i (get_or xs i d))) (sep 𝓤 (sem 𝓛 (one j w)) (sem 𝓛 besides))) (sem 𝓛 (All (set xs j w)))
 
-  -- they leave by their places, the lower first, and two others come back
+  -- the two items are taken out, the one of the lower index first, and two others are put back
   module _ (xs : List (el_x E)) (i j : ℕ) (lt : i < j) (j_in : j < length xs) where
     abbrev Apart : Fml
     Apart = fsep (Beside E 𝓛 b o xs i j) (Behind (length xs))
@@ -201,7 +202,7 @@ module _ (E : El) {M : Type 1} {𝓤 : Ura M} (𝓛 : Logic 𝓤) (t : Ty → Pt
   pub pair : (xs : List (el_x E)) (i j : ℕ) → i < length xs → j < length xs → i ≢ j → Pair xs i j
   pair xs i j i_in j_in other = elim (cases_lt i j) [ inl lt ↦ reads_first xs i j lt j_in | inr le ↦ reads_second xs i j (omega (arith, le, other)) i_in ]
 
-  -- a place that can be written: what is owned besides its room, and the way back with an item there
+  -- an index that can be written: what is owned besides its memory, and the whole row again, with an item there
   pub record Place (xs : List (el_x E)) (i : ℕ) : Type 1 where
     pub besides : Fml
     pub out : ent 𝓤 (sem 𝓛 (All xs)) (sep 𝓤 (sem 𝓛 (froom (elτ E) b (at i))) (sem 𝓛 besides))
@@ -236,7 +237,7 @@ module _ (E : El) {M : Type 1} {𝓤 : Ura M} (𝓛 : Logic 𝓤) (t : Ty → Pt
   pub place : (xs : List (el_x E)) (i : ℕ) → i ≤ length xs → i < room → Place xs i
   place xs i le lt = elim (cases_lt i (length xs)) [ inl inner ↦ inside xs i inner | inr end ↦ behind xs i (omega (arith, le, end)) lt ]
 
-  -- no item is there yet
+  -- a new row has no item
   pub fresh : ent 𝓤 (sep 𝓤 (sem 𝓛 (froom (array_of (R E) room) b o)) (sem 𝓛 (t (array_of (R E) room) (block_ptr b o)))) (sem 𝓛 (All []))
   fresh =
       let none : o ≡ o + 0 * sz E = omega (arith, zero-mul (sz E)) in let whole : room ≡ room - 0 = omega arith in
@@ -244,13 +245,13 @@ module _ (E : El) {M : Type 1} {𝓤 : Ura M} (𝓛 : Logic 𝓤) (t : Ty → Pt
       rewrite ! 0 (λ (k : ℕ). ‵ (froom (array_of (R E) room) b k)) none refl $ rewrite ! 0 (λ (k : ℕ). ‵ (froom (array_of (R E) k) b (o + 0 * sz E))) whole refl $ fjoin ! $
       use0 𝓛 (‵ (Items [])) (empty E 𝓛 [] b o refl) $ fjoin ! $ done !
 
-  -- all of it is room
+  -- the memory of the whole row, without its items
   pub all_room : (xs : List (el_x E)) → length xs ≤ room → ent 𝓤 (sem 𝓛 (All xs)) (sep 𝓤 (sem 𝓛 (froom (ty_array (elτ E) room) b o)) (sem 𝓛 (t (array_of (R E) room) (block_ptr b o))))
   all_room xs le =
       qed 𝓛 (‵ (All xs) ∷ []) ∵ fsplit ! $ move ! (1 ∷ []) $ fsplit ! $ as_written ! (ty_array (elτ E) (room - length xs)) b (o + length xs * sz E) $ move ! (2 ∷ 0 ∷ []) $
       use2 𝓛 (‵ (froom (ty_array (elτ E) room) b o)) (arr_room E 𝓛 b o (length xs) room xs le) $ done !
 
--- the row behind a `&mut`, with other items
+-- the row of a `&mut`, with other items
 module _ (E : El) {M : Type 1} {𝓤 : Ura M} (𝓛 : Logic 𝓤) (row : (Owner E).Denot) (rb ro : ℕ) (us : List Val) (b o : ℕ) (e : row.at ≡ block_ptr b o) where
   pub closed : (xs : List (el_x E))
       → ent 𝓤 (sep 𝓤 (sem 𝓛 (All E 𝓛 (right E row.alloc) b o row.room xs)) (sem 𝓛 (fsep (Mark E row us) (cell_at full_share (Owner E).mir us rb ro))))
@@ -276,7 +277,7 @@ module _ (E : El) {M : Type 1} {𝓤 : Ura M} (𝓛 : Logic 𝓤) (row : (Owner 
       qed 𝓛 (‵ (part_at (R E) full_share w b (i * sz E + o)) ∷ ‵ (Rest i lt) ∷ []) ∵ move ! (1 ∷ []) $ fsplit ! $ move ! (2 ∷ 0 ∷ []) $
       use2 𝓛 (‵ (All E 𝓛 (right E row.alloc) b o row.room (set row.items i w))) (item_in E 𝓛 (right E row.alloc) b o row.room row.items i lt w) $ by ! (closed (set row.items i w))
 
-  -- all of the row but two items, of which the first is lent as it stands
+  -- all of the row but two items, of which the first is borrowed unchanged
   abbrev pub PairRest : (i j : ℕ) → Pair E 𝓛 (right E row.alloc) b o row.room row.items i j → Fml
   PairRest i j two = fsep two.besides (fsep (Mark E row us) (cell_at full_share (Owner E).mir us rb ro))
 

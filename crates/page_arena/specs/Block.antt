@@ -1,4 +1,4 @@
--- Blocks of granules: 2^order of them, from a multiple of 2^order on.
+-- Free and taken blocks of 2^order granules, each of which begins at a multiple of 2^order.
 use Rattle.std.specs.Prelude.{◌≡◌, ℕ, ◌+◌, ◌%◌, ◌^◌, ◌<◌, ◌≤◌, Bool, true, false, List, ◌++◌, length, take, drop, replicate}
 use Rattle.page_arena.specs.Page.{is_free}
 

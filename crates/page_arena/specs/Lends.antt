@@ -1,4 +1,4 @@
--- A row with a mutable borrow of one of its items, and the row after the borrow.
+-- A mutable borrow of one item of a row (an array of items), and the row after the borrow.
 use Rattle.std.specs.Prelude.{◌≡◌, ℕ, ◌<◌, List, length, slice_set}
 use Rattle.std.specs.Borrow.{Fml, RattleType, MutBor, Lends}
 use Rattle.std.specs.declared.alloc.Allocator.{Ghosts}

@@ -1,4 +1,4 @@
--- The choice of the plainest store.
+-- The block that the simple page store takes: the lowest free block of the requested order.
 use Rattle.std.specs.Prelude.{ℕ, ◌+◌, ◌%◌, ◌^◌, ◌==◌, ◌&&◌, Bool, nat_le, List, length, Option}
 use Rattle.std.specs.List.{find, list_all, range_with_len}
 use Rattle.page_arena.specs.Page.{is_free}

@@ -1,4 +1,4 @@
--- The ownership of a row, and of a shared borrow of it, with items of the type R.
+-- The ownership of a row (an array of items of type `R`), and of a shared borrow of the row.
 use Rattle.std.specs.Prelude.{ℕ, ◌+◌, ◌*◌, ◌^◌, ◌<◌, List, ◌∷◌, ◌++◌, length, take, drop}
 use Rattle.std.specs.Mem.{type_size}
 use Rattle.core.specs.Allocator.{block_with_items}

@@ -1,4 +1,4 @@
--- The pages of a machine, and the flags of the free ones. RMM 1.0, Granule.
+-- The pages of a machine, with a flag for each page that says whether the page is free. RMM 1.0, Granule.
 use Rattle.std.specs.Prelude.{◌≡◌, ℕ, ◌≤◌, Bool, false, List, [], length, slice_index_or, slice_set, All}
 
 -- the bytes of a page; a granule outside the machine has none

@@ -1,4 +1,4 @@
--- Theorems on pages: their bytes, and that a store stays sized.
+-- Theorems on the sizes of pages and page stores, which no write, take or give changes.
 use Rattle.std.specs.Prelude.{◌≡◌, ℕ, ◌+◌, ◌<◌, ◌≤◌, Bool, List, [], length, replicate, set}
 use Rattle.std.proofs.Common.{sym, ap, ◌∙◌, ⊎_elim, arith}
 use Rattle.std.proofs.lemmas.List.{length-set, length-replicate}

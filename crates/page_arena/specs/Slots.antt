@@ -1,4 +1,4 @@
--- The slot of each page's bytes.
+-- The slot of memory that holds each page's bytes. Pages without a slot of their own share slot 0.
 use Rattle.std.specs.Prelude.{◌≡◌, ◌≢◌, ℕ, zero, suc, ◌<◌, List, [], ◌∷◌, length, map, get_or}
 use Rattle.granule_addr.specs.Page.{zero_page}
 

@@ -1,4 +1,4 @@
--- The invariant of the pages: one row of slots.
+-- The invariant of the pages of a machine, whose slots are in one allocation.
 use Rattle.std.specs.Prelude.{◌≡◌, ℕ, ◌+◌, ◌≤◌, List, length, get_or}
 use Rattle.granule_addr.specs.Page.{zero_page}
 use denote.RawPtr.{Ptr}

@@ -1,4 +1,5 @@
--- Theorems on the words of pages: with them no crate above depends on bytes.
+-- Theorems on the 64-bit words of pages: those after a word is written, and those of a page of zeros. With these
+-- theorems, no crate above depends on bytes.
 use Rattle.std.specs.Prelude.{◌≡◌, ◌≢◌, ℕ, ◌+◌, ◌-◌, ◌*◌, ◌^◌, ◌<◌, ◌≤◌, ◌⊎◌, List, [], ◌++◌, length, take, drop, replicate, get_or, slice_range}
 use Rattle.std.specs.Int.{from_le_bytes, to_le_bytes, w64}
 use Rattle.std.proofs.Common.{refl, sym, ap, ◌∙◌, inl, inr, ⊎_elim, arith, length-append, append_assoc}

@@ -5,8 +5,8 @@
 //! `PageStore`. A store requires of its caller that pages are taken before they are written or given back.
 //!
 //! `RawPages` are the pages of a machine in one allocation. A page that was never written costs nothing: all such pages
-//! are borrowed as one page of zeros, and a page gets a slot when it is first written. Pointers are in the six
-//! functions of `row.rt`.
+//! share one page of zeros, and a page gets a slot when it is first written. Pointers are used in the six functions of
+//! `row.rt` alone.
 #![tactic(auto)]
 
 mod pages;

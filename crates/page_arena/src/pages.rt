@@ -38,8 +38,8 @@ impl Model for RawPages {
 impl RawPages {
     ghost use Rattle.page_arena.specs.LendsPage.{lends_page};
 
-    /// Creates `pages` pages whose bytes are all zero. `BadSize` comes exactly when `pages` is not 1 to 4,096; the only
-    /// other error is `Memory`.
+    /// Creates `pages` pages whose bytes are all zero. The error is `BadSize` exactly if `pages` is not 1 to 4,096; the
+    /// only other error is `Memory`.
     pub fn build(alloc: Global, pages: u16) -> Result<RawPages, BuildError>
         ensures bad_size { IsErrOf result BuildError.BadSize ↔ ((pages < 1) ⊎ (4096 < pages)) }
         ensures zero { IfOk result (λ raw. raw ≡ replicate pages zero_page) }

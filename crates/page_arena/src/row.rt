@@ -110,8 +110,8 @@ impl<T, A: Allocator> Row<T, A> {
         unsafe { (&*start.first.add(read), &mut *start.first.add(write)) }
     }
 
-    /// Writes `item` at `index` of the array. It replaces the value there, or comes after the last value if `index` is
-    /// the number of values.
+    /// Writes `item` at `index` of the array. The item replaces the value there, or is added after the last value if
+    /// `index` is the number of values.
     pub(crate) fn put(&mut self, start: Start<T>, index: usize, item: T)
         requires { (start.first ≡ self.old.at) × (index ≤ length self.old.items) × (index < self.old.room) × Reaches T.row self.old.room }
         ensures { (self.new.at ≡ self.old.at) × (self.new.room ≡ self.old.room) × (self.new.alloc ≡ self.old.alloc) × (self.new.items ≡ put_at self.old.items index item) }

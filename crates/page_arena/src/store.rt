@@ -42,8 +42,8 @@ pub trait PageStore {
         ensures unchanged { IfNone result (free_flags self.new ≡ free_flags self.old) }
         ensures bytes { page_bytes self.new ≡ page_bytes self.old };
 
-    /// Takes a given block, if the block is free. It is the block of the given order at granule `first`. `false`, with
-    /// nothing changed, comes exactly when the block is not aligned, not inside the machine, or not free.
+    /// Takes the block of the given order at granule `first`, if the block is free. Returns `false`, and changes
+    /// nothing, exactly if the block is not aligned, not inside the machine, or not free.
     fn take_at(&mut self, order: Order, first: Gran) -> bool
         ensures answer { IsTrue result ↔ IsFreeBlock (free_flags self.old) order first }
         ensures taken { OnTrue result

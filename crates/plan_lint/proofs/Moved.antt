@@ -1,4 +1,4 @@
--- Findings that are put in order, and one more of them.
+-- Proofs that the stated properties of findings still hold after the findings are sorted, or after one is added.
 use Rattle.std.proofs.Common.{List, [], ◌∷◌, ◌++◌, ◌≡◌, ℕ, length, ap, sym, ◌∙◌, subst}
 use Rattle.std.specs.Prelude.{All, Any, Ok, Err, Some, None, Result}
 use Rattle.std.specs.List.Sorted.{IsPermutation, IsNonDecreasingBy}

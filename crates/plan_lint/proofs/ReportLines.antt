@@ -1,4 +1,4 @@
--- The text of a report, by its parts.
+-- Proof that the text of a report is the text of each finding, followed by the size of the plan.
 use Rattle.std.proofs.Common.{◌≡◌, ℕ, List, [], ◌∷◌, ◌++◌, string_bytes, Result, Ok, Err, refl, sym, ap, ◌∙◌, append_assoc}
 use Rattle.std.specs.Prelude.{is_some, is_ok}
 use Rattle.std.specs.List.{flat_map}
@@ -28,7 +28,7 @@ module _ (source : List ℕ) where
     appended = this.appended ∙ ap (λ (l : List ℕ). l ++ this.text) before.appended ∙ append_assoc old before.lines this.text;
   }
 
--- there is a size exactly of what is a plan
+-- there is a size exactly if the bytes are a plan
 pub is_some-size_in : (read : Result Plan PlanFault) → is_some (size_in read) ≡ is_ok read
 is_some-size_in (Ok plan) = refl
 is_some-size_in (Err fault) = refl

@@ -1,4 +1,4 @@
--- The errors and warnings that a check of bytes as a plan finds.
+-- The findings on bytes that are checked as a plan: warnings if the bytes are a plan, errors otherwise.
 use Rattle.std.specs.Prelude.{◌≡◌, ◌⊎◌, ℕ, ◌≤◌, List, length, sum_by, All, Any, Option, Some, None, Result, Ok, Err}
 use Rattle.std.specs.List.Sorted.{IsNonDecreasingBy}
 use Rattle.realm_plan.specs.Plan.{Plan, plan_of}

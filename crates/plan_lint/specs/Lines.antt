@@ -1,4 +1,5 @@
--- The lines of a report. A source is a text that is shown already.
+-- The lines of a report: each finding with its source, position and excerpt, and the size of the plan. The source is
+-- given as plain text.
 use Rattle.std.specs.Prelude.{◌≡◌, ℕ, ◌==◌, List, [], ◌∷◌, ◌++◌, codes, string_bytes, Option, Some, None, if◌then◌else◌}
 use Rattle.std.specs.Fmt.{decimal}
 use Rattle.std.specs.List.{flat_map}

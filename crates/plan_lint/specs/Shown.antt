@@ -1,4 +1,4 @@
--- Bytes of any kind as one line of text.
+-- Arbitrary bytes shown as one line of text, without ASCII control characters and invalid UTF-8.
 use Rattle.std.specs.Prelude.{◌≡◌, ℕ, ◌==◌, ◌||◌, nat_lt, max, List, [], ◌∷◌, ◌++◌, map, replicate, if◌then◌else◌}
 use Rattle.std.specs.Str.Lossy.{utf8_lossy}
 

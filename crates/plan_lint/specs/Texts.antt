@@ -1,4 +1,4 @@
--- The report of a check of bytes as a plan.
+-- The report on bytes that are checked as a plan: its text, and whether the bytes are a plan.
 use Rattle.std.specs.Prelude.{◌≡◌, ℕ, List, ◌++◌, is_ok, string_bytes}
 use Rattle.realm_plan.specs.Plan.{plan_of}
 use Rattle.plan_lint.specs.Findings.{AreFindings, size_in}

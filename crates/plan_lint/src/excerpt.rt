@@ -8,8 +8,7 @@ use std::alloc::{AllocError, Global};
 /// caret, and the second begins above it.
 const MOST: usize = 80;
 
-/// The number of bytes kept when one side of an excerpt is too long. The limit is `MOST` bytes. Two dots replace the
-/// other bytes.
+/// The number of bytes kept of an excerpt's side that has more than `MOST` bytes. Two dots replace the other bytes.
 const LESS: usize = 78;
 
 /// A position in a text. The line and the column are counted from 1.
@@ -35,7 +34,7 @@ fn begins_char(byte: u8) -> bool {
     byte < 128 || byte >= 192
 }
 
-/// Returns the position after the first `at` bytes of a text. It is counted on from the earlier position `from`.
+/// Returns the position after the first `at` bytes of a text, counted on from the earlier position `from`.
 pub(crate) fn place_at(text: &[u8], from: Cursor, at: usize) -> Cursor {
     let mut place = from;
     for byte in text.get(from.at..at).unwrap_or(&[]) {

@@ -40,7 +40,7 @@ pub struct Finding {
 }
 
 /// A growing list of findings, with a flag that records a failed allocation. Code that adds a finding need not check
-/// for one.
+/// the flag.
 #[derive(Drop)]
 pub struct Findings {
     pub alloc: Global,
@@ -108,7 +108,7 @@ impl Findings {
         self.note("help: ", words, pieces);
     }
 
-    /// Adds a line to the notes of the last finding. The line starts with `beginning`.
+    /// Adds a line that starts with `beginning` to the notes of the last finding.
     pub(crate) fn note(&mut self, beginning: &str, words: &str, pieces: &[Piece<'_>]) {
         let Ok(line) = filled_message(self.alloc, beginning, words, pieces) else {
             self.has_failed = true;

@@ -37,7 +37,7 @@ pub struct Form {
     pub word: &'static str,
     /// The number and the names of the step's arguments, in words for a message.
     pub takes: &'static str,
-    /// The kinds of the step's arguments. Further ones, if there may be any, are pages.
+    /// The kinds of the step's arguments. Further arguments, if the step can have any, are pages.
     pub kinds: &'static [OperandKind],
     /// The greatest number of arguments that the step can have.
     pub most: usize,
@@ -103,8 +103,7 @@ pub(crate) fn form_of(word: &str) -> Option<Form> {
     None
 }
 
-/// Finds a step's first word by the name of the step's command. The name is that in the RMI, in a trace or in a
-/// history.
+/// Finds a step's first word by the name that the step's command has in the RMI, in a trace or in a history.
 pub(crate) fn step_of_command(name: &str) -> Option<&'static str> {
     for form in &FORMS {
         for other in form.other_names.split_whitespace() {

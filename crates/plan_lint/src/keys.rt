@@ -18,8 +18,8 @@ impl MeantKeys {
     }
 }
 
-/// Reports the unknown and misplaced keys of a plan. Returns which keys were probably meant by them. A key that is
-/// there several times in a row, as in `[machine.cpu]` below `[machine]`, is reported once.
+/// Reports the unknown and misplaced keys of a plan, and returns the keys that were probably meant. A key that is there
+/// several times in a row, as in `[machine.cpu]` below `[machine]`, is reported once.
 pub(crate) fn report_unknown_keys(outline: &Outline, found: &mut Findings) -> MeantKeys {
     let mut meant = MeantKeys {
         pages: outline.has_deeper_pages,
@@ -108,7 +108,7 @@ fn is_near_steps(key: &KeyValue, found: &mut Findings) -> bool {
     found.nearest(&["steps"], key.name.as_str()).is_some()
 }
 
-/// Returns whether a key of a build was probably meant as `steps`. The build lacks `steps`.
+/// Returns whether a key of a build that lacks `steps` was probably meant as `steps`.
 pub(crate) fn means_steps(build: &Build, found: &mut Findings) -> bool {
     for key in &build.keys {
         if is_near_steps(key, found) {

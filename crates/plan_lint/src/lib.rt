@@ -1,8 +1,8 @@
 //! Findings on the text of a plan: errors, or likely slips. Each has a message and a position.
 //!
-//! Values to values: nothing here reads a device or knows a host. Whether bytes are a plan is for `realm_plan` to say,
-//! and its fault is always among the errors. Everything else here finds words and places. A walk over the text finds
-//! keys, steps and turns with their places; each module has one kind of mistake.
+//! No function reads a device or depends on a host. `realm_plan` decides whether bytes are a plan, and its fault is
+//! always among the errors. The rest of this crate finds the messages and the positions. A walk over the text finds
+//! keys, steps and turns with their positions; each module has one kind of mistake.
 #![tactic(auto)]
 
 mod builds;

@@ -8,7 +8,7 @@ const LONGEST: usize = 40;
 #[derive(Clone, Copy)]
 pub enum Piece<'a> {
     Words(&'a str),
-    /// A text in backquotes. Of a long one the beginning is shown.
+    /// A text in backquotes. If the text is too long, only its beginning is shown.
     Quoted(&'a str),
     Count(usize),
     Number(u64),

@@ -1,7 +1,8 @@
-//! A lower bound on the number of turns that a build's steps take. It holds whatever other builds do.
+//! A lower bound on the number of turns that a build's steps take, whatever other builds do.
 //!
 //! A `take` is surely accepted if all takes of the plan together ask for no more than the machine has. A `delegate` of
-//! a page of such a take is, and so is a `realm` in two such pages. No more is known without a run.
+//! a page of such a take is accepted too, and so is a `realm` in two pages that were delegated so. Nothing else is
+//! known without a run.
 use granule_addr::IpaWidth;
 use host_commands::{Cmd, Step};
 use realm_plan::{Plan, PlanStep};
@@ -13,7 +14,7 @@ const MOST_OPEN: usize = 512;
 /// The greatest order of a block.
 pub const MOST_ORDER: u8 = 9;
 
-/// The number of pages in a block of this order. Blocks of more than 4,096 pages count as 4,096 pages.
+/// The number of pages in a block of the given order, or 4,096 if the block has more pages.
 pub(crate) fn block_len(order: u8) -> usize {
     1 << order.min(12)
 }
@@ -31,9 +32,9 @@ pub struct KnownState {
     delegated: Vec<u16>,
     /// Whether a `realm` step surely succeeds once its pages are delegated.
     can_have_realm: bool,
-    /// Whether some further commands of the build can still be known to succeed. If so, the next `take` surely
-    /// succeeds. It is `false` after an `undo`, `abort`, `back` or `enter` step, and from the start if pages, history
-    /// or journal may run out.
+    /// Whether the next `take` of the build surely succeeds, and further commands can still be known to succeed. The
+    /// value is `false` after an `undo`, `abort`, `back` or `enter` step, and from the start if pages, history or
+    /// journal may run out.
     is_plain: bool,
 }
 

@@ -72,7 +72,7 @@ impl Value {
 
 /// A TOML key with its span and its value.
 pub struct KeyValue {
-    /// The name of the key. Of a dotted key it is only the first part.
+    /// The name of the key, or only the first part of the name of a dotted key.
     pub name: String,
     pub key: Span,
     pub value: Value,

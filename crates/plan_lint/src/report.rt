@@ -10,7 +10,7 @@ use crate::finding::{Finding, Severity};
 use crate::judging::{Size, judge};
 use std::alloc::{AllocError, Global};
 
-/// The number of bytes that are searched for a line feed. The search begins at the position of a finding.
+/// The number of bytes that are searched for a line feed, from the position of a finding on.
 const AHEAD: usize = 81;
 
 /// A report on a document: its text, and whether the document is a plan.
@@ -94,7 +94,7 @@ fn push_finding(
     push_notes(alloc, text, finding.notes.as_slice())
 }
 
-// Appends all findings. In the order of their places, the bytes are gone through once.
+// Appends all findings. They are in the order of their positions, so the bytes are read through once.
 fn push_findings(
     alloc: Global,
     text: &mut String,

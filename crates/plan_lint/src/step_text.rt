@@ -11,7 +11,7 @@ const PAGE: u64 = 4096;
 /// The greatest length of a number that is printed without backquotes, in bytes.
 const LONGEST: usize = 20;
 
-/// A string in a plan that is not a valid step. The fault and the position of the string are given too.
+/// A string in a plan that is not a valid step, with the string's fault and span.
 #[derive(Clone, Copy)]
 pub struct InvalidStep<'a> {
     pub written: &'a str,

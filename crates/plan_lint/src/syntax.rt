@@ -6,8 +6,8 @@ use realm_plan::PlanFault;
 use std::ops::Range;
 use std::str::from_utf8;
 
-/// Reports the mistake at which the TOML reader stopped. The words are the reader's, unless the mistake is one that
-/// plans have.
+/// Reports the mistake at which the TOML reader stopped. The message is the reader's, unless a more specific message
+/// exists for the mistake.
 pub(crate) fn report_syntax(
     bytes: &[u8],
     range: Range<usize>,

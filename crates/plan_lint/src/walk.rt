@@ -1,7 +1,7 @@
 //! The walk that finds the parts of a plan in its text.
 //!
-//! The text is one that the reader of TOML has taken, so the walk asks only what comes next. At anything that it does
-//! not expect it ends, and the parts after that place are not found.
+//! The TOML parser has accepted the text already, so the walk only checks which part is next. The walk ends at the
+//! first part that it does not expect, and finds no part after it.
 use crate::finding::Span;
 use crate::outline::{Build, Content, KeyValue, Outline, PLAN_KEYS, Value};
 use std::alloc::{AllocError, Global};

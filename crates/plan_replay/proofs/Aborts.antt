@@ -1,4 +1,4 @@
--- The aborts of a run.
+-- Proof that each turn of an abort in a run reports correctly whether the abort is done.
 use Rattle.std.proofs.Common.{◌≡◌, ◌≢◌, ℕ, zero, suc, ◌+◌, ◌-◌, ◌==◌, ◌<◌, Bool, true, false, cond, eqb, List, [], ◌∷◌, length, get_or, set, replicate, Option, Some, None, Result, Ok, Err, refl, sym, ap, ◌∙◌, subst, arith}
 use Rattle.std.specs.Prelude.{nat_lt}
 use Rattle.std.specs.Bool.{OnTrue, OnFalse}
@@ -130,7 +130,7 @@ module _ (from to : Position) (build : ℕ) (answer : TurnAnswer) (after : PlanC
   abbrev place : PlanCursor
   place = place_of from.places build
 
-  -- what is told is so, and the abort stands half way if anything is left
+  -- the turn's answer is true, and the abort is half way if anything is left
   record Stands : Type 0 where
     tells_it : ReportsOfAbort answer from build to
     half : 0 < after.left → Halfway to.host build after.left
@@ -206,7 +206,7 @@ module _ (from to : Position) (build : ℕ) (answer : TurnAnswer) (after : PlanC
 
 -- ---- a run
 
--- the abort that a build is at, with something left, is half way
+-- an abort that has begun, with something left to undo, is half way
 abbrev IsMidway : Plan → HostView → ℕ → PlanCursor → Type 0
 IsMidway plan host build place = step_after plan build place.done ≡ Some (Whole Abort) → 0 < place.left → Halfway host build place.left
 

@@ -1,4 +1,4 @@
--- The lines of a map, one after the other.
+-- Proof that the lines of a host's map, appended one after another, are the lines of all pages and builds.
 use Rattle.std.proofs.Common.{◌≡◌, ℕ, ◌+◌, ◌<◌, List, ◌++◌, length, Some, sum, ap, sym, ◌∙◌, slice_index, arith, rules}
 use Rattle.std.specs.Prelude.{Option, IsSome, option_map, slice_get, unwrap_or}
 use Rattle.std.specs.List.{flat_map, range_with_len}
@@ -22,11 +22,11 @@ lines_more f n old between line new so_far appended is_line =
     appended ∙ ap (λ t. t ++ line) so_far ∙ ap (λ l. (old ++ flat_map f (range_with_len 0 n)) ++ l) is_line
     ∙ flat_map_more f old (range_with_len 0 n) n ∙ ap (λ ns. old ++ flat_map f ns) (sym (range_with_len_more 0 n n (omega arith)))
 
--- what the host tells of a page is there
+-- the host has a value for a page of the build
 pub page_is_told : {A : Type 0} (tells : ℕ → A) (pages : List ℕ) (page : ℕ) (told : Option A) → page < length pages → told ≡ option_map tells (slice_get pages page) → IsSome told
 page_is_told tells pages page told inside is = rw (is, slice_get-get_or pages page 0 inside) (search rules)
 
--- the line of a page, from what the host tells of it
+-- the line of a page, from the host's values for it
 pub page_line_is :
     (host : HostView) (build page : ℕ) (state : GranuleState) (total : ℕ)
     → page < length (pages_of_build host build)

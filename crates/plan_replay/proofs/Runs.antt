@@ -1,4 +1,4 @@
--- Runs that get one more turn.
+-- Proof that a run followed by one more turn is a run.
 use Rattle.std.proofs.Common.{◌≡◌, ℕ, Result, Ok, Err, OnErr, ◌+◌, ◌<◌, ◌≤◌, List, [], ◌∷◌, ◌++◌, length, take, get_or, refl, sym, ap, ◌∙◌, subst}
 use Rattle.std.specs.List.{flat_map}
 use Rattle.std.proofs.lemmas.List.{flat_map_more, take_all, take_more}
@@ -57,7 +57,7 @@ module _ {T : Type 0} (Lead : List ℕ → List T → Position → Type 0) (text
 abbrev pub LeadsTold : Plan → HostView → List ℕ → List Turn → Position → Type 0
 LeadsTold plan from order turns to = AreTurns plan order (start from) turns to
 
--- what holds anyhow holds at an error
+-- what holds in any case holds at an error
 pub at_err : {T E P : Type 0} (result : Result T E) → P → OnErr result P
 at_err (Ok value) holds = tt
 at_err (Err error) holds = holds

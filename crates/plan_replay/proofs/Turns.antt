@@ -1,4 +1,4 @@
--- The turn of a step, which does not count steps; and the cursor of a build.
+-- Proof that the turn of a step leaves the number of done steps in the build's cursor unchanged.
 use Rattle.std.proofs.Common.{◌≡◌, ℕ, List, length, slice_index_or, ◌<◌, ◌≤◌, ◌-◌, arith, ◌==◌, true, false, Result, Ok, Err, ap}
 use Rattle.std.specs.Bool.{OnTrue, OnFalse}
 use Rattle.std.proofs.lemmas.List.{get_or_default}

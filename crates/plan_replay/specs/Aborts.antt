@@ -1,4 +1,4 @@
--- The meaning of an abort's turns for the machine.
+-- The state of the host after a turn of an abort, for each answer that the turn can have.
 use Rattle.std.specs.Prelude.{◌≡◌, ℕ, [], true, false, Some}
 use Rattle.host_ledger.specs.View.{HostView, world_of, open_of, is_aborting}
 use Rattle.realm_model.specs.History.{erase, replay, IsLegal}
@@ -16,8 +16,8 @@ pub record HasLeftNothing (host : HostView) (build : ℕ) : Type 0 where
   pub no_trace : replay host.limits (erase build host.history) ≡ Some (world_of host)
 
 -- The state after a turn of an abort, by its answer. The abort is done: the build has left nothing. One operation was
--- undone, and more are to come: the build is in abort. It is refused: this was the abort's first turn, and the host is
--- as it was. There is no other answer.
+-- undone, and more are left: the build is in abort. The abort is refused: this was the abort's first turn, and the host
+-- is as it was. There is no other answer.
 abbrev pub ReportsOfAbort : TurnAnswer → Position → ℕ → Position → Type 0
 ReportsOfAbort (Ended kind) from build to = HasLeftNothing to.host build
 ReportsOfAbort Nothing from build to = HasLeftNothing to.host build

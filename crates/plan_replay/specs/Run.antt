@@ -1,4 +1,4 @@
--- The runs of a plan, and the text of one.
+-- The runs of a plan as sequences of turns, and the printed text of a run.
 use Rattle.std.specs.Prelude.{◌≡◌, ℕ, List, [], ◌∷◌, ◌++◌, length, replicate, sum, Option, Some, None, slice_get, slice_index, slice_index_or, slice_set, option_and_then, nat_le, take, ◌==◌, ◌&&◌, Bool, if◌then◌else◌}
 use Rattle.std.specs.List.{flat_map, range_with_len}
 use Rattle.host_commands.specs.declared.cmd.Step.TheVariants.{Abort}
@@ -45,7 +45,7 @@ given_up number = if number == giving_up then Some (Whole Abort) else None
 abbrev pub step_numbered : Bool → List PlanStep → ℕ → Option PlanStep
 step_numbered gives_up steps number = if gives_up && nat_le giving_up number then given_up number else slice_get steps number
 
--- the step of a build that comes after `done` others, if there is one
+-- the step of a build after `done` others, if there is one
 abbrev pub step_after : Plan → ℕ → ℕ → Option PlanStep
 step_after plan build done = option_and_then (λ steps. step_numbered plan.gives_up steps done) (slice_get plan.builds build)
 
@@ -97,7 +97,8 @@ realm_text build (Some realm) = realm_line build realm.0 realm.1
 abbrev pub build_text : HostView → ℕ → List ℕ
 build_text host build = pages_text host build ++ realm_text build (realm_at (world_of host) build)
 
--- The map: the pages of each build in rising number, then its realm, and last the number of pages that nobody leases.
+-- The map: the pages of each build in rising number, then its realm, and last the number of granules that no build
+-- leases.
 abbrev pub map_text : HostView → List ℕ
 map_text host = flat_map (build_text host) (range_with_len 0 8) ++ free_line (length (free_set (world_of host)))
 

@@ -1,4 +1,4 @@
--- The text of a turn.
+-- The printed line of a turn: the build, the step and the answer.
 use Rattle.std.specs.Prelude.{ℕ, List, [], ◌∷◌, ◌++◌, codes}
 use Rattle.std.specs.Fmt.{decimal}
 use Rattle.realm_plan.specs.Answers.{then_number, kind_word, refusal_text, reply_text}

@@ -1,4 +1,4 @@
--- The effect of a turn by its build's step, and its answer.
+-- The effect and the answer of a turn, for each kind of step.
 use Rattle.std.specs.Prelude.{◌≡◌, ℕ, ◌-◌, ◌==◌, Bool, true, false, if◌then◌else◌, Option, Some, None, Result, Ok, Err}
 use Rattle.std.specs.Bool.{OnTrue, OnFalse}
 use Rattle.host_ledger.specs.View.{HostView}

@@ -55,7 +55,7 @@ impl fmt::Display for TurnAnswer {
 }
 
 /// Appends the output line of one turn of a plan's run. The line has the build, the plan's step, and the answer. At an
-/// `Err` the text may have a part of it.
+/// `Err`, the text may have a part of the line.
 pub fn push_turn(
     text: &mut String,
     build: BuildId,

@@ -1,7 +1,7 @@
 //! The run of a plan on a host, and its output. The output has a line for each turn, and the host's final map.
 //!
 //! A turn asks the host for the next step of its build. Its line has the step as it is in the plan, with the host's own
-//! answer (`specs/Turn.antt`, `specs/Run.antt`, `specs/Text.antt`). An abort and a way back take a turn for each
+//! answer (`specs/Turn.antt`, `specs/Run.antt`, `specs/Text.antt`). An abort and a `back` step take a turn for each
 //! operation that they undo. `realm_plan` says what a plan is and how a step is spelled; nothing here reads or writes a
 //! device.
 #![tactic(auto)]

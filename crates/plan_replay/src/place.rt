@@ -6,7 +6,8 @@ use crate::answer::TurnAnswer;
 use realm_host::Mark;
 use realm_plan::MOST_STEPS;
 
-/// The step number for the abort with which a build gives up. The numbers of a plan's steps are lower.
+/// The step number of the abort that follows a refused step, in a plan that gives up. The numbers of a plan's steps are
+/// lower.
 pub const GIVING_UP: usize = MOST_STEPS + 1;
 
 /// Returns the number of the step that follows step `done`. A refused step of a plan that gives up leads to the abort.
@@ -21,9 +22,8 @@ pub fn number_after(gives_up: bool, is_refused: bool, done: usize) -> usize
     }
 }
 
-/// The progress of a build through its steps in a plan. It has the number of steps done, the remaining undos of the
-/// current step, and the last mark. In a plan that gives up the number of steps may be `GIVING_UP`, and once that abort
-/// is over the next one.
+/// The progress of a build in a plan: the number of steps done, the remaining undos of the current step, and the last
+/// mark. In a plan that gives up the number of steps may be `GIVING_UP`, and once that abort is over the next one.
 #[derive(Clone, Copy)]
 pub struct PlanCursor {
     pub done: usize,

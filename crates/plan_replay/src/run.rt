@@ -86,8 +86,8 @@ fn turn<S: PageStore>(
     }
 }
 
-/// Performs all turns of a plan, and appends an output line for each. At an `Err` allocation failed. Then the host has
-/// done only the first turns of the plan, and the text has only their first lines.
+/// Performs all turns of a plan, and appends an output line for each. An `Err` means that allocation failed. The host
+/// has then done only the first turns of the plan, and the text has only their first lines.
 pub fn run_turns<S: PageStore>(
     host: &mut Host<S>,
     plan: &Plan,

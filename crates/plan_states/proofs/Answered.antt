@@ -1,4 +1,4 @@
--- Turns that answer a question, in runs.
+-- Proofs that the evaluated test `is_answer` decides whether the last turn of a schedule answers a question.
 use Rattle.std.proofs.Common.{◌≡◌, ◌≢◌, ℕ, zero, suc, ◌+◌, ◌<◌, ◌==◌, ◌&&◌, ◌||◌, Bool, true, false, not, List, [], ◌∷◌, ◌++◌, map, length, Option, Some, None, inr, refl, sym, subst, ap, ◌∙◌, eq-eqb, ne_eqb, le-leb, zero-add, arith}
 use Rattle.std.specs.Prelude.{◌≤◌, is_some, if◌then◌else◌, slice_get, sum}
 use Rattle.std.specs.List.{list_any, range_with_len}
@@ -48,7 +48,7 @@ is_refusal build step (Some end) is = refusal_by end.build end.step build step e
 
 -- ---- waits
 
--- A step of the build that was refused for want of what builds share.
+-- A step of the build that was refused for lack of a block or a VMID.
 record IsShort (build : ℕ) (end : Option EndOfStep) : Type 0 where
   pub step : ℕ
   pub refused : IsRefusal build step end
@@ -86,7 +86,7 @@ passed test from (suc count) is = elim (test from) as (λ t. test from ≡ t →
 differs : (one other : ℕ) → not (one == other) ≡ true → one ≢ other
 differs one other is same = absurd (cc (eq-eqb one other same))
 
--- a test of the number at a place of those of a range is one of the function's value there
+-- a test of the element at an index of a mapped range is one of the function's value there
 found : (test : Option ℕ → Bool) (f : ℕ → ℕ) → test None ≡ false → (from count place at : ℕ) → at ≡ from + place
     → test (slice_get (map f (range_with_len from count)) place) ≡ true → test (Some (f at)) ≡ true
 found test f none from zero place at same is = absurd cc

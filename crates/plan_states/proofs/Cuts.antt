@@ -1,4 +1,5 @@
--- Layers that are cut.
+-- Proof that a state graph is cut after a layer: the layers up to it stay, and the next layer's states lose their
+-- edges.
 use Rattle.std.proofs.Common.{◌≡◌, ℕ, ◌+◌, List, [], ◌∷◌, ◌++◌, map, take, get_or, Vec, Global, vec_items, sym, ap, ◌∙◌}
 use Rattle.std.specs.Prelude.{slice_index_or}
 use Rattle.std.proofs.lemmas.List.{map-append, take-map}

@@ -1,4 +1,4 @@
--- The members of lists, by recursion: of maps, of filters, of ranges and of lists that are joined.
+-- Lemmas on membership in lists: in mapped, filtered and concatenated lists, and in ranges of numbers.
 use Rattle.std.proofs.Common.{◌≡◌, ℕ, zero, suc, ◌+◌, ◌<◌, ◌≤◌, ◌⊎◌, inl, inr, Bool, true, false, cond, List, [], ◌∷◌, ◌++◌, map, length, get_or, All, refl, sym, ap, subst, ◌∙◌, arith}
 use Rattle.std.specs.Prelude.{AllPairs, Contains, filter}
 use Rattle.std.specs.List.{flat_map, list_all, range_with_len}

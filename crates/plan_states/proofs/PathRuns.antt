@@ -1,4 +1,4 @@
--- Paths of a graph whose edges were run are runs.
+-- Proof that all paths of a state graph are runs of the plan if the log has a turn for each edge.
 use Rattle.std.proofs.Common.{◌≡◌, ℕ, zero, suc, ◌+◌, ◌<◌, List, [], ◌∷◌, map, length, get_or, Option, Some, None, inl, inr, refl, sym, ap, ◌∙◌, subst, add-one}
 use Rattle.std.specs.Prelude.{slice_get, is_some, Vec, vec_items}
 use Rattle.std.specs.declared.alloc.Global.{Global}

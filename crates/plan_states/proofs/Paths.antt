@@ -1,4 +1,4 @@
--- The paths from a state, by those of the states that its edges lead to.
+-- Lemmas on the paths from a state of a graph: each is an edge, and then a path from the state at its end.
 use Rattle.std.proofs.Common.{◌≡◌, ℕ, ◌<◌, ◌==◌, ◌⊎◌, inl, inr, true, false, List, [], ◌∷◌, ◌++◌, map, Some, refl, sym, ap, subst, ◌∙◌, arith, ne_eqb, eq-eqb, lt-ltb}
 use Rattle.std.specs.Prelude.{nat_lt}
 use Rattle.std.specs.List.{find, flat_map}

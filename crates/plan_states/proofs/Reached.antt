@@ -1,4 +1,4 @@
--- Runs from boot: one more turn, the settings that they leave, and the ends that they show.
+-- Lemmas on runs from boot: one more turn, the host's settings, and the step outcomes.
 use Rattle.std.proofs.Common.{◌≡◌, ℕ, ◌+◌, ◌<◌, ◌==◌, Bool, true, false, if◌then◌else◌, List, [], ◌∷◌, ◌++◌, length, get_or, take, All, Option, Some, None, inl, inr, refl, sym, subst, ap}
 use Rattle.std.specs.List.{flat_map}
 use Rattle.std.specs.Prelude.{string_bytes}

@@ -1,4 +1,4 @@
--- The schedules of a whole graph's paths: none is missing, none is another one's, and they rise.
+-- Proofs that the paths of a whole state graph have all schedules of the plan, each once, in ascending order.
 use Rattle.std.proofs.Common.{◌≡◌, ℕ, zero, suc, ◌+◌, ◌-◌, ◌<◌, ◌≤◌, ◌==◌, ◌&&◌, inl, inr, Bool, true, false, cond, List, [], ◌∷◌, ◌++◌, map, length, get_or, drop, All, Option, Some, None, Vec, Global, vec_items, is_some, refl, sym, ap, subst, ◌∙◌, arith, append_assoc, add-one, drop-cons, eqb-true}
 use Rattle.std.specs.Prelude.{◌⊎◌, AllPairs, Contains, count_by, filter, option_and_then, slice_get}
 use Rattle.std.specs.List.{find, list_all, range_with_len}
@@ -46,7 +46,7 @@ module _ (plan : Plan) (graph : Graph) (whole : IsWholeGraph plan graph) where
   abbrev paths_at : ℕ → ℕ → List (Path Label)
   paths_at depth state = paths (drop depth (layers_of graph)) state
 
-  -- behind the last layer there is no state
+  -- after the last layer there is no state
   none_past : (depth state : ℕ) → length graph.layers.items ≡ depth → state < length (states_at graph depth) → ⊥
   none_past depth state past inside =
       let long = length-map graph.progress.items vec_items in
@@ -391,7 +391,7 @@ module _ (plan : Plan) (graph : Graph) (whole : IsWholeGraph plan graph) where
         (ends edge (inl refl)) (turns_used front build (λ e is. ends e (inr is)))
         ∙ sym (sum_by-cons (λ (e : Edge Label). cond (build == e.label.build && is_some e.label.end) 1 0) edge front)
 
-    -- a build that there is does not give up, since an abort may take more turns
+    -- a build of the plan does not give up, since an abort may take more turns
     plain_or_none : (build : ℕ) → (plan.gives_up ≡ false) ⊎ (slice_get plan.builds build ≡ None)
     plain_or_none build = at plan.gives_up refl (slice_get plan.builds build) refl
       where

@@ -1,4 +1,4 @@
--- Tallies: of the paths like that, and their order.
+-- Lemmas on the tally of the paths with a given outcome, and on the sequence of several tallies.
 use Rattle.std.proofs.Common.{◌≡◌, ℕ, zero, suc, ◌≤◌, Bool, true, false, cond, List, [], ◌∷◌, ◌++◌, map, length, min, take, drop, Vec, Global, Option, Some, None, refl, sym, subst, ap, ◌∙◌, arith}
 use Rattle.std.specs.Prelude.{filter, option_map, slice_index_or}
 use Rattle.std.specs.List.{find, insert}

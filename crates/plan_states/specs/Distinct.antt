@@ -1,4 +1,4 @@
--- Graphs in which each end and each map has one number.
+-- The condition that no two step outcomes and no two page maps of a state graph are equal.
 use Rattle.std.specs.Prelude.{◌≢◌, ℕ, ◌<◌, List, length, slice_index_or, string_bytes}
 use Rattle.std.specs.declared.alloc.Global.{Global}
 use Rattle.std.specs.declared.string.String.{String}

@@ -1,4 +1,4 @@
--- The text of the outcomes of all schedules.
+-- The lines of text that report the outcomes of a plan's schedules.
 use Rattle.std.specs.Prelude.{ℕ, ◌==◌, Bool, true, false, ◌&&◌, List, [], ◌∷◌, ◌++◌, codes, filter, length, if◌then◌else◌, Option, Some, None, option_map, unwrap_or, slice_get, string_bytes}
 use Rattle.std.specs.List.{flat_map, range_with_len}
 use Rattle.std.specs.Fmt.{decimal}

@@ -1,4 +1,4 @@
--- The spelling of schedules in plans.
+-- The text of a schedule in a plan: the line `order = [..]`.
 use Rattle.std.specs.Prelude.{ℕ, List, [], ◌∷◌, ◌++◌, codes}
 use Rattle.std.specs.List.{flat_map}
 use Rattle.std.specs.Fmt.{decimal}

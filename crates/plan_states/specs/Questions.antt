@@ -1,4 +1,4 @@
--- The questions for a schedule, and the turns that answer them.
+-- The test whether a turn answers a question about a schedule, such as whether a given step is refused.
 use Rattle.std.specs.Prelude.{ℕ, ◌==◌, nat_le, Bool, true, false, not, ◌&&◌, List, length, map, sum, Option, Some, None, slice_get}
 use Rattle.std.specs.List.{list_any, range_with_len}
 use Rattle.host_commands.specs.declared.refusal.Refusal.{Refusal}
@@ -16,13 +16,13 @@ pages_of_builds host = map (λ build. length (pages_of_build host build)) (range
 
 -- ---- by the end of a turn's step, and the number of pages that each build holds after it
 
--- a refusal for want of a shared resource: no block of the order is free, or no VMID
+-- a refusal for lack of a shared resource: no block of the order is free, or no VMID
 abbrev pub is_of_shared : Option Refusal → Bool
 is_of_shared (Some (NoBlock order)) = true
 is_of_shared (Some NoVmid) = true
 is_of_shared _ = false
 
--- a step of the build is refused for want of a block or a VMID
+-- a step of the build is refused for lack of a block or a VMID
 abbrev pub waits : ℕ → Option EndOfStep → Bool
 waits build None = false
 waits build (Some end) = end.build == build && is_of_shared end.refusal

@@ -1,4 +1,4 @@
--- Runs of a plan from boot, and the ends of steps and the maps that they show.
+-- The runs of a plan from boot, with the step outcomes and the final maps of these runs.
 use Rattle.std.specs.Prelude.{◌≡◌, ◌<◌, ℕ, Bool, false, List, Some, is_some}
 use Rattle.realm_plan.specs.Plan.{Plan}
 use Rattle.plan_replay.specs.Run.{Position, Turn, start, place_of, step_after, map_text, IsTurn, AreTurns}

@@ -1,4 +1,4 @@
--- Paths of a graph that are runs of the plan.
+-- The condition that the paths of a state graph are runs of the plan.
 use Rattle.std.specs.Prelude.{◌≡◌, ℕ, List, [], ◌∷◌, All, Contains, Option, Some, None, option_map, slice_get, string_bytes}
 use Rattle.std.specs.declared.alloc.Global.{Global}
 use Rattle.std.specs.declared.string.String.{String}

@@ -1,4 +1,4 @@
--- The schedules of a plan, against the paths of its graph.
+-- The schedules that a rule allows for a plan, and the relation of the rule to the paths of the state graph.
 use Rattle.std.specs.Prelude.{◌≡◌, ◌<◌, ◌==◌, ◌&&◌, ◌+◌, ℕ, zero, suc, Bool, true, false, List, [], ◌∷◌, ◌++◌, map, filter, Contains, count_by, fold, Option, Some, None, is_some, option_to_list, slice_get, slice_index_or}
 use Rattle.std.specs.List.{find, flat_map, range_with_len}
 use Rattle.realm_plan.specs.Plan.{Plan}

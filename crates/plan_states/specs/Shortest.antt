@@ -28,8 +28,8 @@ pub record IsRefusal (build step : ℕ) (end : Option EndOfStep) : Type 0 where
   pub refusal : Refusal
   pub is_end : end ≡ Some (record { build = build; step = step; refusal = Some refusal })
 
--- The build waits while another holds nothing: a step of it is refused for want of what builds share, and another build
--- of the plan has no page leased.
+-- The build waits while another holds nothing. A step of it is refused for lack of a block or a VMID, and another build
+-- of the plan leases no page.
 pub record IsWait (plan : Plan) (build : ℕ) (end : Option EndOfStep) (host : HostView) : Type 0 where
   pub step : ℕ
   pub refused : IsRefusal build step end

@@ -1,4 +1,4 @@
--- Snapshots of positions of runs.
+-- Snapshots of a run: each build's progress, marks, abort flag and events, and the equality of snapshots.
 use Rattle.std.specs.Prelude.{◌≡◌, ◌<◌, ◌≤◌, ℕ, Bool, false, List, length, Option, Some, None, option_map, slice_get}
 use Rattle.host_ledger.specs.Kept.{AreOfEach}
 use Rattle.host_ledger.specs.Marks.{is_same_mark}

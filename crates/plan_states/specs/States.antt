@@ -1,4 +1,4 @@
--- The states of runs.
+-- The first state of a plan's runs, and the builds that have a step left in a state.
 use Rattle.std.specs.Prelude.{◌≡◌, ◌<◌, ℕ, Bool, false, map, is_some, None, slice_index_or}
 use Rattle.std.specs.List.{range_with_len}
 use Rattle.realm_plan.specs.Plan.{Plan}

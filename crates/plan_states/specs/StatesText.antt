@@ -1,4 +1,4 @@
--- The text of the outcomes of all schedules of a plan, by the graph of its states.
+-- The text of the outcomes of all schedules of a plan, as counted in its state graph.
 use Rattle.std.specs.Prelude.{◌≡◌, ◌⊎◌, ℕ, List, [], ◌∷◌, ◌++◌, codes, length}
 use Rattle.std.specs.Fmt.{decimal}
 use Rattle.realm_plan.specs.Plan.{Plan}

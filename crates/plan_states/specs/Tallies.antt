@@ -1,4 +1,4 @@
--- The tallies of a graph's outcomes: how many of its paths show each, and which one first.
+-- The tallies of a state graph's outcomes: for each outcome, the number of paths, and the schedule of the first path.
 use Rattle.std.specs.Prelude.{◌≡◌, ℕ, zero, suc, nat_lt, ◌==◌, if◌then◌else◌, Bool, true, false, List, [], ◌∷◌, map, filter, length, Option, Some, None, option_map, slice_get}
 use Rattle.std.specs.List.{find, insert}
 use Rattle.schedule_graph.specs.First.{layers_in, shows_none}

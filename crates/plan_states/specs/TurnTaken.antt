@@ -1,4 +1,4 @@
--- One turn of a run, by the code's record of it.
+-- The condition that a `TurnTaken` record describes a turn in a run of a plan.
 use Rattle.std.specs.Prelude.{◌≡◌, ℕ, List, Option, option_map, length}
 use Rattle.host_ledger.specs.View.{world_of, pages_of_build}
 use Rattle.realm_host.specs.Readings.{realm_at}
@@ -10,8 +10,8 @@ use Rattle.plan_states.specs.Reached.{IsReached, IsTurnAt}
 use Rattle.plan_states.specs.Turned.{turn_refusal, moved_after}
 use Rattle.plan_states.specs.declared.running.TurnTaken.{TurnTaken}
 
--- The turn leads from one position to the other. Its refusal, the block that it moved, the VMID of the build's realm and
--- the number of the build's pages are as they are there.
+-- The turn leads from one position to the other. The record has its refusal and the block that it moved. The VMID of
+-- the build's realm and the number of the build's pages are those after the turn.
 pub record IsTurnTaken (plan : Plan) (at : Position) (build : ℕ) (it : TurnTaken) (to : Position) : Type 0 where
   pub told : Option (PlanStep × TurnAnswer)
   pub is_taken : IsTurnAt plan at build (record { turn = record { build = build; told = told }; before = it.before; after = it.after }) to

@@ -1,4 +1,4 @@
--- A turn, the steps that its build had done before and after it, and the end of a step that it shows.
+-- A turn with its build's progress before and after it, and the outcome of the step that the turn ends.
 use Rattle.std.specs.Prelude.{◌≡◌, ℕ, ◌==◌, ◌⊎◌, if◌then◌else◌, true, false, List, [], ◌∷◌, ◌++◌, Option, Some, None, option_and_then, slice_get}
 use Rattle.realm_model.specs.declared.act.Act.{Act}
 use Rattle.realm_model.specs.declared.act.Act.TheVariants.{Take, UnTake}

@@ -1,4 +1,4 @@
--- Whole graphs: each state has a turn of each build that has a step left, and each turn leads on.
+-- Whole state graphs, in which each build with a step left in a state has exactly one edge from that state.
 use Rattle.std.specs.Prelude.{◌≡◌, ℕ, ◌+◌, ◌<◌, ◌==◌, ◌&&◌, nat_lt, Bool, true, false, not, List, [], map, filter, length, Option, Some, None, is_some, Vec, vec_items, slice_get, slice_index_or, if◌then◌else◌}
 use Rattle.std.specs.List.{list_all, range_with_len}
 use Rattle.std.specs.declared.alloc.Global.{Global}

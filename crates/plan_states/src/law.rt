@@ -30,9 +30,9 @@ pub fn paths_are_all_schedules()
         → (most : ℕ) → length graph.layers.items ≤ most + 1 → map builds_of_path (paths_of graph) ≡ schedules_after left most [] }
 {}
 
-/// The paths of a state graph are in ascending order of their schedules. This holds for a whole graph. The order is
-/// lexicographic and strict: of two paths the earlier has the lower build at the first turn at which they differ. So no
-/// two paths have the same schedule, and a count of paths is one of schedules.
+/// Proves that the paths of a whole state graph are in ascending order of their schedules. The order is lexicographic
+/// and strict: of two paths the earlier has the lower build at the first turn at which they differ. So no two paths
+/// have the same schedule, and a count of paths is one of schedules.
 pub fn path_schedules_rise()
     ensures rise { (plan : Plan) (graph : Graph) → IsWholeGraph plan graph
         → AllPairs (λ (one other : List ℕ). is_before one other ≡ true) (map builds_of_path (paths_of graph)) }
@@ -59,17 +59,17 @@ pub fn single_turns_make_a_rule()
     ensures { (plan : Plan) (graph : Graph) → IsWholeGraph plan graph → HasSingleTurns plan → IsRuleOf plan graph (by_turns plan) }
 {}
 
-/// On each path of a state graph, each build finishes every step once, in sequence. The sequence is that of the plan.
-/// This holds for a whole graph, unless builds give up.
+/// Proves that on each path of a whole state graph, each build finishes every step once, in the plan's sequence. This
+/// holds unless builds give up.
 pub fn paths_end_each_step()
     ensures { (plan : Plan) (graph : Graph) → IsWholeGraph plan graph → plan.gives_up ≡ false
         → All (λ (path : Path Label). (build : ℕ) → build < 8 → steps_ended graph.ends.items build path ≡ range_with_len 0 (step_number plan build))
         (paths_of graph) }
 {}
 
-/// On each path of a state graph, a build's finished steps follow the plan's sequence. They do so until no step is
-/// left. This holds for a whole graph, even if builds give up. If they do, a refused step is followed by the build's
-/// abort, and nothing comes after the abort.
+/// Proves that on each path of a whole state graph, a build finishes its steps in the plan's sequence until none is
+/// left. This holds even if builds give up. If they do, a refused step is followed by the build's abort, and nothing
+/// comes after the abort.
 pub fn paths_end_steps_in_sequence()
     ensures { (plan : Plan) (graph : Graph) → IsWholeGraph plan graph
         → All (λ (path : Path Label). (build : ℕ) → build < 8 → AreInSequence plan build 0 (ends_of graph.ends.items build path)) (paths_of graph) }

@@ -1,4 +1,4 @@
-//! The outcomes of all schedules of a plan. They are counted in a graph of the states that the plan's runs reach.
+//! The outcomes of all schedules of a plan, counted in a graph of the states that the plan's runs reach.
 //!
 //! Schedules that led to the same state have the same further turns and answers. A state is the operations of each
 //! build, and the blocks that were leased and given back (`state.rt`). The states after the same number of turns are a

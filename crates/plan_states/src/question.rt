@@ -14,7 +14,7 @@ use schedule_graph::LabelProperty;
 /// The number of pages that each build holds.
 pub type PagesHeld = [u16; 8];
 
-/// A question about the last turn of a schedule. It asks whether the turn has a given property.
+/// A question that asks whether the last turn of a schedule has a given property.
 #[derive(Clone, Copy, Drop)]
 pub enum TurnQuestion {
     /// Asks whether step `step` of build `build` is refused in the last turn.
@@ -25,7 +25,7 @@ pub enum TurnQuestion {
     Leased { granules: usize },
 }
 
-// Whether a step was refused for want of what builds share: a block, or a VMID.
+// Whether a step was refused for lack of a block or a VMID, which builds share.
 fn is_of_shared(refusal: Option<Refusal>) -> bool
     ensures { result ≡ is_of_shared refusal }
 {
@@ -46,7 +46,7 @@ fn refuses_step(end: Option<EndOfStep>, build: usize, step: usize) -> bool
     }
 }
 
-// Whether a turn ends a step of build `build`, and is refused for want of a block or a VMID.
+// Whether a turn ends a step of build `build`, and is refused for lack of a block or a VMID.
 fn waits(end: Option<EndOfStep>, build: usize) -> bool
     ensures { result ≡ waits build end }
 {

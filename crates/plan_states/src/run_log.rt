@@ -22,8 +22,7 @@ use realm_plan::Plan;
 use realm_program::Fault;
 use std::alloc::{AllocError, Global};
 
-/// The log entry of a turn that was run. It has the label of the turn's edge, and the indices of the snapshots before
-/// and after the turn.
+/// The log entry of a turn: the label of the turn's edge, and the indices of the snapshots before and after the turn.
 #[derive(Clone, Copy)]
 pub(crate) struct LoggedTurn {
     pub(crate) label: Label,
@@ -31,8 +30,8 @@ pub(crate) struct LoggedTurn {
     pub(crate) to: usize,
 }
 
-/// The log of the turns that were run to check a state graph's paths. It also has the snapshots before and after the
-/// turns. The first snapshot is that at boot.
+/// The log of the turns that were run to check a state graph's paths, with the snapshots before and after the turns.
+/// The first snapshot is that at boot.
 pub(crate) struct RunLog {
     pub(crate) snapshots: Vec<Snapshot>,
     pub(crate) turns: Vec<LoggedTurn>,

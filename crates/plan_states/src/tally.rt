@@ -1,8 +1,8 @@
-//! Outcomes, and the number of schedules with each.
+//! Tallies of outcomes: each outcome, with the number of schedules that have it.
 use crate::step_end::EndOfStep;
 use schedule_graph::Count;
 
-/// An outcome, and the number of schedules that have it. The tally also has the first of these schedules.
+/// An outcome, the number of schedules that have it, and the first of these schedules.
 #[derive(Drop)]
 pub struct PathTally<K> {
     pub outcome: K,

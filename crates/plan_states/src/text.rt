@@ -121,8 +121,8 @@ pub fn push_step_outcomes(
     Ok(())
 }
 
-/// Appends the outcomes of all schedules of a plan. They are the number of schedules, the outcomes of steps, and the
-/// final maps. The one error is that allocation failed; the text may then have a part of the outcomes.
+/// Appends the outcomes of all schedules of a plan: the number of schedules, the outcomes of steps, and the final maps.
+/// The one error is that allocation failed; the text may then have a part of the outcomes.
 pub fn push_outcomes(
     text: &mut String,
     plan: &Plan,

@@ -23,7 +23,7 @@ pub(crate) struct Moved {
     pub(crate) first: u16,
 }
 
-/// The shared resources that a step needs.
+/// The kind of shared resource that a step needs: none, blocks of pages, or VMIDs.
 #[derive(Clone, Copy, PartialEq, Eq)]
 enum Shared {
     Nothing,
@@ -31,8 +31,8 @@ enum Shared {
     Vmids,
 }
 
-/// A key for the turns that a build has taken so far: the index of all but the last, and what distinguishes the last.
-/// That is the index of the step outcome, the first granule of the moved block, and the VMID after the turn.
+/// A key for the turns that a build has taken so far: the index of the earlier turns, and the result of the last turn.
+/// The result is the index of the step outcome, the first granule of the moved block, and the VMID after the turn.
 #[derive(Clone, Copy, PartialEq, Eq, Hash)]
 struct PastTurns {
     before: usize,
@@ -41,7 +41,7 @@ struct PastTurns {
     vmid: Option<u8>,
 }
 
-/// A key for a sequence of leased and returned blocks: the index of all but the last, and the last.
+/// A key for a sequence of leased and returned blocks: the index of the sequence before the last block, and that block.
 #[derive(Clone, Copy, PartialEq, Eq, Hash)]
 struct Moves {
     before: usize,
@@ -65,8 +65,8 @@ pub(crate) struct TurnOutcome {
     pub(crate) end: Option<usize>,
 }
 
-/// A cache that maps the inputs of a turn to the turn's outcome. It has tables of builds' past turns, of sequences of
-/// blocks, and of the outcomes of turns and steps.
+/// A cache that maps the inputs of a turn to the turn's outcome. The cache also has tables of builds' past turns, of
+/// sequences of blocks, and of the outcomes of turns and steps.
 pub(crate) struct Turns {
     builds: HashMap<PastTurns, usize>,
     blocks: HashMap<Moves, usize>,

@@ -285,7 +285,7 @@ fn states_at(graph: &Graph, depth: usize) -> &[StepsDone]
     }
 }
 
-/// Returns the layer of a state graph at index `depth`. It is empty if there is no such layer.
+/// Returns the layer of a state graph at index `depth`, or an empty layer if there is none.
 pub(crate) fn layer_at(graph: &Graph, depth: usize) -> &[Vec<Edge<Label>>]
     ensures { result.now ≡ layer_at graph.now depth }
 {

@@ -1,4 +1,4 @@
--- The undos of an abort, one operation after another.
+-- Proofs that the undos of an abort or a rollback are never refused, and that an abort leaves nothing behind.
 use Rattle.std.proofs.Common.{◌≡◌, ◌≢◌, ℕ, zero, suc, ◌+◌, ◌-◌, ◌<◌, ◌≤◌, Bool, true, false, ◌&&◌, cond, List, [], ◌∷◌, ◌++◌}
 use Rattle.std.proofs.Common.{length, map, reverse, drop, set, Option, Some, None, refl, sym, ap, ◌∙◌, subst, arith, get_or}
 use Rattle.std.specs.Prelude.{nat_le, nat_lt, option_and_then}
@@ -44,7 +44,7 @@ pub record Newest (acts : List Act) : Type 0 where
   pub act : Act
   pub is : last_or None acts ≡ Some act
 
--- where any is open, one is the newest
+-- if any operation is open, one is the newest
 newest_of : (acts : List Act) → 0 < length acts → Newest acts
 newest_of [] some = absurd (omega arith)
 newest_of (act ∷ acts) some = from act acts
@@ -173,7 +173,7 @@ module _ (host : HostView) (build : ℕ) (act : Act) where
           let outside = ltb-false build (length host.aborting) past in
           ap (λ (flags : List Bool). get_or flags build false) (set_past host.aborting build _ outside) ∙ get_or_past host.aborting build false outside
 
-  -- and its mark does not lie above what is
+  -- and its mark is not above its open operations
   pub mark_low : mark_while opened (mark_of (with_event host build act) build) ≡ mark_of (with_event host build act) build
   mark_low = at (nat_lt build (length host.marks)) refl
     where

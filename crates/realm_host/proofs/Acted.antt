@@ -1,4 +1,4 @@
--- An operation that is asked for, performed and recorded.
+-- Proofs that a requested operation is performed and recorded, or refused, exactly as the model says.
 use Rattle.std.proofs.Common.{◌≡◌, ℕ, ◌<◌, Ok, Err, refl, sym, subst, arith}
 use Rattle.realm_model.specs.declared.act.Act.{Act}
 use Rattle.realm_model.specs.declared.act.Act.TheVariants.{Rec}

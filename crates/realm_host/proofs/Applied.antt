@@ -1,4 +1,4 @@
--- Recorded events that are applied: the conditions of a legal one, and so of one that is not.
+-- Proofs that a recorded event with enough room is applied if and only if the event is legal next.
 use Rattle.std.proofs.Common.{◌≡◌, ℕ, ◌<◌, Bool, true, false, not, cond, List, [], ◌∷◌, ◌++◌, Option, Some, None, Result, Ok, Err, refl, sym, ap, ◌∙◌, subst}
 use Rattle.std.specs.Prelude.{map, slice_get, option_and_then, IsSome}
 use Rattle.std.specs.FinMap.{get, remove}
@@ -71,7 +71,7 @@ module _ (ledger : HostView) (monitor : MonitorView) (whole : IsWhole ledger mon
 
 -- ---- a reverse
 
--- Where nothing is open, or the newest act has another reverse, the act is out of turn.
+-- If nothing is open, or the newest operation has another reverse, the operation is out of turn.
 pub out_of_turn : (host : HostView) → IsLegal host.limits host.history → (build : ℕ) (act : Act) → is_reverse act ≡ true
     → (option_and_then reverse_of (last_or None (open_entries build host.history)) ≡ Some act → ⊥) → IsLegal host.limits (host.history ++ by build act ∷ []) → ⊥
 out_of_turn host legal build act kind other more = other ((legal_next host legal build act more).turn kind)
@@ -85,7 +85,7 @@ refused_rec (Some rec) runs f updates e = at (is_ready rec.state) runs e
     at true runs e = cc
     at false runs e = cc
 
--- a REC that runs is not taken away
+-- a REC that runs is not destroyed
 rec_stays : (realm : Option Seen) (number : ℕ) → rec_runs realm number ≡ true → (updates : List Update) → ◌≡◌ {A = Outcome} (on_realm realm (λ rd. rec_destroy rd number)) (Ok updates) → ⊥
 unfolding with_realm with_rec check
 rec_stays None number runs updates e = cc
@@ -118,13 +118,13 @@ runs_on host build _ back reverse runs next stepped = cc
 
 -- ---- any event
 
--- a build that is not there has no legal event
+-- a build that does not exist has no legal event
 pub there_next : (host : HostView) → IsLegal host.limits host.history → (build : ℕ) (act : Act) → IsLegal host.limits (host.history ++ by build act ∷ []) → build < host.limits.builds
 there_next host legal build act more =
     let is = legal_next host legal build act more in
     (step_is host.limits (world_of host) is.next (by build act) is.stepped).build
 
--- what is no reverse and no take is a command
+-- an operation that is neither a reverse nor a take is a command
 pub forward_command : (act : Act) → is_reverse act ≡ false → ((order first : ℕ) → act ≡ Take order first → ⊥) → is_command act ≡ true
 unfolding is_reverse
 forward_command (Take order first) forward other = absurd (other order first refl)

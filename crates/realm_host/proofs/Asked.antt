@@ -109,7 +109,7 @@ there_is host build (Rec page auxiliaries) gs long wanted =
     number_fits (realm_of build (world_of host)) (realm_from_some build 0 (world_of host).leases (world_of host).machine) wanted
 there_is host build _ gs long wanted = tt
 
--- what comes of an act whose event is legal
+-- the outcome of an operation whose event is legal
 done_of : (host : HostView) → IsLegal host.limits host.history → (build : ℕ) (act : Act) → IsLegal host.limits (host.history ++ by build act ∷ [])
     → (updates : List Update) × (outcome_in host.limits (world_of host) (by build act) ≡ Ok updates)
 done_of host legal build act more = at (replay host.limits (host.history ++ by build act ∷ [])) refl more.steps
@@ -172,7 +172,7 @@ module _ (host : HostView) (legal : IsLegal host.limits host.history) (build : �
         };
       }
 
-  -- ---- what comes of it
+  -- ---- the outcome
 
   outcome_is : outcome_asked host build cmd
       ≡ outcome_of_act host.limits (used_vmids world.machine) (act_of cmd granules (allocated_for host build cmd granules)) (realm_of build world) (map (seen world.machine) granules)
@@ -225,7 +225,7 @@ module _ (host : HostView) (legal : IsLegal host.limits host.history) (build : �
             reply_is = refl;
           }
 
--- a check by its needs that holds refuses
+-- a check of a command's needs that holds refuses the command
 pub refused_by_needs : (host : HostView) (build : ℕ) (cmd : Cmd) (refusal : Refusal) → first_that_holds (checks_of (summary_of host) build cmd) ≡ Some refusal
     → refusal_of host build (Ask cmd) ≡ Some refusal
 unfolding refusal_of

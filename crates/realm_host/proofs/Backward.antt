@@ -1,4 +1,4 @@
--- The reverse of the newest operation that a build has open, which can be performed and is not refused.
+-- Proofs that the reverse of a build's newest open operation can be performed and is not refused.
 use Rattle.std.proofs.Common.{◌≡◌, ℕ, true, false, Some, None, Ok, Err, refl, sym, ap, ◌∙◌, subst, arith}
 use Rattle.std.specs.Prelude.{option_and_then, slice_get}
 use Rattle.std.specs.List.{All, last_or}
@@ -83,7 +83,7 @@ module _ (host : HostView) (legal : IsLegal host.limits host.history) (build : �
     room = room;
   }
 
-  -- what comes of it is no refusal
+  -- its outcome is no refusal
   pub never_refused : (rmi : Rmi) → outcome_in host.limits world (by build back) ≡ Err rmi → ⊥
   never_refused rmi e = let done : Ok stepped.updates ≡ Err rmi = sym stepped.outcome ∙ e in cc
 

@@ -1,4 +1,4 @@
--- A block that is taken, and one that is given back.
+-- Proofs that the host keeps its invariant when a block of granules is leased or given back.
 use Rattle.std.proofs.Common.{◌≡◌, ℕ, ◌<◌, ◌≤◌, true, false, not, Some, None, refl, sym, ap, subst, arith}
 use Rattle.std.specs.List.{last_or}
 use Rattle.page_arena.specs.Block.{IsFreeBlock}

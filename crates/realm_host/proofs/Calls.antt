@@ -1,4 +1,4 @@
--- Calls that are no events: their checks, and the host after them.
+-- Proofs on the calls that begin an abort, set a mark or roll back: their checks, and the host after them.
 use Rattle.std.proofs.Common.{◌≡◌, ℕ, ◌-◌, ◌<◌, ◌≤◌, Bool, true, false, not, cond, take, drop, List, [], ◌∷◌, ◌++◌, length, map}
 use Rattle.std.proofs.Common.{reverse, Option, Some, None, Result, Ok, Err, refl, sym, ap, ◌∙◌, subst, arith, ◌&&◌, set, get_or}
 use Rattle.std.specs.Prelude.{nat_lt, nat_le}
@@ -45,13 +45,13 @@ pub passed_parts : (t : Bool) (refusal : Refusal) (rest : Option Refusal) → co
 passed_parts true refusal rest e = cc
 passed_parts false refusal rest e = (refl, e)
 
--- where neither 1 nor 2 holds, the build is there
+-- if neither refusal 1 nor 2 holds, the build exists
 pub there_of : (host : HostView) (build : ℕ) → first_that_holds (build_checks (summary_of host) build) ≡ None → build < host.limits.builds
 there_of host build none =
     let parts = passed_parts (nat_le host.limits.builds build) NoBuild _ none in
     leb-false host.limits.builds build parts.0
 
--- ---- the way back to a mark that stands
+-- ---- the rollback to a valid mark
 
 module _ (host : HostView) (build : ℕ) (mark : Mark) (stands : IsMarkOf host build mark) where
   -- no fewer acts are open than at the mark
@@ -74,7 +74,7 @@ module _ (host : HostView) (build : ℕ) (mark : Mark) (stands : IsMarkOf host b
       (ap (λ b. list_any (is_running (realm_of b (world_of host))) (above (point_of mark) host.history)) stands.of_build
       ∙ ap (list_any (is_running (realm_of build (world_of host)))) above_is ∙ rests)
 
--- ---- a way back that is open
+-- ---- a rollback that is not refused
 
 pub record IsOpenWay (host : HostView) (build : ℕ) (mark : Mark) (count : ℕ) : Type 0 where
   pub none : first_that_holds (checks_of_back host build mark) ≡ None

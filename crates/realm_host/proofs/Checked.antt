@@ -1,4 +1,4 @@
--- The consequences if no check of a command holds.
+-- The facts that follow if a command passes all of the host's checks.
 use Rattle.std.proofs.Common.{◌≡◌, ℕ, suc, ◌<◌, ◌≤◌, Bool, true, false, not, cond, List, [], ◌∷◌, ◌++◌, length, map, Option, Some, None, refl, sym, ap, ◌∙◌}
 use Rattle.std.specs.Prelude.{nat_lt, nat_le}
 use Rattle.std.specs.List.{All, filter_map, cons_option}
@@ -37,7 +37,7 @@ head_false check checks none = at check.0 refl none
 
 -- ---- the checks of a command
 
--- the realm that is wanted is there, or not
+-- the build has a realm, or has none, as required
 abbrev pub IsWanted : RealmRequirement → Bool → Type 0
 IsWanted Either there = Unit {0}
 IsWanted NoneOf there = there ≡ false

@@ -1,4 +1,4 @@
--- Blocks that are free by the flags of the store, which are those that nobody leases.
+-- Proofs that a block is free in the page store if and only if no build leases a granule of the block.
 use Rattle.std.proofs.Common.{◌≡◌, ℕ, zero, suc, ◌+◌, ◌-◌, ◌%◌, ◌^◌, ◌<◌, ◌≤◌, Bool, true, false, List, [], ◌∷◌, length, map, Option, Some, None, refl, arith}
 use Rattle.std.specs.Prelude.{is_none, slice_get}
 use Rattle.std.specs.List.{list_any, range_with_len}

@@ -1,4 +1,4 @@
--- Hosts that differ in the schedule of their builds' events alone.
+-- Proofs that no command, undo or abort distinguishes two hosts that differ only in their builds' schedule.
 use Rattle.std.proofs.Common.{◌≡◌, ℕ, ◌-◌, ◌+◌, ◌≤◌, false, not, ◌&&◌, cond, List, [], ◌∷◌, ◌++◌, map, length, set, get_or}
 use Rattle.std.proofs.Common.{Option, Some, None, Result, Ok, Err, refl, sym, ap, ◌∙◌, subst, arith, zero, suc, true}
 use Rattle.std.specs.Prelude.{◌==◌, nat_le, nat_lt, reverse, is_some, slice_get, slice_index, slice_index_or, slice_set, unwrap_or, option_map, option_and_then}
@@ -107,7 +107,7 @@ module _ (host twin : HostView) (differ : DifferInInterleaving host twin) where
   limits : twin.limits ≡ host.limits
   limits = differ.same.limits
 
-  -- ---- what is picked, and what comes of it
+  -- ---- the allocated values, and the outcome
 
   lowest : lowest_vmid twin ≡ lowest_vmid host
   lowest = λ i. find (λ vmid. nat_le 1 vmid && nat_le vmid (limits i).vmids && not (is_vmid_used (alike.world i).machine vmid)) (range_with_len 1 (limits i).vmids)

@@ -1,4 +1,4 @@
--- Granules of a build that a command names.
+-- A proof that the granule which a Peek reads is not free, since the command's build leases the granule.
 use Rattle.std.proofs.Common.{◌≡◌, ℕ, List, length, get_or, Some, refl, sym, ap, ◌∙◌, subst, arith}
 use Rattle.std.specs.Prelude.{slice_get}
 use Rattle.std.specs.List.{All}

@@ -1,4 +1,4 @@
--- An undo right after the operation that it reverses, which leads back.
+-- A proof that an undo right after the operation that it reverses leads back to the same ownership.
 use Rattle.std.proofs.Common.{◌≡◌, ℕ, List, [], ◌∷◌, ◌++◌, Option, Some, None, refl, sym, ap, ◌∙◌, subst}
 use Rattle.std.specs.Prelude.{option_and_then}
 use Rattle.std.specs.List.{last_or}

@@ -1,4 +1,4 @@
--- Ranges of numbers, and tests of some or all of them.
+-- Lemmas on a test that holds for some number of a list, or for none.
 use Rattle.std.proofs.Common.{◌≡◌, ℕ, Bool, true, false, ◌||◌, List, [], ◌∷◌, refl, sym, ap, ◌∙◌, ⊎_elim}
 use Rattle.std.specs.List.{list_any}
 use Rattle.std.proofs.lemmas.Bool.{cases_eq, ne_eqb}

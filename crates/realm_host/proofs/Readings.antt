@@ -1,4 +1,4 @@
--- Readings of granules, RECs and rows, over the fields of a host.
+-- Proofs that the host's read functions for granules, RECs and RTT entries agree with the host's world.
 use Rattle.std.proofs.Common.{◌≡◌, ℕ, ◌+◌, ◌-◌, ◌^◌, ◌<◌, ◌≤◌, Bool, true, false, cond, length, Option, Some, None, refl, sym, ap, ◌∙◌, subst, arith}
 use Rattle.std.specs.Prelude.{◌==◌, nat_le, nat_lt, option_map, option_and_then, slice_index_or}
 use Rattle.std.proofs.lemmas.Bool.{ltb-true, lt-ltb, le-ltb, leb-true, and_parts}
@@ -102,7 +102,7 @@ module _ (ledger : HostView) (monitor : MonitorView) (whole : IsWhole ledger mon
     pub no_end : None ≡ walk_in monitor.machine rd ipa level → None ≡ row_at (world_of now) build ipa level
     no_end none = walk_told None none
 
-    -- by what code has of the walk's end
+    -- by the code's own values for the walk's end
     pub row_seen : (end : Walk) → Some end ≡ walk_in monitor.machine rd ipa level → (at : ℕ) (row : Row) (first : ℕ) → record { level = at; row = row } ≡ end
         → first ≡ first_covered at ipa → Some (record { level = at; first = first; entry = row }) ≡ row_at (world_of now) build ipa level
     row_seen end end_is at row first view_is first_is =

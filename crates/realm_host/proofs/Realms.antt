@@ -1,4 +1,4 @@
--- Readings of a build's realm, by its RD.
+-- Proofs that the attributes of a build's realm are those read at the realm's RD.
 use Rattle.std.proofs.Common.{◌≡◌, ℕ, ◌<◌, length, Option, Some, None, refl, sym, ap, ◌∙◌, subst}
 use Rattle.std.specs.Prelude.{option_map, option_and_then, unwrap_or}
 use Rattle.std.proofs.lemmas.Option.{same_Some}
@@ -14,7 +14,7 @@ use Rattle.host_ledger.specs.View.{HostView, world_of}
 use Rattle.realm_host.specs.Host.{IsWhole}
 use Rattle.realm_host.specs.Readings.{row_of}
 
--- the row of a build's realm stands at its RD
+-- the row of a build's realm is at its RD
 pub row_at_rd : (world : World) (build rd : ℕ) → rd_of build world ≡ Some rd → row_of world build ≡ (cell_at world.machine rd).descriptor
 row_at_rd world build rd is = at (realm_of build world) (IsAt-realm_of build world) is
   where
@@ -47,7 +47,7 @@ module _ (ledger : HostView) (monitor : MonitorView) (whole : IsWhole ledger mon
   pub long : length monitor.machine ≡ ledger.limits.pages
   long = ap length whole.mirror.machine ∙ (sized_reached ledger.limits ledger.history (world_of ledger) whole.mirror.world_is).machine
 
-  -- what lies inside the machine of the limits lies inside that of the monitor
+  -- a granule inside the machine of the limits is inside the RMM's machine
   pub inside : (granule : ℕ) → granule < now.limits.pages → granule < length monitor.machine
   inside granule below = subst (λ n. granule < n) (sym long) (subst (λ (h : HostView). granule < h.limits.pages) (sym view_is) below)
 

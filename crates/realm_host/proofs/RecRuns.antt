@@ -1,4 +1,4 @@
--- The REC of a number, and whether it runs, by the cell of its granule.
+-- Proofs that a build's REC, with its state, can be read at the granule of that REC.
 use Rattle.std.proofs.Common.{◌≡◌, ℕ, Bool, false, not, List, Option, Some, None, refl, sym, ap, ◌∙◌}
 use Rattle.std.specs.Prelude.{option_map, option_and_then}
 use Rattle.std.specs.FinMap.{get}
@@ -24,7 +24,7 @@ use Rattle.rmi_monitor.specs.Named.{rec_named, rec_attributes_of, rec_attributes
 use Rattle.realm_host.specs.Readings.{rec_at}
 use Rattle.rmi_monitor.proofs.RecNamed.{named_some, named_none}
 
--- a REC stands at the granule
+-- there is a REC, and it runs
 abbrev pub state_runs : Option RecAttributes → Bool
 state_runs None = false
 state_runs (Some rec) = not (is_ready rec.state)
@@ -53,7 +53,7 @@ module _ (limits : Limits) (world : World) (sound : IsReachable limits world) (g
       ap number_of (sound.once rd a.realm a.there (AsRec number) (AsRec n) granule InRec InRec (target_is rd number a)
       (ap (λ (r : RealmRow). target r (AsRec n)) realms ∙ target_is other n b))
 
-  -- so that is the one that is found
+  -- so the search finds this REC
   found : (rd number : ℕ) → IsRec world.machine rd number granule → rec_named world.machine granule ≡ Some (rd, number)
   found rd number is = at (rec_named world.machine granule) refl
     where

@@ -1,4 +1,4 @@
--- A host after an operation that is performed and recorded.
+-- Proofs that a host keeps its invariant after an operation is performed and recorded.
 use Rattle.std.proofs.Common.{◌≡◌, ℕ, [], ◌∷◌, ◌++◌, sym, ap, ◌∙◌, subst}
 use Rattle.realm_model.specs.declared.act.Act.{Act}
 use Rattle.realm_model.specs.World.{World}

@@ -1,4 +1,4 @@
--- An abort during which other builds go on.
+-- Proofs that an abort leaves nothing behind while other builds go on.
 use Rattle.std.proofs.Common.{◌≡◌, ◌≢◌, ℕ, ◌+◌, ◌<◌, Bool, true, false, ◌&&◌, cond, eqb, List, [], ◌∷◌, ◌++◌, length, map, reverse, get_or, set, Option, Some, None, Result, Ok, Err, refl, sym, ap, ◌∙◌, subst, arith}
 use Rattle.std.specs.Prelude.{nat_le, nat_lt, option_and_then}
 use Rattle.std.specs.List.{All, last_or}
@@ -43,7 +43,7 @@ use Rattle.realm_host.proofs.Calls.{passed_parts}
 
 -- ---- what a build in abort may do
 
--- what is served where the build is there and not in abort, is served to no build in abort
+-- if the checks that the build exists and is not in abort pass, it is not in abort
 not_aborting : (host : HostView) (build : ℕ) (rest : Option Refusal) → cond (nat_le host.limits.builds build) (Some NoBuild) (cond (is_aborting host build) (Some Aborting) rest) ≡ None
     → is_aborting host build ≡ false
 not_aborting host build rest none =
@@ -69,7 +69,7 @@ all_others : (build other : ℕ) (acts : List Act) → other ≢ build → All (
 all_others build other [] not = All-nil (IsOthersOrReverse build)
 all_others build other (act ∷ acts) not = All-cons (IsOthersOrReverse build) (by other act) (map (by other) acts) (λ mine. absurd (not mine)) (all_others build other acts not)
 
--- where no REC runs is the last check, the build is at rest
+-- if all checks pass, and the last is that no REC runs, the build is at rest
 at_rest : (host : HostView) (build : ℕ) (checks : List Check) → first_that_holds (checks ++ any_rec_running host build ∷ []) ≡ None → IsAtRest (realm_of build (world_of host))
 at_rest host build [] none =
     let rests = (passed_parts (nat_lt 0 (running_count (realm_of build (world_of host)))) RecRunning None none).0 in
@@ -95,7 +95,7 @@ flag_there flags build set = at (nat_lt build (length flags)) refl
 abbrev HasOpen : HostView → ℕ → Bool
 HasOpen host build = nat_lt 0 (length (open_of host build))
 
--- what others do opens nothing of a build
+-- the operations of others open nothing of a build
 others_open : (build other : ℕ) (history : List Event) (acts : List Act) → other ≢ build → open_entries build (history ++ map (by other) acts) ≡ open_entries build history
 others_open build other history [] not = ap (open_entries build) (append-nil history)
 others_open build other history (act ∷ acts) not =
@@ -103,7 +103,7 @@ others_open build other history (act ∷ acts) not =
     ∙ others_open build other (history ++ by other act ∷ []) acts not
     ∙ open_entries-other build history (by other act) not
 
--- what is so at each host on the way
+-- the properties of each host on the way
 pub record Going (old : HostView) (build : ℕ) (host : HostView) : Type 0 where
   pub there : build < old.limits.builds
   pub rest : IsAtRest (realm_of build (world_of old))
@@ -131,7 +131,7 @@ module _ (old : HostView) (build : ℕ) (host : HostView) (since : Going old bui
   unchanged : (new : HostView) → new ≡ host → Going old build new
   unchanged new same = subst (Going old build) (sym same) since
 
-  -- another build's flag is written, and what is open is open still
+  -- another build's flag is written, and the same operations are still open
   still : (other : ℕ) (flag : Bool) (new : HostView) → other ≢ build → new.aborting ≡ set host.aborting other flag → open_of new build ≡ open_of host build
       → is_aborting new build ≡ HasOpen new build
   still other flag new not flags opened =
@@ -279,7 +279,7 @@ module _ (host : HostView) (build : ℕ) (legal : IsLegal host.limits host.histo
   legal_answer (Applies act false) new is = still_legal new is.unchanged
   legal_answer (Applies act true) new is = legal_event act new (is.answer.0 refl).legal is.applied
 
--- ---- others may ask anything, which opens nothing of the build, and takes nothing back
+-- ---- calls of other builds, which open and undo nothing of the build
 
 pub others_may : (build other : ℕ) → other ≢ build → (call : AnsweredCall) → MayBeAsked build other call
 others_may build other not (Calls call answer) = tt

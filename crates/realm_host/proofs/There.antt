@@ -50,7 +50,7 @@ module _ (ledger : HostView) (monitor : MonitorView) (whole : IsWhole ledger mon
       let sized = sized_reached ledger.limits ledger.history (world_of ledger) whole.mirror.world_is in
       ap length whole.mirror.machine ∙ sized.machine ∙ sym sized.leases
 
-  -- nobody leases a granule that is not there
+  -- nobody leases a granule that the machine does not have
   pub none_leased : (number pages : ℕ) → pages ≡ length monitor.machine → pages ≤ 4096 → None ≡ (if nat_lt number 4096 && nat_lt number pages then Some number else None)
       → false ≡ is_leased_to (Some build) (world_of now).leases number
   none_leased number pages pages_is few none =
@@ -69,13 +69,13 @@ module _ (ledger : HostView) (monitor : MonitorView) (whole : IsWhole ledger mon
       All-head (IsTaken monitor) granule []
       (all_taken ledger.limits ledger.history (world_of ledger) monitor whole.mirror build (named (Peek granule offset byte)) granules)
 
--- ---- what an act says
+-- ---- the values in an operation
 
--- what the act says is there
+-- the values in the operation agree with the machine
 abbrev says : HostView → ℕ → Act → Bool
 says host build act = fits act (realm_of build (world_of host)) (named_cells (world_of host) act)
 
--- where it is not, there is no step
+-- if they do not, the operation is no step
 pub no_step : (host : HostView) (build : ℕ) (act : Act) (answer : Bool) → answer ≡ says host build act → OnFalse answer (IsNoStep host build act)
 no_step host build act true is = search
 no_step host build act false is =
@@ -96,7 +96,7 @@ module _ (ledger : HostView) (monitor : MonitorView) (whole : IsWhole ledger mon
       ap (λ n. nat_eq n byte) (read ∙ ap (λ (m : Machine). slice_index (cell_at m granule).bytes offset) machine_is)
       ∙ sym (alone _) ∙ ap (λ (a : Act). says now build a) (sym is)
 
-  -- a read that the monitor refuses
+  -- a read that the RMM refuses
   pub no_read : (granule offset byte : ℕ) (rmi : Rmi) → act ≡ Peek granule offset byte → Answers {A = ℕ} (Err rmi) (host_peek (seen_in monitor granule)) → IsNoStep now build act
   unfolding outcome_of named
   no_read granule offset byte rmi is refused next stepped =
@@ -145,7 +145,7 @@ module _ (now : HostView) (build : ℕ) (act : Act) (granule : ℕ) (auxiliaries
       ap (is_next number) told_is ∙ by_realm (realm_of build (world_of now)) (named_cells (world_of now) (Rec granule auxiliaries number))
       ∙ ap (λ (a : Act). says now build a) (sym is)
 
--- other acts say nothing that has to be looked at
+-- other operations have no value that has to be checked
 module _ (act : Act) (forward : is_reverse act ≡ false) (command : is_command act ≡ true)
     (not_peek : (granule offset byte : ℕ) → act ≡ Peek granule offset byte → ⊥)
     (not_realm : (rd : ℕ) (root : Root) (vmid : ℕ) → act ≡ Realm rd root vmid → ⊥)
@@ -166,7 +166,7 @@ module _ (act : Act) (forward : is_reverse act ≡ false) (command : is_command 
   pub fits_else : (realm : Option Seen) (cells : List Seen) → fits act realm cells ≡ true
   fits_else realm cells = fits_as act refl realm cells
 
-  -- nor do those name a granule that are none of these either
+  -- and operations that are none of these either name no granule
   module _ (not_fill : (granule value : ℕ) → act ≡ Fill granule value → ⊥) (not_delegate : (granule : ℕ) → act ≡ Delegate granule → ⊥)
       (not_rtt : (granule ipa level : ℕ) → act ≡ Rtt granule ipa level → ⊥) (not_data : (granule ipa source : ℕ) → act ≡ Data granule ipa source → ⊥)
       (not_unknown : (granule ipa : ℕ) → act ≡ Unknown granule ipa → ⊥) where

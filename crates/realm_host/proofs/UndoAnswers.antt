@@ -1,4 +1,4 @@
--- The answer to an undo.
+-- Proofs on the answer to an undo: the refusal of the first check that holds, or the reply.
 use Rattle.std.proofs.Common.{◌≡◌, ℕ, ◌-◌, ◌<◌, ◌≤◌, Bool, true, false, cond, List, [], ◌∷◌, length, Option, Some, None, refl, ap, ◌∙◌, arith}
 use Rattle.std.specs.Prelude.{nat_lt, nat_le, option_and_then, IsSome}
 use Rattle.std.specs.List.{last_or}

@@ -1,4 +1,4 @@
--- The abort of a build.
+-- The abort of a build: the checks before it, the undos in it, and the host after it.
 use Rattle.std.specs.Prelude.{◌≡◌, ◌≢◌, ℕ, nat_lt, List, [], ◌∷◌, ◌++◌, map, length, drop, reverse, ◌&&◌, false, Some, None, Result, slice_set}
 use Rattle.std.specs.List.{All}
 use Rattle.host_commands.specs.declared.refusal.Refusal.{Refusal}

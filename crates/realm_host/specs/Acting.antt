@@ -1,4 +1,4 @@
--- The effect of recording an operation, and its requirements.
+-- The preconditions and the effect of recording an operation in a host's history.
 use Rattle.std.specs.Prelude.{◌≡◌, ℕ, ◌+◌, ◌<◌, ◌≤◌, [], ◌∷◌, ◌++◌, length, true, false, Bool, Option, Some, None, Result, Ok, Err}
 use Rattle.std.specs.List.{last_or}
 use Rattle.realm_model.specs.declared.act.Act.{Act}

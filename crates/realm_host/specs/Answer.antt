@@ -1,4 +1,4 @@
--- The answer to a call, and the event that is recorded.
+-- The answer of a host to a command or an undo, and the event that the call records.
 use Rattle.std.specs.Prelude.{◌≡◌, ℕ, ◌-◌, [], ◌∷◌, ◌++◌, length, Some, None, Result, Ok, Err, option_and_then}
 use Rattle.std.specs.List.{last_or}
 use Rattle.realm_model.specs.Kind.{act_kind}

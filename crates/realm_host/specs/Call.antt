@@ -1,4 +1,4 @@
--- The calls of a host that end its history with one event.
+-- The calls that append one event to a host's history: commands and undos.
 use Rattle.host_commands.specs.declared.cmd.Cmd.{Cmd}
 
 -- a command of a build, or the undo of its newest open operation

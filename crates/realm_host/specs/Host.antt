@@ -1,4 +1,4 @@
--- A host at its boot, and its invariant.
+-- The view of a host that has just been booted, and the invariant of a host.
 use Rattle.std.specs.Prelude.{ℕ, ◌≤◌}
 use Rattle.realm_model.specs.Machine.{Limits}
 use Rattle.rmi_monitor.specs.View.{MonitorView}

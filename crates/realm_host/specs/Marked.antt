@@ -1,4 +1,4 @@
--- Marks of builds, and the way back to one.
+-- The marks of builds, and the rollback of a build to its mark.
 use Rattle.std.specs.Prelude.{◌≡◌, ℕ, List, [], ◌∷◌, ◌++◌, length, not, Bool, false, Some, None, Result, Ok, Err}
 use Rattle.std.specs.List.{list_any}
 use Rattle.host_commands.specs.declared.refusal.Refusal.{Refusal}

@@ -1,4 +1,4 @@
--- An undo right after the operation that it reverses.
+-- The statement that an undo right after the operation that it reverses leads back to the same ownership.
 use Rattle.std.specs.Prelude.{◌≡◌, ℕ, List, [], ◌∷◌, ◌++◌, true}
 use Rattle.realm_model.specs.declared.act.Act.{Act}
 use Rattle.realm_model.specs.declared.act.Event.{Event}

@@ -1,4 +1,5 @@
--- The readings of granules, and of a build's realm. RMM 1.0, Granule, Realm and REC attributes, RTT entry.
+-- The values that a host's read functions return for granules and for a build's realm. RMM 1.0, Granule, Realm and REC
+-- attributes, RTT entry.
 use Rattle.std.specs.Prelude.{ℕ, nat_lt, List, length, Option, Some, None, option_map, option_and_then, slice_index_or, if◌then◌else◌}
 use Rattle.std.specs.FinMap.{get}
 use Rattle.granule_addr.specs.Ipa.{first_covered}

@@ -1,4 +1,4 @@
--- Recorded events, applied again.
+-- The application of recorded events to a host: the conditions, the reasons for a refusal, and the result.
 use Rattle.std.specs.Prelude.{◌≡◌, ◌<◌, ◌≤◌, ◌⊎◌, ℕ, true, false, [], ◌∷◌, ◌++◌}
 use Rattle.realm_model.specs.declared.act.Event.{Event}
 use Rattle.realm_model.specs.History.{erase, IsLegal}

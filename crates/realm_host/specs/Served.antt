@@ -1,4 +1,4 @@
--- The answer to a call with checks of its own: the first that holds, or its result.
+-- The answer to a call that has its own list of checks: the refusal of the first check that holds, or the result.
 use Rattle.std.specs.Prelude.{◌≡◌, ℕ, nat_lt, List, Result, Ok, Err, Some, None}
 use Rattle.host_commands.specs.declared.refusal.Refusal.{Refusal}
 use Rattle.host_commands.specs.declared.refusal.Refusal.TheVariants.{RecRunning}

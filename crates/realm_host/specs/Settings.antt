@@ -1,4 +1,4 @@
--- The ranges of a host's numbers.
+-- The valid ranges of a host's settings.
 use Rattle.std.specs.Prelude.{ℕ, ◌≤◌}
 
 pub record AreSettings (vmids aux history builds : ℕ) : Type 0 where

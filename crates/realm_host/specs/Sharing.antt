@@ -1,4 +1,4 @@
--- An abort during which other builds go on.
+-- The statement that an abort leaves nothing behind while other builds go on.
 use Rattle.std.specs.Prelude.{◌≡◌, ◌≢◌, ◌↔◌, ℕ, Bool, List, [], ◌∷◌, ◌++◌, length, nat_lt, None, Result, true}
 use Rattle.std.specs.Bool.{OnTrue, OnFalse}
 use Rattle.std.specs.List.{All}

@@ -1,4 +1,4 @@
-//! Performs operations of builds, and records them. Take and its reverse are not among them.
+//! Performs and records the operations of builds, except Take and its reverse.
 ghost use Rattle.realm_host.specs.Acting.{CanAct, IsActed};
 
 use crate::Host;

@@ -79,7 +79,8 @@ impl<S: PageStore> Host<S> {
     /// Returns the accepted operations of all builds, in sequence.
     ///
     /// They are a legal history, in which no build has used more than its room, or had more than 512 operations open at
-    /// any time. If a build is in abort, it has something open. If it has a mark, it never had less open since.
+    /// any time. If a build is in abort, it has something open. If a build has a mark, it has never had fewer
+    /// operations open since than at the mark.
     ///
     /// Each build can be left out: the rest is a legal history too, and leads to the world without that build. The
     /// numbers of a host are in their ranges.

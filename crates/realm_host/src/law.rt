@@ -25,13 +25,13 @@ pub fn no_call_reveals_the_schedule()
     ensures abort { (host twin : HostView) (build : ℕ) (result : Result ℕ Refusal) (new : HostView) → DifferInInterleaving host twin → AbortRevealsNothing host twin build result new }
 {}
 
-/// Proves that a finished abort leaves nothing behind, whatever other builds do meanwhile. `old` is a host
-/// at which `begin_abort` began one, and `calls` are all calls since, of any builds, each as its contract lets it be
-/// answered. While the build has something open, its events are reverses alone: any other request of it is refused, and
-/// none of its undos is. Once it has nothing open, it has left nothing behind.
+/// Proves that a finished abort leaves nothing behind, whatever other builds do meanwhile. `old` is a host at which
+/// `begin_abort` began an abort. `calls` are all calls since, of any builds, each as its contract lets it be answered.
+/// While the build has something open, its events are reverses alone: any other request of it is refused, and none of
+/// its undos is. Once it has nothing open, it has left nothing behind.
 ///
-/// `apply_recorded` is a call of other builds alone: it applies any legal event for which there is room, even one of a
-/// build in abort.
+/// `apply_recorded` is a call of other builds alone: it applies any legal event for which its build has room, even if
+/// that build is in abort.
 pub fn aborts_are_shared()
     ensures { (old begun host : HostView) (build count : ℕ) (calls : List (ℕ × AnsweredCall)) → IsLegal old.limits old.history
         → IsBegun old build (Ok count) begun → AreWhileAborting build begun calls host → IsInAbortSince old build host }

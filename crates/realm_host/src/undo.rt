@@ -18,9 +18,9 @@ use page_arena::PageStore;
 use realm_model::{Act, kind_of};
 
 impl<S: PageStore> Host<S> {
-    /// Undoes the newest open operation of a build: the newest one that has a reverse and is not undone yet. What other
-    /// builds did since does not matter. Returns the kind of the operation, and the number of operations that are left
-    /// open.
+    /// Undoes the newest open operation of a build: the newest one that has a reverse and is not undone yet. Operations
+    /// of other builds since then do not matter. Returns the kind of the operation, and the number of operations that
+    /// are left open.
     ///
     /// Refused with NoBuild, with NothingToUndo if the build has nothing open, or with RecRunning if that operation
     /// created a REC that runs; then nothing changes. An undo right after the operation that it reverses leads back to

@@ -1,4 +1,4 @@
--- The rest of a history without a build, which is accepted anew, and the room of the others.
+-- The proof that a history without one build's events is still accepted, and that the others use the same capacity.
 use Rattle.std.proofs.Common.{◌≡◌, ◌≢◌, ℕ, zero, suc, ◌+◌, ◌<◌, ◌≤◌, ⊎_elim, true, false, not, cond, List, [], ◌∷◌, ◌++◌, length, take, Some, refl, sym, ap, ◌∙◌, subst, arith}
 use Rattle.std.specs.Prelude.{◌==◌, option_map}
 use Rattle.std.specs.List.{sum_by}
@@ -57,7 +57,7 @@ module _ (limits : Limits) (capacity most : ℕ) where
 
 -- ---- a build left out
 
--- what is so of the beginnings of a history without a build is so of those of what is left
+-- a property of each prefix of a history, without a build's events, is one of each prefix of the history without them
 take-erase : (b : ℕ) (P : List Event → Type 0) (es : List Event) → ((n : ℕ) → P (erase b (take n es))) → (k : ℕ) → P (take k (erase b es))
 take-erase b P es all zero = all 0
 take-erase b P [] all (suc k) = all 0

@@ -1,4 +1,4 @@
--- Two commands with like updates: of the same granules, to cells that own the same.
+-- Two commands with similar updates: they change the same granules, to cells with the same ownership.
 use Rattle.std.proofs.Common.{◌≡◌, ℕ, Bool, true, false, cond, List, [], ◌∷◌, ◌++◌, map, set, Some, Ok, Err, refl, sym, ap, ◌∙◌, subst}
 use Rattle.std.specs.Prelude.{◌==◌}
 use Rattle.std.specs.FinMap.{get}
@@ -15,7 +15,8 @@ use Rattle.realm_model.proofs.Written.{IsSquare, put_at, cell_put, lefts}
 use Rattle.realm_model.proofs.Outcomes.{Yields, Yields-Ok, Yields-Err, Yields-check, Yields-with_realm, Yields-with_rec, Yields-with_end, Yields-with_granule}
 use Rattle.realm_model.proofs.OwnsSame.{cell_itself}
 
--- Two updates are of the same granule, leave it leased to the same, and keep its cells the same.
+-- Two updates are of the same granule, leave it leased to the same build or to none, and lead from cells with the same
+-- ownership to such cells.
 pub record IsAlike (u x : Update) : Type 0 where
   pub granule : granule_of u ≡ granule_of x
   pub lease : (b : ℕ) → lease_after b u ≡ lease_after b x
@@ -56,7 +57,7 @@ alike_lefts gs hs e = subst (λ ks. AreAlike (lefts gs) (lefts ks)) e (itself gs
     itself [] = tt
     itself (g ∷ gs) = (alike_put g g left left refl (cell_itself left), itself gs)
 
--- ---- after updates that are alike, worlds that own the same do
+-- ---- worlds that own the same still do after updates that are alike
 
 put_alike : (us xs : List Update) → AreAlike us xs → (k : ℕ) (c d : Cell) → SameCell c d → SameCell (put_at us k c) (put_at xs k d)
 put_alike [] [] h k c d same = same
@@ -87,7 +88,7 @@ own_alike b us xs w v next other alike sw sv same e f = record {
 
 -- ---- two commands
 
--- where neither is refused, they change alike
+-- if neither command is refused, their updates are alike
 pub record Agree (o p : Outcome) : Type 0 where
   pub both : (us : List Update) → o ≡ Ok us → Yields (AreAlike us) p
 

@@ -1,4 +1,4 @@
--- Reverse operations, by which no REC comes to run.
+-- The proof that a reverse operation starts no REC.
 use Rattle.std.proofs.Common.{◌≡◌, ℕ, true, false, cond, ◌||◌, inl, inr, List, [], ◌∷◌, Option, Some, None, refl, sym, ap, ◌∙◌, subst}
 use Rattle.std.specs.List.{list_any}
 use Rattle.std.specs.Ordering.{nat_cmp, eq_by_cmp}
@@ -81,14 +81,14 @@ module _ (limits : Limits) (b : ℕ) (w v : World) (kept : IsKept b w) (kept_v :
   one_still (Rec g aux n) rest = rests_still n rest
   one_still _ rest = refl
 
-  -- of some acts none made a REC that runs, and none did after
+  -- if none of some operations made a REC that runs, none of them did after the step
   pub none_run_still : (acts : List Act) → list_any (is_running (realm_of b w)) acts ≡ false → list_any (is_running (realm_of b v)) acts ≡ false
   none_run_still [] h = refl
   none_run_still (a ∷ acts) h =
       let parts = or_parts (is_running (realm_of b w) a) _ h in
       λ i. one_still a parts.0 i || none_run_still acts parts.1 i
 
--- where no REC runs, none that an act made does
+-- if no REC runs, none that an operation made does
 pub not_running : (realm : Option Seen) → ((n : ℕ) → rec_runs realm n ≡ false) → (act : Act) → is_running realm act ≡ false
 not_running realm rest (Rec g aux n) = rest n
 not_running realm rest _ = refl

@@ -1,4 +1,4 @@
--- The steps of blocks: a block is taken, or given back.
+-- The steps of the model that take a free block, and those that give a block back.
 use Rattle.std.proofs.Common.{◌≡◌, ℕ, ◌<◌, true, false, List, [], ◌∷◌, map, set, Some, None, Ok, refl, sym, ap, ◌∙◌}
 use Rattle.std.specs.Prelude.{slice_get}
 use Rattle.std.specs.List.{All, list_all}

@@ -18,7 +18,7 @@ pub and_false : (t : Bool) → (t && false) ≡ false
 and_false true = refl
 and_false false = refl
 
--- one choice after another of the same
+-- two nested choices of the same value are one choice, by either test
 pub cond_or : {A : Type 0} (s t : Bool) (x y : A) → cond t x (cond s x y) ≡ cond (s || t) x y
 cond_or true true x y = refl
 cond_or true false x y = refl
@@ -41,12 +41,12 @@ pub not_false : (t : Bool) → not t ≡ false → t ≡ true
 not_false true e = refl
 not_false false e = cc
 
--- what comes under a test came, so the test held
+-- if a guarded option has a value, the guard holds and the value is the option's
 pub guarded : {A : Type 0} (t : Bool) (o : Option A) (y : A) → cond t o None ≡ Some y → (t ≡ true) × (o ≡ Some y)
 guarded true o y e = (refl, e)
 guarded false o y e = cc
 
--- neither of two came, so the test failed
+-- if a choice between a value and an option gives none, the test failed, and the option has none
 pub neither : {A : Type 0} (t : Bool) (x : A) (rest : Option A) → cond t (Some x) rest ≡ None → (t ≡ false) × (rest ≡ None)
 neither true x rest e = cc
 neither false x rest e = (refl, e)

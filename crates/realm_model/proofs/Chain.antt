@@ -1,4 +1,4 @@
--- The undo of a build's newest open operation, whatever came after it: from theorems on single steps.
+-- The undo of a build's newest open operation, whatever happened since, derived from theorems on single steps.
 use Rattle.std.proofs.Common.{◌≡◌, ◌≢◌, ℕ, suc, ◌+◌, ◌≤◌, true, false, List, [], ◌∷◌, ◌++◌, length, take, reverse, Some, None, arith, refl, sym, ap, ◌∙◌, subst}
 use Rattle.std.specs.Prelude.{◌==◌, option_and_then}
 use Rattle.std.specs.List.{last_or}
@@ -25,16 +25,16 @@ pub record Laws (limits : Limits) (b : ℕ) (Same : World → World → Type 0) 
   pub chain : (u v w : World) → Same u v → Same v w → Same u w
   pub sound_opening : Sound (opening limits)
   pub sound_step : (w v : World) (e : Event) → Sound w → step limits w e ≡ Some v → Sound v
-  -- others change nothing that the build owns
+  -- events of other builds change nothing that the build owns
   pub frame : (w v : World) (e : Event) → e.build ≢ b → Sound w → step limits w e ≡ Some v → Same w v
-  -- nor does an act that has no reverse and is none
+  -- an operation that has no reverse and is no reverse changes nothing that the build owns
   pub unpaired : (w v : World) (act : Act) → is_paired act ≡ false → is_reverse act ≡ false → Sound w → step limits w (by b act) ≡ Some v → Same w v
-  -- a reverse act leads back to before its pair
+  -- a reverse operation leads back to what the build owned before the reversed one
   pub pair : (u v w x : World) (act r : Act) → reverse_of act ≡ Some r → Sound u → Sound w → step limits u (by b act) ≡ Some v → Same v w → step limits w (by b r) ≡ Some x → Same u x
 
--- From a base world on, above what was open there.
+-- Histories from a base world on, above the operations that are open there.
 module _ (limits : Limits) (b : ℕ) (Same : World → World → Type 0) (Sound : World → Type 0) (laws : Laws limits b Same Sound) (base : World) (below : List Act) where
-  -- the world owns to the build what the acts that are open above the base make, the newest first
+  -- the build owns in the world what the operations open above the base make of the base, the newest first
   abbrev pub Chain : List Act → World → Type 0
   Chain [] w = Same base w
   Chain (act ∷ st) w = (u : World) × (v : World) × Sound u × Chain st u × (step limits u (by b act) ≡ Some v) × Same v w × (is_paired act ≡ true)
@@ -49,7 +49,7 @@ module _ (limits : Limits) (b : ℕ) (Same : World → World → Type 0) (Sound 
     pub open_is : open_entries b history ≡ below ++ reverse stack
     pub chained : Chain stack w
 
-  -- nothing from below is taken away
+  -- no operation that was open in the base is reversed
   abbrev pub Stays : List Event → Type 0
   Stays history = length below ≤ length (open_entries b history)
 
@@ -75,7 +75,7 @@ module _ (limits : Limits) (b : ℕ) (Same : World → World → Type 0) (Sound 
     chained = chain_same st w x (laws.unpaired w x act p r kept.sound stepped) kept.chained;
   }
 
-  -- the newest act above the base is taken away
+  -- the newest operation above the base is reversed
   pub kept_back : (top : Act) (st : List Act) (before : List Event) (w x : World) (act : Act) → is_paired act ≡ false → is_reverse act ≡ true
       → Kept (top ∷ st) before w → IsInTurn before (by b act) → step limits w (by b act) ≡ Some x
       → Kept st (before ++ by b act ∷ []) x
@@ -90,7 +90,7 @@ module _ (limits : Limits) (b : ℕ) (Same : World → World → Type 0) (Sound 
         chained = chain_same st was.0 x (laws.pair was.0 was.1 w x top act pairs was.2 kept.sound was.4 was.5 stepped) was.3;
       }
 
-  -- where nothing is open above it, the base would be reached into
+  -- if nothing is open above the base, a reverse would be that of an operation in the base
   too_low : (before : List Event) (w : World) (act : Act) → is_paired act ≡ false → is_reverse act ≡ true → Kept [] before w → IsInTurn before (by b act) → Stays (before ++ by b act ∷ []) → ⊥
   too_low before w act p r kept turn stays =
       let away = takes_away b before act p r turn in
@@ -149,7 +149,7 @@ module _ (limits : Limits) (b : ℕ) (Same : World → World → Type 0) (Sound 
       kept_after limits b Same Sound laws (opening limits) [] [] [] history (opening limits) w
       (record { sound = laws.sound_opening; open_is = refl; chained = laws.itself (opening limits) }) legal.in_turn at_w (λ n. omega arith)
 
-  -- Where nothing is open, the build owns what it owned at first
+  -- If nothing is open, the build owns what it owned at first
   pub nothing_open : (history : List Event) (w : World) → IsLegal limits history → replay limits history ≡ Some w → open_entries b history ≡ [] → Same (opening limits) w
   nothing_open history w legal at_w none =
       let k = kept history w legal at_w in

@@ -57,7 +57,7 @@ updated_all-changes build (u ∷ us) w h =
     ∙ ap (λ ls. updated_all build us (record { machine = changed; leases = ls })) kept.1
     ∙ updated_all-changes build us (record { machine = changed; leases = w.leases }) both.1
 
--- the command of an act is not refused: then the step is made
+-- if the command of an operation is not refused, its step is made
 pub step-command : (limits : Limits) (w : World) (build : ℕ) (act : Act) (us : List Update) → build < limits.builds
     → list_all (is_leased_to (holder build act) w.leases) (named act) ≡ true
     → is_in_range act ≡ true → fits act (realm_of build w) (map (seen w.machine) (named act)) ≡ true
@@ -71,13 +71,13 @@ step-command limits w build act us below leases range fit planned changes =
     ∙ ap (λ o. after_outcome build o w) planned
     ∙ updated_all-changes build us w changes
 
--- the row where the walk ends points to the granule that the act names
+-- the row where the walk ends leads to the granule that the operation names
 pub pointed : (rows : Rows) (ipa level g pa : ℕ) (end : Walk) → leads_to (row_at rows level ipa) g ≡ true → walk rows ipa level ≡ Some end
     → (end.level == level) ≡ true → end.row.granule ≡ Some pa → pa ≡ g
 pointed rows ipa level g pa end fit e last there =
     eqb-true pa g (sym (ap (λ o. option_eq nat_eq o (Some g)) there) ∙ sym (ap (λ o. leads_to o g) (walk_at rows ipa level end e (eqb-true end.level level last))) ∙ fit)
 
--- ---- acts
+-- ---- operations
 
 module _ (limits : Limits) (b : ℕ) (w : World) where
   abbrev L : ℕ → Bool
@@ -104,7 +104,7 @@ module _ (limits : Limits) (b : ℕ) (w : World) where
   seen_more : (cell : Cell) (gs : List ℕ) (us : List Update) → list_all L gs ≡ true → C us → C (map (put_seen cell) (map (seen w.machine) gs) ++ us)
   seen_more cell gs us h c = subst (λ xs. C (xs ++ us)) (sym (seen-each_put w.machine cell gs)) (puts_more cell gs us h c)
 
-  -- a build's realm is the one that stands at its RD
+  -- a build's realm is the one whose row is in its RD
   own_is : (own : Seen) (rd : ℕ) (d : RealmRow) (test : Seen → RealmRow → Bool) → ((r : RealmRow) → test own r ≡ true → own.number ≡ rd)
       → realm_is (Some own) test ≡ true → cell_at w.machine own.number ≡ own.cell → (cell_at w.machine rd).descriptor ≡ Some d → test own d ≡ true
   own_is own rd d test place fit at is =
@@ -115,7 +115,7 @@ module _ (limits : Limits) (b : ℕ) (w : World) where
         | None ↦ λ e t. cc
       ] refl fit
 
-  -- its starting tables are those that a reverse names
+  -- the realm's starting tables are those that a reverse names
   root_is : (own : Seen) (rd : ℕ) (root : Root) (v : ℕ) (d : RealmRow) → realm_is (Some own) (λ x r. x.number == rd && is_root root r.root && r.vmid == v) ≡ true
       → cell_at w.machine own.number ≡ own.cell → (cell_at w.machine rd).descriptor ≡ Some d → d.root ≡ root
   root_is own rd root v d fit at is =
@@ -127,7 +127,7 @@ module _ (limits : Limits) (b : ℕ) (w : World) where
   rec_test rd d n rec test fit is there =
       sym (ap (λ o. elim o [ Some rec ↦ test rec | None ↦ false ]) there) ∙ realm_test rd d (λ x r. elim (get r.recs n) [ Some rec ↦ test rec | None ↦ false ]) fit is
 
-  -- the granule that a guest's write reaches is leased too: what is asked of the worlds that are reached
+  -- the granule that a guest's write reaches is leased by the build, as in every reached world
   abbrev pub ReachesOwn : Act → Option Seen → Type 0
   ReachesOwn (Poke n ipa o v) (Some rd) =
       (d : RealmRow) (end : Walk) (pa : ℕ) → rd.cell.descriptor ≡ Some d → walk d.rows ipa 3 ≡ Some end → is_assigned end.row ≡ true → end.row.granule ≡ Some pa → L pa ≡ true
@@ -198,7 +198,7 @@ pub holder_is : (build : ℕ) (act : Act) → is_of_block act ≡ false → hold
 holder_is build (Take order first) k = cc
 holder_is build _ k = refl
 
--- where the granules named are the build's, the act fits, and its command is not refused, the step is made
+-- if the granules named are the build's, the operation fits, and its command is not refused, the step is made
 pub step_exact : (limits : Limits) (w : World) (build : ℕ) (act : Act) (us : List Update) → is_of_block act ≡ false → ReachesOwn limits build w act (realm_of build w)
     → is_allowed limits w (by build act) ≡ true
     → outcome_of limits.vmids limits.aux (used_vmids w.machine) act (realm_of build w) (map (seen w.machine) (named act)) ≡ Ok us

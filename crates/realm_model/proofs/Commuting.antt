@@ -1,4 +1,4 @@
--- Two events of different builds, one after the other and the other way round.
+-- The proof that adjacent events of different builds commute, unless the second takes what the first gives back.
 use Rattle.std.proofs.Common.{◌≡◌, ◌≢◌, ℕ, true, false, cond, ◌||◌, inl, inr, Bool, List, [], ◌∷◌, ◌++◌, set, Option, Some, None, refl, sym, ap, ◌∙◌, subst}
 use Rattle.std.specs.Prelude.{◌==◌, slice_get, option_and_then}
 use Rattle.std.specs.List.{last_or, list_any}
@@ -43,7 +43,7 @@ set_elsewhere x (p ∷ places) xs g out =
     let parts = or_parts (g == p) (is_in g places) out in
     set_elsewhere x places (set xs p x) g parts.1 ∙ slice_get_set_other xs p g x (eqb-false g p parts.0)
 
--- what is taken was nobody's, and is the build's then
+-- a granule that is taken was nobody's, and is the build's afterwards
 is_taken : (limits : Limits) (b : ℕ) (act : Act) (w v : World) (g : ℕ) → step limits w (by b act) ≡ Some v → is_in g (granules_taken act) ≡ true → slice_get v.leases g ≡ Some (Some b)
 unfolding named
 is_taken limits b (Take order first) w v g stepped i =
@@ -52,7 +52,7 @@ is_taken limits b (Take order first) w v g stepped i =
     ∙ ap (λ t. cond t (Some (Some b)) (slice_get w.leases g)) i
 is_taken limits b act w v g stepped i = cc
 
--- what is given back was the build's
+-- a granule that is given back was the build's
 was_held : (limits : Limits) (b : ℕ) (act : Act) (w v : World) (g : ℕ) → step limits w (by b act) ≡ Some v → is_in g (granules_given_back act) ≡ true
     → slice_get w.leases g ≡ Some (Some b)
 unfolding named
@@ -69,7 +69,7 @@ changed b act leases g taken given = refl
 same_lease_of : (a b : Option ℕ) (o : Option (Option ℕ)) → o ≡ Some a → o ≡ Some b → a ≡ b
 same_lease_of a b o e f = same_Some _ _ (sym e ∙ f)
 
--- the build's before, and nobody's then, so it is given back
+-- a granule that was the build's and is nobody's afterwards is given back
 is_given_back : (limits : Limits) (b : ℕ) (act : Act) (w v : World) (g : ℕ) → step limits w (by b act) ≡ Some v → slice_get w.leases g ≡ Some (Some b)
     → slice_get v.leases g ≡ Some None → is_in g (granules_given_back act) ≡ true
 is_given_back limits b act w v g stepped before then = by_test (is_in g (granules_given_back act)) refl
@@ -83,7 +83,7 @@ is_given_back limits b act w v g stepped before then = by_test (is_in g (granule
         let kept : slice_get v.leases g ≡ slice_get w.leases g = ap (λ ls. slice_get ls g) (step_is limits w v (by b act) stepped).leases ∙ changed b act w.leases g not_taken is in
         let e = same_lease_of (Some b) None _ (kept ∙ before) then in cc
 
--- nobody's before, and the build's then, so it is taken
+-- a granule that was nobody's and is the build's afterwards is taken
 is_newly_taken : (limits : Limits) (b : ℕ) (act : Act) (w v : World) (g : ℕ) → step limits w (by b act) ≡ Some v → slice_get w.leases g ≡ Some None
     → slice_get v.leases g ≡ Some (Some b) → is_in g (granules_taken act) ≡ true
 is_newly_taken limits b act w v g stepped before then = by_test (is_in g (granules_taken act)) refl
@@ -99,7 +99,7 @@ is_newly_taken limits b act w v g stepped before then = by_test (is_in g (granul
 
 -- ---- VMIDs that an event takes or gives back
 
--- a build has a Realm act with the VMID open
+-- a build has a Realm operation with the VMID open
 abbrev uses : ℕ → ℕ → List Event → Bool
 uses v c history = list_any (uses_vmid v) (open_entries c history)
 
@@ -130,7 +130,7 @@ unfolding reverse_of is_reverse
 gives_reverse v (UnRealm rd root w) i = (refl, refl)
 gives_reverse v act i = cc
 
--- an act and its reverse are of the same VMID
+-- an operation and its reverse are of the same VMID
 module _ (v : ℕ) (back : Act) where
   gives_if_newest : (act : Act) → reverse_of act ≡ Some back → uses_vmid v act ≡ true → is_in v (vmids_given_back back) ≡ true
   unfolding reverse_of
@@ -148,7 +148,7 @@ module _ (v : ℕ) (back : Act) where
   newest_if_gives (Rec g aux n) e i = let none = subst (λ a. is_in v (vmids_given_back a) ≡ true) (sym (same_Some _ _ e)) i in cc
   newest_if_gives act e i = cc
 
--- one more on top, or one less
+-- one more open operation, or one less
 module _ (v : ℕ) (below : List Act) (act : Act) where
   top : list_any (uses_vmid v) (below ++ act ∷ []) ≡ (list_any (uses_vmid v) below || uses_vmid v act)
   top = list_any-append (uses_vmid v) below (act ∷ []) ∙ ap (λ t. list_any (uses_vmid v) below || t) (or_none (uses_vmid v act))
@@ -166,13 +166,13 @@ module _ (history : List Event) (b : ℕ) (act : Act) (turn : IsInTurn history (
   abbrev grown : List Event
   grown = history ++ by b act ∷ []
 
-  -- what an act takes its build has open then
+  -- a VMID that an operation takes is open in its build afterwards
   is_open : is_in v (vmids_taken act) ≡ true → uses v b grown ≡ true
   is_open i =
       ap (list_any (uses_vmid v)) (open_entries-own history (by b act) ∙ pushed_paired (open_entries b history) act (takes_paired v act i))
       ∙ by_top v (open_entries b history) act (uses_if_takes v act i)
 
-  -- and what it gives back it had open
+  -- a VMID that an operation gives back was open in its build before
   was_open : is_in v (vmids_given_back act) ≡ true → uses v b history ≡ true
   was_open i =
       let back = gives_reverse v act i in
@@ -200,21 +200,21 @@ module _ (history : List Event) (b : ℕ) (act : Act) (turn : IsInTurn history (
     | of_other p r ↦ ap (list_any (uses_vmid v)) (sym (open_entries-own history (by b act) ∙ pushed_other (open_entries b history) act p r)) ∙ e
   ]
 
-  -- what a build has open it has open still, unless the act gives it back
+  -- a VMID that is open in a build stays open, unless the operation gives it back
   open_still : (c : ℕ) → uses v c history ≡ true → is_in v (vmids_given_back act) ≡ false → uses v c grown ≡ true
   open_still c e kept = elim (cases_eq b c) [
     | inl same ↦ subst (λ n. uses v n history ≡ true → uses v n grown ≡ true) same (λ e. own_still e kept) e
     | inr apart ↦ ap (list_any (uses_vmid v)) (open_entries-other c history (by b act) apart) ∙ e
   ]
 
-  -- and had it open before, unless the act takes it
+  -- a VMID that is open in a build was open before, unless the operation takes it
   open_before : (c : ℕ) → uses v c grown ≡ true → is_in v (vmids_taken act) ≡ false → uses v c history ≡ true
   open_before c e old = elim (cases_eq b c) [
     | inl same ↦ subst (λ n. uses v n grown ≡ true → uses v n history ≡ true) same (λ e. own_before e old) e
     | inr apart ↦ ap (list_any (uses_vmid v)) (sym (open_entries-other c history (by b act) apart)) ∙ e
   ]
 
--- what is open is in use, and what is in use is open
+-- a VMID is in use exactly if it is open in a build
 module _ (limits : Limits) (history : List Event) (w : World) (legal : IsLegal limits history) (at_w : replay limits history ≡ Some w) (v : ℕ) where
   used_if_open : (c : ℕ) → uses v c history ≡ true → is_in v (used_vmids w.machine) ≡ true
   used_if_open c e = in_from_Contains (used_vmids w.machine) v ((vmid_is_open limits history w v legal at_w).1 (c, e))
@@ -255,7 +255,7 @@ module _ (limits : Limits) (history : List Event) (one other : Event) (apart : o
   after_one : Grows limits history one run.middle
   after_one = grows limits history one run.base run.middle run.legal run.base_is run.one_goes run.turn_one
 
-  -- the other goes first, where it takes nothing that the one gives back
+  -- the other event is accepted first, if it takes nothing that the one gives back
   other_at_first : ¬ GivesTo one.act other.act → (v : World) × (step limits run.base other ≡ Some v)
   other_at_first none =
       goes_there limits one.build run.middle run.base (sym (without-own_step limits one.build run.base run.middle one refl (clean_reached limits history run.base run.base_is) run.one_goes))
@@ -278,7 +278,7 @@ module _ (limits : Limits) (history : List Event) (one other : Event) (apart : o
     after_other : Grows limits history other v
     after_other = grows limits history other run.base v run.legal run.base_is first (turn_before history one other apart run.turn_other)
 
-    -- and then the one goes
+    -- the one event is accepted after the other
     one_then : (z : World) × (step limits v one ≡ Some z)
     one_then =
         goes_there limits other.build run.base v (without-own_step limits other.build run.base v other refl (clean_reached limits history run.base run.base_is) first)
@@ -305,7 +305,7 @@ module _ (limits : Limits) (history : List Event) (one other : Event) (apart : o
     swapped = subst (IsLegal limits) (append_assoc history (other ∷ []) (one ∷ []))
         (grows limits (history ++ other ∷ []) one v one_then.0 after_other.legal after_other.world_is one_then.1 (turn_after history other one (λ e. apart (sym e)) run.turn_one)).legal
 
-  -- what the one gives back the other can't take before
+  -- the other event can't be first if it takes what the one gives back
   nothing_given : IsLegal limits (history ++ other ∷ one ∷ []) → ¬ GivesTo one.act other.act
   nothing_given legal gives =
       let turned = runs limits history other one legal in

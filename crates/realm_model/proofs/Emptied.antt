@@ -1,4 +1,4 @@
--- The world once nothing of a build is open, which is that of the history without it.
+-- The proof that a build with nothing open has no effect on the world that a history leads to.
 use Rattle.std.proofs.Common.{◌≡◌, ℕ, zero, suc, Bool, true, false, cond, not, List, [], ◌∷◌, map, Option, Some, None, refl, sym, ap, ◌∙◌}
 use Rattle.std.specs.Prelude.{◌==◌, option_map, replicate}
 use Rattle.realm_model.specs.declared.act.Event.{Event}

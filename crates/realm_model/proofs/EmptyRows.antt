@@ -26,7 +26,7 @@ below_alike i j bound to from = elim (nat_lt i bound) as (λ t. nat_lt i bound �
   | false ↦ λ high. sym (false_from (nat_lt j bound) (λ low. true_false _ (lt-ltb i bound (from (ltb-true j bound low))) high))
 ] refl
 
--- what a row covers is protected, or none of it is
+-- all IPA granules that a row covers are protected, or none is
 pub same_half : (width : ℕ) → is_width width ≡ true → (level i j : ℕ) → first_covered level i ≡ first_covered level j → is_protected_at i width ≡ is_protected_at j width
 same_half width known level i j same =
     ap (nat_lt i) (half_is width known)
@@ -94,7 +94,7 @@ put_empty {width} rows level ipa new known old protected table = record {
     place : ℕ × ℕ
     place = (level, first_covered level ipa)
 
--- ---- what commands make of rows
+-- ---- rows after commands
 
 pub root_empty : (width : ℕ) → HasEmptyRows width (root_rows width)
 unfolding root_rows

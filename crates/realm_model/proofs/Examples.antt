@@ -1,4 +1,4 @@
--- Small histories, computed.
+-- Examples of small histories, whose worlds are computed.
 -- the functions that build them
 pub mod Worlds
 -- pages of two builds
@@ -17,5 +17,5 @@ pub mod WideTables
 pub mod Measured
 -- marks
 pub mod Marks
--- orders
+-- schedules
 pub mod Orders

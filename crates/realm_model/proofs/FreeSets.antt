@@ -1,4 +1,4 @@
--- The free set, and the parts of builds, without one of them.
+-- The set of free granules, and the other builds' parts of the world, after one build is left out.
 use Rattle.std.proofs.Common.{◌≡◌, ◌≢◌, ℕ, zero, suc, ◌+◌, ◌<◌, ◌≤◌, Bool, true, false, cond, ◌&&◌, ◌||◌, not, ◌⊎◌, inl, inr, List, [], ◌∷◌, length, map, Option, Some, None, refl, sym, ap, ◌∙◌, arith}
 use Rattle.std.specs.Prelude.{◌==◌, ◌↔◌, filter, slice_get, option_map}
 use Rattle.std.specs.Option.{option_eq}
@@ -80,7 +80,7 @@ free_set-without limits b history w legal at_w g =
 
 -- ---- parts
 
--- what another build has stays
+-- the part of another build is unchanged
 pub part_of-without : (b c : ℕ) (w : World) → c ≢ b → part_of (without w b) c ≡ part_of w c
 part_of-without b c w apart = λ i. record { machine = cells w.leases w.machine i; leases = leases w.leases i }
   where

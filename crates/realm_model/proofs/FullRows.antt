@@ -1,4 +1,4 @@
--- The rows of a realm, which the commands keep full: none of the starting tables or of a table is missing.
+-- The invariant that a realm has a row for each entry of its starting tables and of its other tables.
 use Rattle.std.proofs.Common.{◌/◌, ◌≡◌, ◌≢◌, ℕ, zero, suc, ◌+◌, ◌-◌, ◌*◌, ◌<◌, ◌≤◌, Bool, true, false, cond, not, inl, inr, Some, None, refl, sym, ap, ◌∙◌, subst, arith}
 use Rattle.std.specs.Prelude.{option_map, is_some, ◌==◌}
 use Rattle.std.specs.FinMap.{get, insert, empty, get-empty}
@@ -45,7 +45,7 @@ some_stays : (rows : Rows) (place : ℕ × ℕ) (row : Row) (q : ℕ × ℕ) →
 some_stays rows place row q some = ap is_some (mapping_at-insert rows place q row)
     ∙ elim (is_place q place) as (λ t. is_some (cond t (Some (mapping_of_row row)) (mapping_at rows q)) ≡ true) [ true ↦ refl | false ↦ some ]
 
--- one that is no table, at any place
+-- a row that is no table, at any place
 pub put_full : {width : ℕ} (rows : Rows) (place : ℕ × ℕ) (row : Row) → IsFull width (mapping_at rows) → is_table_kind (Some (mapping_of_row row)) ≡ false → IsFull width (mapping_at (insert rows place row))
 put_full rows place row full plain = record {
   root = λ ipa inside. some_stays rows place row (1, first_covered 1 ipa) (full.root ipa inside);
@@ -65,7 +65,7 @@ with_ram_full {width} rows ipa n full all = subst (IsFull width) (λ i q. same_r
 
 -- ---- tables
 
--- what covers the first granule of an entry covers all of it
+-- a row that covers the first granule of an entry of the next level covers the whole entry
 pub above_covers : (level i : ℕ) → 1 ≤ level - 1 → level - 1 ≤ 2 → first_covered (level - 1) (first_covered level i) ≡ first_covered (level - 1) i
 above_covers level i low high = elim (level == 2) as (λ t. (level == 2) ≡ t → first_covered (level - 1) (first_covered level i) ≡ first_covered (level - 1) i) [
   | true ↦ λ e. subst (λ l. first_covered (l - 1) (first_covered l i) ≡ first_covered (l - 1) i) (sym (eqb-true level 2 e)) (two i)
@@ -85,7 +85,7 @@ module _ {width : ℕ} (rows : Rows) (level ipa : ℕ) (at : IsTablePlace ipa le
   abbrev up : ℕ × ℕ
   up = (level - 1, first_covered (level - 1) ipa)
 
-  -- what the row above covers is below it, at the table's level
+  -- the place of the row above is one level above the table, and its row covers the table's range
   below_up : (l i : ℕ) → is_place (l, first_covered l i) up ≡ true → (l + 1 ≡ level) × (first_covered (level - 1) (first_covered level i) ≡ ipa)
   below_up l i e =
       let same : (l, first_covered l i) ≡ up = same_place (l, first_covered l i) up e in
@@ -93,7 +93,7 @@ module _ {width : ℕ} (rows : Rows) (level ipa : ℕ) (at : IsTablePlace ipa le
       let firsts : first_covered (level - 1) i ≡ ipa = ap (λ n. first_covered n i) (sym levels) ∙ ap (λ (x : ℕ × ℕ). x.1) same ∙ at.first in
       (ap (λ n. n + 1) levels ∙ at.low.2, above_covers level i at.low.0 at.low.1 ∙ firsts)
 
-  -- and the other way round
+  -- a place one level above the table whose row covers the table's range is that of the row above
   up_above : (l i : ℕ) → l + 1 ≡ level → first_covered (level - 1) (first_covered level i) ≡ ipa → is_place (l, first_covered l i) up ≡ true
   up_above l i lower under =
       let low = at.low in
@@ -101,7 +101,7 @@ module _ {width : ℕ} (rows : Rows) (level ipa : ℕ) (at : IsTablePlace ipa le
       let firsts : first_covered l i ≡ first_covered (level - 1) ipa = ap (λ n. first_covered n i) levels ∙ sym (above_covers level i low.0 low.1) ∙ under ∙ sym at.first in
       subst (λ (p : ℕ × ℕ). is_place p up ≡ true) (sym (λ j. (levels j, firsts j))) (place_self up)
 
-  -- ---- a new one
+  -- ---- a new table
 
   module _ (granule : ℕ) (ripas : Ripas) where
     abbrev topped : Rows
@@ -140,7 +140,7 @@ module _ {width : ℕ} (rows : Rows) (level ipa : ℕ) (at : IsTablePlace ipa le
     ] refl;
   }
 
-  -- ---- one that goes
+  -- ---- a table that is removed
 
   abbrev under : ℕ × ℕ → Bool
   under q = is_among level ipa (512 * covered_count level) q
@@ -169,7 +169,7 @@ module _ {width : ℕ} (rows : Rows) (level ipa : ℕ) (at : IsTablePlace ipa le
     | false ↦ λ h. h
   ] (ap is_table_kind (sym (mapping_at-dropped q)) ∙ h)
 
-  -- a table then was one, and is not the one that is gone
+  -- a row that is TABLE afterwards was TABLE before, and is not in the removed table
   left_table : (q : ℕ × ℕ) → is_table_kind (mapping_at left_rows q) ≡ true → (is_place q up ≡ false) × (is_table_kind (mapping_at rows q) ≡ true)
   left_table q h = elim (is_place q up) as (λ t. is_table_kind (cond t (Some (mapping Unassigned None)) (mapping_at dropped q)) ≡ true → (t ≡ false) × (is_table_kind (mapping_at rows q) ≡ true)) [
     | true ↦ λ h. cc
@@ -193,7 +193,7 @@ module _ {width : ℕ} (rows : Rows) (level ipa : ℕ) (at : IsTablePlace ipa le
 
 -- ---- walks
 
--- every one ends at a row
+-- every walk ends at a row
 pub walk_ends : {width : ℕ} (rows : Rows) → IsFull width (mapping_at rows) → (ipa level : ℕ) → ipa < served_space width → 1 ≤ level → is_some (walk rows ipa level) ≡ true
 unfolding walk
 walk_ends rows full ipa zero inside low = absurd (omega arith)

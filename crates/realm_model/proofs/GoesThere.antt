@@ -1,5 +1,5 @@
--- An event in two worlds that differ in the part of another build alone: it is accepted in both, if it takes nothing of
--- that part.
+-- The proof that an accepted event is also accepted if another build's part of the world differs. The event takes
+-- nothing of that part.
 use Rattle.std.proofs.Common.{◌≡◌, ◌≢◌, ℕ, true, false, cond, ◌||◌, not, List, [], ◌∷◌, map, Option, Some, None, Ok, refl, sym, ap, ◌∙◌}
 use Rattle.std.specs.Prelude.{◌==◌, slice_get, option_map}
 use Rattle.std.specs.List.{list_all}
@@ -27,7 +27,7 @@ use Rattle.realm_model.proofs.StepSays.{step_is}
 
 -- ---- VMIDs
 
--- what is no refusal is none where the VMID that is taken is not in use
+-- a command that is not refused is not refused beside other VMIDs in use, if these lack the VMID that it takes
 outcome_of-taken : (limits : Limits) (used others : List ℕ) (act : Act) → ((v : ℕ) → is_in v (vmids_taken act) ≡ true → is_in v others ≡ false)
     → (realm : Option Seen) (gs : List Seen) (us : List Update) → outcome_of limits.vmids limits.aux used act realm gs ≡ Ok us → outcome_of limits.vmids limits.aux others act realm gs ≡ Ok us
 unfolding outcome_of
@@ -37,7 +37,7 @@ outcome_of-taken limits used others (Realm rd root v) free realm (g ∷ gs) us e
     Yields-Ok _ _ (check_true _ _ _ (and_from _ _ (and_parts _ _ all).0 (ap not (free v (is_in_head v []))))))).where_ok us e
 outcome_of-taken limits used others act free realm gs us e = e
 
--- and that VMID was in no use
+-- the VMID that is taken was not in use
 unused_before : (limits : Limits) (used : List ℕ) (act : Act) (v : ℕ) → is_in v (vmids_taken act) ≡ true → (realm : Option Seen) (gs : List Seen) (us : List Update)
     → outcome_of limits.vmids limits.aux used act realm gs ≡ Ok us → is_in v used ≡ false
 unfolding outcome_of
@@ -55,13 +55,13 @@ vmid_unused limits w next e stepped v i = let s = step_is limits w next e steppe
 
 -- ---- granules
 
--- a granule that is named is leased as it should be
+-- a granule that is named is leased as the operation requires
 pub named_lease : (limits : Limits) (w v : World) (e : Event) (g : ℕ) → step limits w e ≡ Some v → is_in g (named e.act) ≡ true → slice_get w.leases g ≡ Some (holder e.build e.act)
 named_lease limits w v e g stepped i =
     let lease : Option ℕ = holder e.build e.act in
     leased lease w.leases g (all_in (is_leased_to lease w.leases) (named e.act) g (leased_all lease w.leases (named e.act) (step_is limits w v e stepped).granules) i)
 
--- one that is taken was nobody's
+-- a granule that is taken was nobody's
 pub was_free : (limits : Limits) (b : ℕ) (act : Act) (w v : World) (g : ℕ) → step limits w (by b act) ≡ Some v → is_in g (granules_taken act) ≡ true → slice_get w.leases g ≡ Some None
 unfolding named
 was_free limits b (Take order first) w v g stepped i = named_lease limits w v (by b (Take order first)) g stepped i
@@ -71,7 +71,7 @@ holder_apart : (b c : ℕ) (act : Act) → c ≢ b → is_of b (holder c act) �
 holder_apart b c (Take order first) apart = refl
 holder_apart b c _ apart = ne_eqb c b apart
 
--- what nobody holds is taken
+-- if an operation requires granules that nobody leases, it takes them
 taken_from_none : (c : ℕ) (act : Act) (g : ℕ) → holder c act ≡ None → is_in g (named act) ≡ true → is_in g (granules_taken act) ≡ true
 unfolding named
 taken_from_none c (Take order first) g none i = i
@@ -80,7 +80,7 @@ taken_from_none c _ g none i = cc
 -- ---- one event
 
 module _ (limits : Limits) (b : ℕ) (y x : World) (rest : without x b ≡ without y b) where
-  -- what others lease, or nobody, unless it is the build's now
+  -- a lease that is not the build's is the same in both worlds, unless the build leases that granule in the other one
   lease_there : (h : Option ℕ) (g : ℕ) → is_of b h ≡ false → (h ≡ None → slice_get x.leases g ≡ Some (Some b) → ⊥) → slice_get y.leases g ≡ Some h → slice_get x.leases g ≡ Some h
   lease_there h g apart free e = by_lease (slice_get x.leases g) refl
       (sym (slice_get-map (unleased (is_of b)) x.leases g) ∙ ap (λ (w : World). slice_get w.leases g) rest ∙ slice_get-map (unleased (is_of b)) y.leases g
@@ -93,7 +93,7 @@ module _ (limits : Limits) (b : ℕ) (y x : World) (rest : without x b ≡ witho
         | false ↦ λ other m. m
       ] refl m
 
-  -- the realms of others
+  -- the realms of other builds are the same
   realm_there : (c : ℕ) → c ≢ b → realm_of c x ≡ realm_of c y
   realm_there c apart =
       sym (realm_kept (is_of b) c 0 (ne_eqb c b apart) x.leases x.machine) ∙ ap (realm_of c) rest ∙ realm_kept (is_of b) c 0 (ne_eqb c b apart) y.leases y.machine

@@ -43,7 +43,7 @@ grows limits history event w v legal at_w stepped turn =
     after_push limits history event (opening limits) ∙ ap (option_and_then (λ x. step limits x event)) at_w ∙ stepped in
     record { legal = record { steps = ap is_some at_v; in_turn = AllInTurn_push [] history event legal.in_turn turn }; world_is = at_v }
 
--- ---- the acts of a build after it, and what is open
+-- ---- a build's operations after the event, and those that are open
 
 pub acts_of-own : (history : List Event) (event : Event) → acts_of event.build (history ++ event ∷ []) ≡ acts_of event.build history ++ event.act ∷ []
 acts_of-own history event =
@@ -57,7 +57,7 @@ acts_of-other build history event apart =
     ∙ ap (λ t. filter (λ x. x.build == build) history ++ cond t (event ∷ []) []) (ne_eqb event.build build apart)
     ∙ append-nil (filter (λ x. x.build == build) history))
 
--- what is open after one more event
+-- the open operations after one more event
 pub open_entries-own : (history : List Event) (event : Event) → open_entries event.build (history ++ event ∷ []) ≡ pushed (open_entries event.build history) event.act
 unfolding open_entries
 open_entries-own history event =
@@ -67,13 +67,13 @@ pub open_entries-other : (build : ℕ) (history : List Event) (event : Event) �
 unfolding open_entries
 open_entries-other build history event apart = ap unmatched (acts_of-other build history event apart)
 
--- the newest open act, which a reverse act in turn takes away
+-- the newest open operation, which a reverse in turn removes from the open ones
 pub record TakesAway (b : ℕ) (history : List Event) (act : Act) : Type 0 where
   pub newest : Act
   pub pairs : reverse_of newest ≡ Some act
   pub open_is : open_entries b history ≡ open_entries b (history ++ by b act ∷ []) ++ newest ∷ []
 
--- the act before the reverse of an option that has one
+-- if an option's operation has a reverse, the option has an operation
 reversed_some : (o : Option Act) (act : Act) → option_and_then reverse_of o ≡ Some act → (newest : Act) × (o ≡ Some newest) × (reverse_of newest ≡ Some act)
 reversed_some None act e = cc
 reversed_some (Some a) act e = (a, refl, e)

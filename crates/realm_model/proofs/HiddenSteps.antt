@@ -1,4 +1,4 @@
--- One event, and the world with some builds hidden: without one build, or with one build alone.
+-- A step of the model in a world without one build, and in a world with one build alone.
 use Rattle.std.proofs.Common.{◌≡◌, ◌≢◌, ℕ, suc, Bool, true, false, cond, ◌&&◌, not, List, [], ◌∷◌, map, Option, Some, None, Ok, Err, refl, sym, ap, ◌∙◌}
 use Rattle.std.specs.Option.{option_eq}
 use Rattle.std.specs.Prelude.{◌==◌, slice_get, option_map, is_some}
@@ -74,7 +74,7 @@ realm_kept p c n other (l ∷ leases) (cell ∷ machine) =
     ap (λ rest. realm_or c n (unleased p l) (hidden p l cell) rest) (realm_kept p c (suc n) other leases machine)
     ∙ realm_or_kept p c n other l cell (realm_from c (suc n) leases machine)
 
--- what a command answered, and did, it answers and does
+-- a command has the same answer and effect with some builds hidden
 module _ (p : Option ℕ → Bool) (free : p None ≡ false) (c : ℕ) where
   after_outcome-masked : p (Some c) ≡ false → (o fewer : Outcome) (w v : World) → ((us : List Update) → o ≡ Ok us → fewer ≡ Ok us) → after_outcome c o w ≡ Some v
       → after_outcome c fewer (masked p w) ≡ Some (masked p v)
@@ -95,7 +95,7 @@ unfolding step
 IsClean-step limits w v e clean s = IsClean-after_outcome e.build _ w v clean (guarded (is_allowed limits w e) _ v s).1
 
 module _ (limits : Limits) (p : Option ℕ → Bool) (free : p None ≡ false) (w v : World) (e : Event) where
-  -- an event of a build that is not hidden goes as well with the others hidden
+  -- an event of a build that is not hidden is accepted as well if others are hidden
   pub step-masked : p (Some e.build) ≡ false → step limits w e ≡ Some v → step limits (masked p w) e ≡ Some (masked p v)
   unfolding step
   step-masked other s =

@@ -1,4 +1,4 @@
--- Updates, and the world with some builds hidden.
+-- Updates by a command in a world from which some builds are removed.
 use Rattle.std.proofs.Common.{◌≡◌, ℕ, Bool, true, false, cond, List, [], ◌∷◌, map, set, Option, Some, None, refl, sym, ap, ◌∙◌}
 use Rattle.std.specs.Prelude.{slice_get, option_map}
 use Rattle.std.proofs.lemmas.List.{map-set}
@@ -40,7 +40,7 @@ module _ (p : Option ℕ → Bool) (free : p None ≡ false) (c : ℕ) (other : 
   after_shown (Lease g) = other
   after_shown (Free g) = free
 
-  -- it goes as well with the others hidden
+  -- the update is the same if others are hidden
   masked-updated : (u : Update) (w : World) → is_leased_to (lease_before c u) w.leases (granule_of u) ≡ true → masked p (updated c u w) ≡ updated c u (masked p w)
   masked-updated u w h =
       let g = granule_of u in
@@ -84,14 +84,14 @@ module _ (p : Option ℕ → Bool) (free : p None ≡ false) (c : ℕ) (own : p 
   before_gone (Lease g) = stays p None free
   before_gone (Free g) = gone p (Some c) own
 
-  -- what it changes is blank without it before the update too: it is the build's, or free
+  -- the cell that is updated is hidden or blank before the update too, since it is the build's, or free
   before_hidden : (u : Update) (cell : Cell) → (lease_before c u ≡ None → cell ≡ blank) → hidden p (lease_before c u) cell ≡ blank
   before_hidden (Put g x) cell unheld = hide p (Some c) cell own
   before_hidden (PutByte g o v) cell unheld = hide p (Some c) cell own
   before_hidden (Lease g) cell unheld = show p None cell free ∙ unheld refl
   before_hidden (Free g) cell unheld = hide p (Some c) cell own
 
-  -- it is not seen
+  -- the update is not seen if the build is hidden
   masked-own_updated : (u : Update) (w : World) → IsClean w → is_leased_to (lease_before c u) w.leases (granule_of u) ≡ true → masked p (updated c u w) ≡ masked p w
   masked-own_updated u w clean h =
       let g = granule_of u in

@@ -1,4 +1,4 @@
--- A history in two parts.
+-- The split of a legal history into a legal first part and events that continue from there.
 use Rattle.std.proofs.Common.{◌≡◌, ◌≢◌, ℕ, List, [], ◌∷◌, ◌++◌, map, Option, Some, None, refl, sym, ap, ◌∙◌, subst}
 use Rattle.std.specs.Prelude.{◌==◌, option_and_then, filter, is_some}
 use Rattle.std.proofs.lemmas.List.{append_assoc, append-nil, map-append}
@@ -10,7 +10,7 @@ use Rattle.realm_model.specs.Step.{step}
 use Rattle.realm_model.specs.History.{erase, acts_of, open_entries, unmatched, AllInTurn, after, replay, IsLegal}
 use Rattle.realm_model.proofs.LeftOut.{acts_of-erase}
 
--- the world after both
+-- the world after both parts
 pub after_append : (limits : Limits) (xs ys : List Event) (w : World) → after limits (xs ++ ys) w ≡ option_and_then (after limits ys) (after limits xs w)
 unfolding after
 after_append limits [] ys w = refl
@@ -46,7 +46,7 @@ split limits p s w legal at_w =
 
 -- ---- what is open, after one part and the events of others in the other
 
--- the acts of both
+-- the operations of both parts
 pub acts_of-append : (b : ℕ) (xs ys : List Event) → acts_of b (xs ++ ys) ≡ acts_of b xs ++ acts_of b ys
 acts_of-append b xs ys =
     ap (map (λ (x : Event). x.act)) (filter-append (λ (x : Event). x.build == b) xs ys)

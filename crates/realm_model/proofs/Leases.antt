@@ -21,7 +21,7 @@ pub lease_same : (a : Option ℕ) → same_lease a a ≡ true
 lease_same None = refl
 lease_same (Some x) = eq-eqb x x refl
 
--- who leases the granule, if the test says so
+-- the lease of a granule, if its test holds
 leased_there : (o : Option (Option ℕ)) (lease : Option ℕ) → option_eq same_lease o (Some lease) ≡ true → o ≡ Some lease
 leased_there None lease e = cc
 leased_there (Some l) lease e = ap Some (lease_is l lease e)
@@ -57,7 +57,7 @@ cell_at-each f (l ∷ ls) [] g lease none e = sym none
 cell_at-each f (l ∷ ls) (c ∷ cells) zero lease none e = let same : l ≡ lease = cc in ap (λ x. f x c) same
 cell_at-each f (l ∷ ls) (c ∷ cells) (suc g) lease none e = cell_at-each f ls cells g lease none e
 
--- a write of what stands there
+-- a write of the cell that is there already
 pub set_cell : (cells : Machine) (g : ℕ) (c : Cell) → cell_at cells g ≡ c → set cells g c ≡ cells
 set_cell cells g c e = ap (set cells g) (sym e) ∙ set-get_or cells g blank
 

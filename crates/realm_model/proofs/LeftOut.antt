@@ -66,7 +66,7 @@ acts_of-erase b c apart (e ∷ es) =
       | false ↦ λ other. map-act c e (erase b es) ∙ ap (acts_or (e.build == c) e) rest ∙ sym (map-act c e es)
     ] refl
 
--- none of the build's own are left
+-- no operation of the build itself is left
 pub acts_of-erased : (b : ℕ) (es : List Event) → acts_of b (erase b es) ≡ []
 acts_of-erased b [] = refl
 acts_of-erased b (e ∷ es) = elim (e.build == b) as (λ t. (e.build == b) ≡ t → acts_of b (cond (not t) (e ∷ erase b es) (erase b es)) ≡ []) [

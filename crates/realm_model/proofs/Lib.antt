@@ -1,4 +1,4 @@
--- tests, lists and maps
+-- Lemmas on tests, lists and maps
 pub mod Booleans
 pub mod Lists
 pub mod SetEach
@@ -7,7 +7,7 @@ pub mod Roots
 pub mod Same
 pub mod SameAct
 pub mod PairedKinds
--- what a command yields, and its updates do
+-- the updates of a command, and their effect
 pub mod Outcomes
 pub mod Walks
 pub mod Leases
@@ -23,7 +23,7 @@ pub mod Clean
 pub mod HiddenUpdates
 pub mod HiddenSteps
 pub mod LeftOut
--- how histories grow, and what is open
+-- histories with one more event, and open operations
 pub mod Stack
 pub mod Growth
 pub mod HistoryParts
@@ -59,7 +59,7 @@ pub mod Reaching
 pub mod ZeroPages
 pub mod Vmids
 pub mod Reachable
--- room
+-- capacity
 pub mod RunningRecs
 pub mod RealmAfter
 pub mod PartRealm
@@ -87,7 +87,7 @@ pub mod Rests
 pub mod AtRest
 pub mod UndoAll
 pub mod Aborting
--- what becomes of ownership
+-- the ownership after operations
 pub mod SameMappings
 pub mod Alike
 pub mod OwnFollows
@@ -98,7 +98,7 @@ pub mod RollBack
 pub mod Marks
 -- worked histories
 pub mod Examples
--- what a build has open, and its realm
+-- the open operations of a build, and its realm
 pub mod EachOfRange
 pub mod Made
 pub mod RecLists

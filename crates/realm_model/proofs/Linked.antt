@@ -62,7 +62,7 @@ unused_number d sound = elim (get d.recs d.next) as (λ o. get d.recs d.next ≡
 no_recs_in : (m : FinMap nat_cmp RecRow) → len m ≡ 0 → (n : ℕ) → get m n ≡ None
 no_recs_in m none n = ap (λ x. get x n) (empty_of_len m none) ∙ get-empty nat_cmp n
 
--- ---- acts
+-- ---- operations
 
 module _ (limits : Limits) (w : World) (sound : IsSoundPart w) (old : IsLinked (λ k. cell_at w.machine k)) where
   abbrev now : ℕ → Cell

@@ -1,4 +1,4 @@
--- Granules of a list that have the roles of their indexes in it: auxiliaries of a REC, starting tables of a realm.
+-- The roles of granules by their index in a list: the auxiliaries of a REC, and the starting tables of a realm.
 use Rattle.std.proofs.Common.{◌≡◌, ℕ, zero, suc, ◌+◌, true, false, cond, ◌||◌, List, [], ◌∷◌, Option, Some, None, refl, sym, ap, ◌∙◌, arith}
 use Rattle.std.specs.Prelude.{◌==◌, option_map, slice_get}
 use Rattle.std.proofs.lemmas.Bool.{eq-eqb, ne_eqb}
@@ -51,7 +51,7 @@ module _ (role : ℕ → Role) where
       zero_plus : (i : ℕ) → 0 + i ≡ i
       zero_plus i = omega arith
 
--- what is named at a place of the list stands there
+-- the granule that is named at a place is the list's element there
 pub listed_target : (s : GranuleState) (gs : List ℕ) (i : ℕ) (to : ℕ × GranuleState) → option_map (λ g. (g, s)) (slice_get gs i) ≡ Some to → (slice_get gs i ≡ Some to.0) × (s ≡ to.1)
 listed_target s gs i to h = of_place (slice_get gs i) h
   where

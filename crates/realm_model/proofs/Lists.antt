@@ -114,7 +114,7 @@ is_in_head k xs = ap (λ t. t || is_in k xs) (eq-eqb k k refl)
 pub is_in_more : (k x : ℕ) (xs : List ℕ) → is_in k xs ≡ true → is_in k (x ∷ xs) ≡ true
 is_in_more k x xs e = elim (k == x) as (λ t. (t || is_in k xs) ≡ true) [ true ↦ refl | false ↦ e ]
 
--- what holds of each element holds of those that are in
+-- a test that each element passes is passed by each number in the list
 pub all_in : (test : ℕ → Bool) (xs : List ℕ) (k : ℕ) → list_all test xs ≡ true → is_in k xs ≡ true → test k ≡ true
 all_in test [] k h e = cc
 all_in test (x ∷ xs) k h e =
@@ -182,12 +182,12 @@ AllDistinct_parts (x ∷ xs) ys h =
       ] refl,
     )
 
--- in the words of a command
+-- the same, by the test that a command makes
 pub AllDistinct-from_test : (xs : List ℕ) → are_distinct xs ≡ true → AllDistinct xs
 AllDistinct-from_test [] h = tt
 AllDistinct-from_test (x ∷ xs) h = let parts = and_parts _ _ h in (not_true _ parts.0, AllDistinct-from_test xs parts.1)
 
--- in the words of std
+-- the same, by the definition of std
 pub AllPairs-from_distinct : (xs : List ℕ) → AllDistinct xs → AllPairs (λ a b. a ≢ b) xs
 AllPairs-from_distinct [] h i j d less within = absurd (omega arith)
 AllPairs-from_distinct (x ∷ xs) h zero zero d less within = absurd (omega arith)

@@ -1,5 +1,4 @@
--- The lists that the open operations of a build make: an operation adds its own part, and a reverse removes that of the
--- operation that it reverses.
+-- Lists computed from a build's open operations: each operation adds a part, and its reverse removes that part.
 use Rattle.std.proofs.Common.{◌≡◌, ℕ, true, false, List, [], ◌∷◌, ◌++◌, Some, sym, ap, ◌∙◌}
 use Rattle.std.specs.List.{flat_map}
 use Rattle.std.proofs.lemmas.List.{append-nil}
@@ -14,7 +13,8 @@ use Rattle.realm_model.specs.Undoing.{by}
 use Rattle.realm_model.proofs.Growth.{open_entries-own, takes_away}
 use Rattle.realm_model.proofs.Stack.{pushed_paired, pushed_other, kind, paired, back, other}
 
--- the act that a reverse takes back, but that UnData is the reverse of Data too; another act takes none back
+-- the operation that a reverse takes back, except that UnData is the reverse of Data too; no other operation takes one
+-- back
 abbrev pub taken_back : Act → Act
 taken_back (UnTake order first) = Take order first
 taken_back (Undelegate granule) = Delegate granule

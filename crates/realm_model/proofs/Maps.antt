@@ -1,4 +1,4 @@
--- Finite maps by number and by place: equality of keys, and of values that look the same.
+-- Lemmas on finite maps whose keys are numbers, or pairs of a level and an IPA granule.
 use Rattle.std.proofs.Common.{◌≡◌, ℕ, true, false, cond, Some, Ordering, refl, sym, ap, ◌∙◌}
 use Rattle.std.specs.Prelude.{option_map}
 use Rattle.std.specs.declared.cmp.Ordering.TheVariants.{Less, Equal, Greater}
@@ -34,7 +34,7 @@ pub same_place : (q k : ℕ × ℕ) → eq_by_cmp place_cmp q k ≡ true → q �
 same_place q k e = place_cmp-IsAntisymmetric q k (equal (place_cmp q k) e)
 
 module _ {K X Y : Type 0} {R : K → K → Ordering} (total : IsTotalOrder R) (f : X → Y) where
-  -- a value that looks the same, put in its place
+  -- a value in place of another that is the same by `f`
   pub same_insert : (m n : FinMap R X) (k : K) (x y : X) → get m k ≡ Some x → f x ≡ f y → ((q : K) → option_map f (get m q) ≡ option_map f (get n q))
       → (q : K) → option_map f (get m q) ≡ option_map f (get (insert n k y) q)
   same_insert m n k x y there alike same q =

@@ -1,4 +1,4 @@
--- Marks, which are valid until less is open.
+-- The proof that a mark is valid from when it is set until its build has fewer operations open.
 use Rattle.std.proofs.Common.{◌≡◌, ℕ, ◌+◌, ◌<◌, ◌≤◌, true, false, List, [], ◌∷◌, ◌++◌, length, take, refl, sym, ap, ◌∙◌, subst, arith}
 use Rattle.std.specs.Prelude.{nat_lt, ◌↔◌}
 use Rattle.std.proofs.lemmas.Bool.{ltb-true, ltb-false}
@@ -7,7 +7,7 @@ use Rattle.realm_model.specs.declared.act.Event.{Event}
 use Rattle.realm_model.specs.History.{open_entries}
 use Rattle.realm_model.specs.Marks.{Mark, mark_at, IsValidMark}
 
--- a mark stands when it is made
+-- a mark is valid when it is made
 pub valid_now : (build : ℕ) (history : List Event) → IsValidMark (mark_at build history) history
 valid_now build history = record {
   place = omega arith;
@@ -22,7 +22,7 @@ module _ (mark : Mark) (history : List Event) (event : Event) (within : mark.pla
   abbrev Deep : List Event → Type 0
   Deep es = mark.depth ≤ length (open_entries mark.build es)
 
-  -- what came before it is as it was
+  -- the events before the last one are as they were
   early : (n : ℕ) → n ≤ length history → take n next ≡ take n history
   early n h = take-append-le n history (event ∷ []) h
 
@@ -36,7 +36,7 @@ module _ (mark : Mark) (history : List Event) (event : Event) (within : mark.pla
     | false ↦ λ e. let not_past : n ≤ length history = ltb-false (length history) n e in low not_past
   ] refl
 
-  -- the mark stands after one more event where it stood, and no less is open
+  -- the mark is valid after one more event exactly if it was, and its build has at least `depth` operations open
   pub stays_valid : IsValidMark mark next ↔ (IsValidMark mark history × (mark.depth ≤ length (open_entries mark.build next)))
   stays_valid = (
     λ s. (

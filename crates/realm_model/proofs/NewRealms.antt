@@ -21,7 +21,7 @@ use Rattle.realm_model.proofs.Written.{each_put, put_seen, seen-each_put, put_at
 abbrev pub new_rd : ℕ → Root → ℕ → Cell
 new_rd rd root vmid = record { state = Rd; realm = Some rd; bytes = zero_page; descriptor = Some (new_realm vmid root) }
 
--- what its making changes
+-- the updates that create a realm
 abbrev pub creation : ℕ → Root → ℕ → List Update
 creation rd root vmid = Put rd (new_rd rd root vmid) ∷ each_put (held InRtt rd) (starting_tables root)
 

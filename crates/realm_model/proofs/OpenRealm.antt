@@ -1,4 +1,4 @@
--- The realm of a build, which is that of its open Realm operation.
+-- The proof that a build's realm is the one that the build's open Realm operation created.
 use Rattle.std.proofs.Common.{◌≡◌, ℕ, true, false, cond, inl, inr, ⊎_elim, List, [], ◌∷◌, ◌++◌, length, map, Option, Some, None, refl, sym, ap, ◌∙◌, subst, arith}
 use Rattle.std.specs.Prelude.{filter, is_some}
 use Rattle.std.proofs.lemmas.Bool.{cases_eq}
@@ -50,15 +50,15 @@ module _ (b : ℕ) (w : World) (kept : IsKept b w) where
       by_realm None at = refl
       by_realm (Some rd) at = ap (makers_at rd.number) (ap (λ (c : Cell). c.descriptor) (sym at) ∙ none rd.number)
 
--- ---- after an act
+-- ---- after an operation
 
--- what ends a realm finds one
+-- an operation that destroys a realm finds one
 never_fits : (act : Act) (gs : List Seen) → is_realm_destroy act ≡ true → fits act None gs ≡ true → ⊥
 unfolding fits
 never_fits (UnRealm rd root vmid) gs d fit = cc
 never_fits _ gs d fit = cc
 
--- the realm that is there stays the one that the act made
+-- the realm stays the one that the operation made
 abbrev Stays : RealmRow → RealmRow → Type 0
 Stays d e = (k : ℕ) → maker k e ≡ maker k d
 
@@ -96,7 +96,7 @@ module _ (limits : Limits) (b : ℕ) (w v : World) (kept : IsKept b w) (kept_v :
         maker_at b v kept_v there.0 then.0 then.1 ∙ ap (λ x. x ∷ []) (then.2 there.0) ∙ sym (maker_at b w kept there.0 there.1 there.2)
   ]
 
-  -- a realm that is made is the act's, and there was none: its reverse finds one
+  -- a realm that is made is the operation's, and there was none before
   realm_made : (act r : Act) → makes_realm act ≡ true → reverse_of act ≡ Some r → LeadsBack limits b w v r → step limits w (by b act) ≡ Some v
       → (makers (realm_of b w) ≡ []) × (makers (realm_of b v) ≡ act ∷ [])
   unfolding fits reverse_of new_realm
@@ -132,7 +132,7 @@ module _ (limits : Limits) (b : ℕ) (w v : World) (kept : IsKept b w) (kept_v :
 realms_push : (acts : List Act) (act : Act) → filter makes_realm (acts ++ act ∷ []) ≡ filter makes_realm acts ++ cond (makes_realm act) (act ∷ []) []
 realms_push acts act = filter-append makes_realm acts (act ∷ [])
 
--- an act that makes a realm has a reverse, and one that ends it is a reverse
+-- an operation that makes a realm has a reverse, and one that destroys a realm is a reverse
 reverse_there : (act : Act) → makes_realm act ≡ true → (r : Act) × (reverse_of act ≡ Some r)
 unfolding reverse_of
 reverse_there (Realm rd root vmid) m = (UnRealm rd root vmid, refl)
@@ -143,13 +143,13 @@ unfolding reverse_of is_reverse
 of_back (UnRealm rd root vmid) d = (refl, refl)
 of_back _ d = cc
 
--- a reverse that ends no realm is that of an act that makes none
+-- a reverse that destroys no realm is that of an operation that makes none
 plain_newest : (newest act : Act) → is_realm_destroy act ≡ false → reverse_of newest ≡ Some act → makes_realm newest ≡ false
 unfolding reverse_of
 plain_newest (Realm rd root vmid) act plain is = let never : true ≡ false = ap is_realm_destroy (same_Some _ _ is) ∙ plain in cc
 plain_newest _ act plain is = refl
 
--- and one that ends a realm is that of an act that makes it
+-- a reverse that destroys a realm is that of an operation that makes it
 ends : (act act2 : Act) → is_realm_destroy act2 ≡ true → Some act ≡ Some act2 → is_realm_destroy act ≡ true
 ends act act2 d is = ap is_realm_destroy (same_Some _ _ is) ∙ d
 

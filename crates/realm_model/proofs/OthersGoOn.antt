@@ -1,4 +1,4 @@
--- The events of others after some point, which are accepted as well if a build did nothing since.
+-- The proof that other builds' events after a point of a history are accepted without one build's later events.
 use Rattle.std.proofs.Common.{◌≡◌, ◌≢◌, ℕ, zero, suc, true, false, cond, ◌⊎◌, inl, inr, not, List, [], ◌∷◌, length, Option, Some, None, sym, ap, ◌∙◌, arith, pred}
 use Rattle.std.specs.Prelude.{◌==◌, slice_get}
 use Rattle.std.proofs.lemmas.Option.{same_Some}
@@ -37,14 +37,14 @@ pub record IsBack (b : ℕ) (base y x : World) : Type 0 where
   pub rest : without x b ≡ without y b
 
 module _ (limits : Limits) (b : ℕ) (base y x : World) (back : IsBack b base y x) (still : HasStill b base y) where
-  -- what the build leases in x it leases in y
+  -- a granule that the build leases in x it leases in y
   own_there : (g : ℕ) → slice_get x.leases g ≡ Some (Some b) → slice_get y.leases g ≡ Some (Some b)
   own_there g e =
       let in_base : slice_get (part_of base b).leases g ≡ Some (Some b) =
       ap (λ (w : World). slice_get w.leases g) (sym back.part) ∙ leased (Some b) (part_of x b).leases g (leased_in_part b x g ∙ leased_from (Some b) x.leases g e) in
       leased (Some b) y.leases g (sym (leased_in_part b y g) ∙ leased_from (Some b) (part_of y b).leases g (still.leases g in_base))
 
-  -- no VMID is in use that was not
+  -- each VMID that is in use in x is in use in y
   used_there : IsSquare x → (v : ℕ) → is_in v (used_vmids x.machine) ≡ true → is_in v (used_vmids y.machine) ≡ true
   used_there square v e =
       let user = used_by v x.machine e in

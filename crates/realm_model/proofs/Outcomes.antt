@@ -1,4 +1,4 @@
--- The outcome of a command: the conditions of its updates if it is not refused, and the way past each check.
+-- Properties of the updates of a command that is not refused, derived check by check.
 use Rattle.std.proofs.Common.{◌≡◌, ℕ, Bool, true, false, cond, List, Some, None, Ok, Err, refl, ap, subst}
 use Rattle.std.specs.FinMap.{get}
 use Rattle.realm_model.specs.declared.rmi.Rmi.{Rmi}
@@ -43,7 +43,7 @@ module _ (P : List Update → Type 0) where
   Yields-with_end rows ipa level f h =
       elim (walk rows ipa level) as (λ o. walk rows ipa level ≡ o → Yields P (elim o [ Some end ↦ f end | None ↦ Err (error_rtt 0) ])) [ Some end ↦ λ e. h end e | None ↦ λ e. Yields-Err _ ] refl
 
--- ---- what is looked up is there
+-- ---- the lookups find a value
 
 pub check_true : (t : Bool) (rmi : Rmi) (o : Outcome) → t ≡ true → check t rmi o ≡ o
 unfolding check

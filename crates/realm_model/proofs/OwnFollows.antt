@@ -1,4 +1,4 @@
--- The ownership after an operation, which depends on the ownership before alone.
+-- The proof that the ownership after an operation depends only on the operation and the ownership before.
 use Rattle.std.proofs.Common.{◌≡◌, ℕ, suc, ◌-◌, Bool, true, false, cond, ◌&&◌, ◌||◌, List, [], ◌∷◌, map, length, pred, Option, Some, None, Ok, refl, sym, ap, ◌∙◌, subst, arith}
 use Rattle.std.specs.Prelude.{is_some, ◌==◌, option_map}
 use Rattle.std.specs.Cmp.{nat_cmp_total}
@@ -85,7 +85,7 @@ realms_twins b w v sw sv same =
 row_same : (o p : Option RealmRow) (d e : RealmRow) → SameDescriptor o p → o ≡ Some d → p ≡ Some e → SameRealm d e
 row_same o p d e same is ise = subst (λ x. SameDescriptor x (Some e)) is (subst (SameDescriptor o) ise same)
 
--- ---- what both write, and where their walks end
+-- ---- the updates of both, and the ends of their walks
 
 held_same : (state : GranuleState) (m n : ℕ) → m ≡ n → SameCell (held state m) (held state n)
 held_same state m n e = record { state = refl; realm = ap Some e; descriptor = tt }
@@ -95,7 +95,7 @@ alike_realm rd sd d e twin same = alike_put rd.number sd.number _ _ twin.number 
 
 module _ (r s : Rows) (same : SameMappings r s) (ipa level : ℕ) (a b : Walk) (ra : walk r ipa level ≡ Some a) (sb : walk s ipa level ≡ Some b)
     (at_a : (a.level == level) ≡ true) (at_b : (b.level == level) ≡ true) where
-  -- walks that end at the level end at rows that look the same
+  -- walks that end at the level end at rows that are equal but for their RIPAS
   end_same : mapping_of_row a.row ≡ mapping_of_row b.row
   end_same = same_Some _ _ (ap (option_map mapping_of_row) (sym (walk_at r ipa level a ra (eqb-true a.level level at_a))) ∙ same (level, first_covered level ipa)
       ∙ ap (option_map mapping_of_row) (walk_at s ipa level b sb (eqb-true b.level level at_b)))
@@ -103,7 +103,7 @@ module _ (r s : Rows) (same : SameMappings r s) (ipa level : ℕ) (a b : Walk) (
   granule_same : (g h : ℕ) → a.row.granule ≡ Some g → b.row.granule ≡ Some h → g ≡ h
   granule_same g h is ish = same_Some _ _ (sym is ∙ (λ i. (end_same i).granule) ∙ ish)
 
--- ---- acts
+-- ---- operations
 
 module _ (limits : Limits) (w v : World) (cells : (g : ℕ) → SameCell (cell_at w.machine g) (cell_at v.machine g)) where
   abbrev Follows : Act → Option Seen → Option Seen → Type 0
@@ -192,7 +192,7 @@ module _ (limits : Limits) (w v : World) (cells : (g : ℕ) → SameCell (cell_a
           ),
         )))))))
 
-    -- the number of a new REC is no part of ownership, but the act names it
+    -- the number of a new REC is no part of ownership, but the operation names it
     rec_follows : (g : ℕ) (aux : ArrayVec ℕ 16 (Unit {0})) (n : ℕ) → fits (Rec g aux n) (Some rd) (map (seen w.machine) (named (Rec g aux n))) ≡ true
         → fits (Rec g aux n) (Some sd) (map (seen v.machine) (named (Rec g aux n))) ≡ true
         → Follows (Rec g aux n) (Some rd) (Some sd)
@@ -239,7 +239,7 @@ module _ (limits : Limits) (w v : World) (cells : (g : ℕ) → SameCell (cell_a
       let same = row_same _ _ d e (cells rd).descriptor is ise in
       Agree-Ok _ _ (alike_put rd rd _ _ refl (cell_itself left), alike_lefts (starting_tables d.root) (starting_tables e.root) (ap starting_tables same.root))))
 
-  -- an act that pairs with another changes both worlds alike
+  -- an operation that has a reverse or is one changes both worlds alike
   act_follows : (act : Act) (r s : Option Seen) → (is_paired act || is_reverse act) ≡ true → AreTwins r s
       → fits act r (map (seen w.machine) (named act)) ≡ true → fits act s (map (seen v.machine) (named act)) ≡ true → Follows act r s
   unfolding outcome_of named reverse_of is_reverse
@@ -279,7 +279,7 @@ module _ (limits : Limits) (w v : World) (cells : (g : ℕ) → SameCell (cell_a
   act_follows (Exit n) r s p twins fit_w fit_v = cc
   act_follows (Poke n ipa offset value) r s p twins fit_w fit_v = cc
 
--- ---- the law
+-- ---- the theorem
 
 both_step : (limits : Limits) (b : ℕ) (act : Act) (w v next other : World) → IsSquare w → IsSquare v → (is_paired act || is_reverse act) ≡ true → OwnershipFollows limits b act w v next other
 both_step limits b act w v next other sw sv p same step_w step_v =

@@ -11,7 +11,7 @@ use Rattle.realm_model.proofs.OwnsSame.{own_itself, own_chain}
 use Rattle.realm_model.proofs.PairBack.{pair_back}
 use Rattle.realm_model.proofs.Unpaired.{own_step}
 
--- what both worlds own to the build is the same
+-- the build owns the same in both worlds
 abbrev pub SameFor : ℕ → World → World → Type 0
 SameFor b w v = OwnsSame (part_of w b) (part_of v b)
 

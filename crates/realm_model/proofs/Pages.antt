@@ -1,4 +1,4 @@
--- The pages of a build: their growth, and that they are the granules that it leases.
+-- The proof that a build's pages are the granules that the build leases.
 use Rattle.std.proofs.Common.{◌≡◌, ◌≢◌, ℕ, zero, suc, ◌^◌, ◌<◌, Bool, true, false, cond, ◌||◌, List, [], ◌∷◌, ◌++◌, get_or, Option, Some, None, refl, sym, ap, ◌∙◌, subst}
 use Rattle.std.specs.Prelude.{slice_get, ◌==◌, replicate}
 use Rattle.std.specs.Option.{option_eq}
@@ -32,7 +32,7 @@ use Rattle.realm_model.proofs.HiddenSteps.{leased_in_part, part_of-other_step}
 use Rattle.realm_model.proofs.SetEach.{slice_get-set_each}
 use Rattle.realm_model.proofs.Puts.{is_of_block}
 
--- ---- how they grow
+-- ---- a build's pages after an event
 
 pub pages_of-other : (b : ℕ) (history : List Event) (event : Event) → event.build ≢ b → pages_of b (history ++ event ∷ []) ≡ pages_of b history
 pages_of-other b history event apart = ap (flat_map pages_held) (open_entries-other b history event apart)
@@ -49,7 +49,7 @@ pages_of-take b history order first =
 pages_less : (b : ℕ) (history : List Event) (act : Act) (away : TakesAway b history act) → pages_of b history ≡ pages_of b (history ++ by b act ∷ []) ++ pages_held away.newest
 pages_less b history act away = ap (flat_map pages_held) away.open_is ∙ pages_push b (history ++ by b act ∷ []) away.newest
 
--- what the pair of a reverse act holds
+-- the pages of the operation that a reverse UnTake reverses
 held_by_pair : (newest : Act) (order first : ℕ) → reverse_of newest ≡ Some (UnTake order first) → pages_held newest ≡ block order first
 unfolding reverse_of
 held_by_pair (Take order first) order' first' e = of_same (same_Some _ _ e)
@@ -90,7 +90,7 @@ pages_of-same b history act k turn = elim (kind act) [
   | other p r ↦ ap (flat_map pages_held) (open_entries-own history (by b act) ∙ pushed_other (open_entries b history) act p r)
 ]
 
--- ---- they are what the build leases
+-- ---- a build's pages are the granules that it leases
 
 leases_after_same : (b : ℕ) (act : Act) (leases : List (Option ℕ)) → is_of_block act ≡ false → leases_after b act leases ≡ leases
 leases_after_same b (Take order first) leases k = cc

@@ -1,4 +1,4 @@
--- The reversal of a paired operation right after it, which leads back to what was owned.
+-- The proof that an operation and its reverse right after it leave ownership as it was.
 use Rattle.std.proofs.Common.{◌≡◌, ℕ, true, false, cond, not, inl, inr, List, Option, Some, None, refl, sym, ap, ◌∙◌}
 use Rattle.std.specs.Prelude.{◌==◌, is_some}
 use Rattle.std.specs.Cmp.{nat_cmp_total, eq_by_cmp_equiv}

@@ -1,4 +1,4 @@
--- The realm of a build in a reached world: whether it has one, and the number of its RECs that run.
+-- The realm of a build in a reached world, if any, and the number of running RECs in the realm.
 use Rattle.std.proofs.Common.{◌≡◌, ℕ, suc, true, false, cond, ◌&&◌, ◌⊎◌, inl, inr, List, [], ◌∷◌, length, Option, Some, None, refl, sym, ap, ◌∙◌}
 use Rattle.std.specs.Prelude.{is_some, filter}
 use Rattle.std.specs.FinMap.{get}
@@ -30,7 +30,7 @@ realm_from_some b n (l ∷ leases) (c ∷ machine) rd e =
       | false ↦ λ test e. realm_from_some b (suc n) leases machine rd e
     ] refl e
 
--- how many run, by the row
+-- the number of RECs that run, by the realm's row
 abbrev pub counted : Option RealmRow → ℕ
 counted o =
     length (filter (λ n. elim o [ Some realm ↦ is_rec_running (get realm.recs n) | None ↦ false ]) (range_with_len 0 (elim o [ Some realm ↦ realm.next | None ↦ 0 ])))
@@ -52,7 +52,7 @@ module _ (b : ℕ) (w : World) (kept : IsKept b w) where
   pub none_there : realm_of b w ≡ None → (k : ℕ) → (cell_at W.machine k).descriptor ≡ None
   none_there none = no_row b 0 w.leases w.machine kept.sound.clean none
 
-  -- where it stands, it is the realm of the build
+  -- a realm in the part is the realm of the build
   rd_no_host : (s : GranuleState) → is_rd_state s ≡ true → is_host_state s ≡ false
   rd_no_host Rd h = refl
   rd_no_host _ h = cc
@@ -74,7 +74,7 @@ module _ (b : ℕ) (w : World) (kept : IsKept b w) where
       by_realm None at = refl
       by_realm (Some rd) at = ap counted (ap (λ (c : Cell). c.descriptor) (sym at) ∙ none rd.number)
 
--- the opening world has none
+-- the opening world has no realm
 pub none_at_first : (limits : Limits) (b k : ℕ) → (cell_at (part_of (opening limits) b).machine k).descriptor ≡ None
 none_at_first limits b k =
     ap (λ (m : Machine). (cell_at m k).descriptor) (each-replicate (hidden (is_of_other b)) refl limits.pages)

@@ -17,7 +17,7 @@ pub record IsSoundRealm (realm : RealmRow) : Type 0 where
   pub recs : (number : ℕ) (rec : RecRow) → get realm.recs number ≡ Some rec → number < realm.next
   pub empty : HasEmptyRows realm.root.width realm.rows
 
--- A cell of a build whose realm, if it has one, stands at rd
+-- A cell of a build whose realm, if it has one, has the RD `rd`
 pub record IsSoundCell (rd granule : ℕ) (cell : Cell) : Type 0 where
   pub realm : is_host_state cell.state ≡ true → cell.realm ≡ None
   pub descriptor : is_some cell.descriptor ≡ is_rd_state cell.state
@@ -29,18 +29,18 @@ pub record IsSoundPart (world : World) : Type 0 where
   pub rd : ℕ
   pub cells : (granule : ℕ) → IsSoundCell rd granule (cell_at world.machine granule)
 
--- of one build
+-- the invariant of one build's part
 abbrev pub IsSoundFor : ℕ → World → Type 0
 IsSoundFor build world = IsSoundPart (part_of world build)
 
--- each granule that a realm names is in the state of its role, and of the realm, and none is named twice; and no other
--- is
+-- each granule that a realm names is in the state of its role, and of the realm, and none is named twice; no other
+-- granule is in such a state
 pub record IsLinked (cells : ℕ → Cell) : Type 0 where
   pub roles : ℕ → Role
   pub names : (rd : ℕ) (realm : RealmRow) → (cells rd).descriptor ≡ Some realm → (role : Role) (to : ℕ × GranuleState) → target realm role ≡ Some to
       → ((cells to.0).state ≡ to.1) × ((cells to.0).realm ≡ Some rd) × (roles to.0 ≡ role)
   pub named : (granule : ℕ) → is_role_state (cells granule).state ≡ true → HasRole cells granule
 
--- of the part of a build
+-- the links in the part of a build
 abbrev pub IsLinkedFor : ℕ → World → Type 0
 IsLinkedFor build world = IsLinked (λ granule. cell_at (part_of world build).machine granule)

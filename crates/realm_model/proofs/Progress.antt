@@ -46,7 +46,7 @@ all_part_leased : (b : ℕ) (w : World) (gs : List ℕ) → list_all (is_leased_
 all_part_leased b w [] h = refl
 all_part_leased b w (g ∷ gs) h = let parts = and_parts _ _ h in and_from _ _ (part_leased b w g parts.0) (all_part_leased b w gs parts.1)
 
--- a reverse act names what its pair named, or less
+-- a reverse names no granule that its operation did not name
 named_back : (test : ℕ → Bool) (act : Act) → list_all test (named act) ≡ true → list_all test (named (rev act)) ≡ true
 unfolding named
 named_back test (Data g ipa source) h = and_from _ _ (and_parts _ _ h).0 refl
@@ -70,7 +70,7 @@ named_back test (Enter n) h = h
 named_back test (Exit n) h = h
 named_back test (Poke n ipa o v) h = h
 
--- what a reverse act asks besides
+-- the further requirements of a reverse operation
 pub record Reverses (limits : Limits) (b : ℕ) (w : World) (r : Act) : Type 0 where
   pub reach : ReachesOwn limits b w r (realm_of b w)
   pub holds : holder b r ≡ Some b
@@ -178,7 +178,7 @@ module _ (limits : Limits) (b : ℕ) (u v w : World) (order first : ℕ) (su : I
             ∙ ap (λ us. updated_all b us w) (seen_frees w.machine block) ∙ gone.1,
       )
 
--- ---- the newest open act
+-- ---- the newest open operation
 
 pub undone_step : (limits : Limits) (b : ℕ) (u v w : World) (act : Act) → IsSound b u → IsSound b w → is_paired act ≡ true → step limits u (by b act) ≡ Some v
     → OwnsSame (part_of v b) (part_of w b) → is_running (realm_of b w) act ≡ false → (x : World) × (step limits w (by b (rev act)) ≡ Some x)

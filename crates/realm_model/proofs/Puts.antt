@@ -1,4 +1,4 @@
--- Leases, which no operation but those of blocks changes.
+-- The proof that only operations that take or give back blocks change leases.
 use Rattle.std.proofs.Common.{◌≡◌, ℕ, Bool, true, false, List, map, Option, Some, None, refl}
 use Rattle.std.specs.List.{list_all}
 use Rattle.granule_addr.specs.Root.{starting_tables}

@@ -1,4 +1,4 @@
--- The invariant of every world that a history leads to, from that of the part of each build.
+-- The invariant of every world that a history leads to, derived from the invariants of each build's part.
 use Rattle.std.proofs.Common.{◌≡◌, ℕ, true, false, cond, not, List, Option, Some, None, refl, sym, ap, ◌∙◌, subst}
 use Rattle.std.specs.Prelude.{is_some, slice_get}
 use Rattle.std.proofs.lemmas.Bool.{eq-eqb}
@@ -43,7 +43,7 @@ module _ (limits : Limits) (w : World) (clean : IsClean w) (sized : IsSized limi
   square : IsSquare w
   square = sized.leases ∙ sym sized.machine
 
-  -- it is blank, or in the part of its build
+  -- a granule is blank, or in the part of its build
   data Whose (g : ℕ) : Type 0 where
     nobodys : now g ≡ blank → Whose g
     of_build : (b : ℕ) → slice_get w.leases g ≡ Some (Some b) → in_part b g ≡ now g → Whose g

@@ -1,4 +1,4 @@
--- The granule of a guest's write, which its own build leases.
+-- The proof that a guest's write reaches a granule that the guest's own build leases.
 use Rattle.std.proofs.Common.{◌≡◌, ℕ, zero, suc, true, false, cond, not, List, [], ◌∷◌, map, Option, Some, None, refl, sym, ap, ◌∙◌, subst}
 use Rattle.std.specs.Prelude.{◌==◌, slice_get, option_map}
 use Rattle.std.proofs.lemmas.Bool.{eqb-true}
@@ -27,7 +27,7 @@ use Rattle.realm_model.proofs.Walks.{walk_end}
 use Rattle.realm_model.proofs.RowKinds.{assigned_target}
 use Rattle.realm_model.proofs.Parts.{IsLinkedFor}
 
--- a cell of a part that is not the host's is of its build
+-- a cell of a part that is neither UNDELEGATED nor DELEGATED is leased by the build
 pub state_leased : (b : ℕ) (leases : List (Option ℕ)) (machine : Machine) → each scrubbed leases machine ≡ machine → (g : ℕ)
     → is_host_state (cell_at (each (hidden (is_of_other b)) leases machine) g).state ≡ false
     → slice_get (map (unleased (is_of_other b)) leases) g ≡ Some (Some b)

@@ -38,11 +38,11 @@ module _ (limits : Limits) (w : World) (sound : IsSoundPart w) (T : RealmRow →
   abbrev now : ℕ → Cell
   now k = cell_at w.machine k
 
-  -- a realm that is there is there after the updates, turned so
+  -- a realm that exists exists after the updates, changed as `T` allows
   abbrev S : List Update → Type 0
   S us = (k : ℕ) (d : RealmRow) → (now k).descriptor ≡ Some d → (e : RealmRow) × ((put_at us k (now k)).descriptor ≡ Some e) × T d e
 
-  -- how an act turns a realm: those that are not named leave it as it is, but for its state, measurement and rows
+  -- `T` allows the change of a realm by an operation: those not listed change only its state, measurement and rows
   abbrev pub Allows : Act → Type 0
   Allows (Realm rd root v) = Unit {0}
   Allows (UnRealm rd root v) = ⊥
@@ -52,7 +52,7 @@ module _ (limits : Limits) (w : World) (sound : IsSoundPart w) (T : RealmRow →
   Allows (Exit n) = (d : RealmRow) (rec : RecRow) → IsSoundRealm d → get d.recs n ≡ Some rec → is_ready rec.state ≡ false → T d (record d { recs = insert d.recs n (record rec { state = Ready }) })
   Allows _ = (d e : RealmRow) → e ≡ record d { state = e.state; measurement = e.measurement; rows = e.rows } → T d e
 
-  -- the last update is the realm's
+  -- the last update is that of the realm's row
   turned : (rd : Seen) (d e : RealmRow) (us : List Update) → now rd.number ≡ rd.cell → rd.cell.descriptor ≡ Some d → T d e → S (us ++ Put rd.number (record rd.cell { descriptor = Some e }) ∷ [])
   turned rd d e us at is turns k x there =
       let own : (now rd.number).descriptor ≡ Some d = ap (λ (c : Cell). c.descriptor) at ∙ is in
@@ -147,7 +147,7 @@ module _ (limits : Limits) (w : World) (sound : IsSoundPart w) (T : RealmRow →
 
 -- ---- steps
 
--- how many RECs run after an act
+-- the number of RECs that run after an operation, by the number before
 abbrev pub RunsAfter : Act → ℕ → ℕ → Type 0
 RunsAfter (Enter n) x y = y ≡ x + 1
 RunsAfter (Exit n) x y = y + 1 ≡ x
@@ -169,7 +169,7 @@ allowed limits w sound (Enter n) k = λ d rec h there ready. (refl, running-star
 allowed limits w sound (Exit n) k = λ d rec h there ready. (refl, running-stop d.recs d.next n (record rec { state = Ready }) (h.recs n rec there) (ap is_rec_running there ∙ ap not ready) refl)
 allowed limits w sound act k = λ d e same. (ap (λ (x : RealmRow). x.vmid) same, ap (λ (x : RealmRow). running x.recs x.next) same)
 
--- the realm of a part is there after each act but its end, turned as the act allows
+-- the realm of a part exists after each operation but its destruction, changed as the operation allows
 pub turned_by : (limits : Limits) (b : ℕ) (w v : World) (act : Act) (T : RealmRow → RealmRow → Type 0) → IsSquare w → (sound : IsSoundPart w)
     → (realm_of b w ≡ None → (k : ℕ) → (cell_at w.machine k).descriptor ≡ None)
     → Allows limits w sound T act → step limits w (by b act) ≡ Some v → (k : ℕ) (d : RealmRow) → (cell_at w.machine k).descriptor ≡ Some d → (e : RealmRow)
@@ -195,7 +195,7 @@ made_new limits w rd root v realm none =
     P : List Update → Type 0
     P us = (k : ℕ) (e : RealmRow) → (put_at us k (cell_at w.machine k)).descriptor ≡ Some e → e ≡ new_realm v root
 
--- a realm that ends ran no REC, and no realm is left
+-- a realm that is destroyed ran no REC, and no realm is left
 destroyed : (limits : Limits) (w : World) (sound : IsSoundPart w) (rd : ℕ) (root : Root) (v : ℕ) (realm : Option Seen)
     → Yields (λ us. ((k : ℕ) (e : RealmRow) → (put_at us k (cell_at w.machine k)).descriptor ≡ Some e → ⊥)
     × ((k : ℕ) (d : RealmRow) → (cell_at w.machine k).descriptor ≡ Some d → running d.recs d.next ≡ 0))
@@ -212,7 +212,7 @@ destroyed limits w sound rd root v realm = Yields-with_realm P _ _ (λ d is. Yie
     P : List Update → Type 0
     P us = ((k : ℕ) (e : RealmRow) → (put_at us k (cell_at w.machine k)).descriptor ≡ Some e → ⊥) × ((k : ℕ) (d : RealmRow) → (cell_at w.machine k).descriptor ≡ Some d → running d.recs d.next ≡ 0)
 
--- the same of steps
+-- the same for steps
 pub realm_made_step : (limits : Limits) (b : ℕ) (w v : World) (rd : ℕ) (root : Root) (vmid : ℕ) → IsSquare w → ((k : ℕ) → (cell_at w.machine k).descriptor ≡ None)
     → step limits w (by b (Realm rd root vmid)) ≡ Some v
     → (k : ℕ) (e : RealmRow) → (cell_at v.machine k).descriptor ≡ Some e → e ≡ new_realm vmid root

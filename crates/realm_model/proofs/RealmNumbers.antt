@@ -1,4 +1,4 @@
--- A bound of the number of a realm's next REC: the number of the build's events.
+-- The proof that a realm's next REC number is at most the number of the build's events.
 use Rattle.std.proofs.Common.{◌≡◌, ℕ, ◌+◌, ◌≤◌, false, inl, inr, ⊎_elim, List, [], ◌∷◌, ◌++◌, length, Some, None, refl, sym, ap, ◌∙◌, subst, arith}
 use Rattle.std.proofs.lemmas.Bool.{cases_eq}
 use Rattle.std.proofs.lemmas.Option.{same_Some}
@@ -29,7 +29,7 @@ use Rattle.realm_model.proofs.Vmids.{IsMade, realm_before}
 use Rattle.realm_model.proofs.Written.{IsSquare}
 use Rattle.realm_model.proofs.ZeroPages.{IsKept, kept_reached}
 
--- ---- an act adds one to it at most
+-- ---- an operation adds at most one to the next number
 
 abbrev Counts : RealmRow → RealmRow → Type 0
 Counts d e = e.next ≤ d.next + 1

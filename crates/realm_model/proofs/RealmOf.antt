@@ -62,7 +62,7 @@ IsHeld-realm_from b front (l ∷ leases) (c ∷ machine) =
 pub IsHeld-realm_of : (b : ℕ) (w : World) → IsHeld b w.leases (realm_of b w)
 IsHeld-realm_of b w = IsHeld-realm_from b [] w.leases w.machine
 
--- a test of the realm of a build, where its row is known
+-- a test of the realm of a build, if its row is known
 pub realm_test : (rd : Seen) (d : RealmRow) (test : Seen → RealmRow → Bool) → realm_is (Some rd) test ≡ true → rd.cell.descriptor ≡ Some d → test rd d ≡ true
 realm_test rd d test fit is = sym (ap (λ o. elim o [ Some realm ↦ test rd realm | None ↦ false ]) is) ∙ fit
 
@@ -94,7 +94,7 @@ realm_of-other_step limits b w v e apart clean s = sym (realm_of-part_of b v) �
 
 -- ---- a realm that is known
 
--- the realm of a build, where its row is known
+-- the realm of a build, if its row is known
 realm_from_there : (b n g : ℕ) (leases : List (Option ℕ)) (machine : Machine) → slice_get leases g ≡ Some (Some b) → is_some (cell_at machine g).descriptor ≡ true
     → ((h : ℕ) → is_some (cell_at machine h).descriptor ≡ true → h ≡ g) → realm_from b n leases machine ≡ Some (record { number = n + g; cell = cell_at machine g })
 unfolding realm_from

@@ -31,7 +31,7 @@ use Rattle.realm_model.proofs.Parts.{IsSoundPart, IsLinked}
 
 -- ---- the rows of realms after it
 
--- a realm that is made where none was is the one
+-- a realm that is made when there was none is the only one
 pub made_row : (w : World) (rd : ℕ) (root : Root) (v : ℕ) → ((k : ℕ) → (cell_at w.machine k).descriptor ≡ None)
     → (k : ℕ) (e : RealmRow) → (put_at (creation rd root v) k (cell_at w.machine k)).descriptor ≡ Some e → (k ≡ rd) × (new_realm v root ≡ e)
 made_row w rd root v none k e h =
@@ -43,7 +43,7 @@ made_row w rd root v none k e h =
       ] refl h
     ] (sym (ap (λ (c : Cell). c.descriptor) (put_at-creation rd root v k (cell_at w.machine k))) ∙ h)
 
--- none is left where the one is gone
+-- no realm is left after the only one is destroyed
 pub gone_row : (w : World) (sound : IsSoundPart w) (rd : ℕ) (d : RealmRow) → (cell_at w.machine rd).descriptor ≡ Some d → (gs : List ℕ)
     → (k : ℕ) (e : RealmRow) → (put_at (lefts (rd ∷ gs)) k (cell_at w.machine k)).descriptor ≡ Some e → ⊥
 gone_row w sound rd d is gs k e h = elim (is_in k (rd ∷ gs)) as (λ t. is_in k (rd ∷ gs) ≡ t → (cond t left (cell_at w.machine k)).descriptor ≡ Some e → ⊥) [
@@ -57,7 +57,7 @@ module _ (w : World) (sound : IsSoundPart w) (old : IsLinked (λ k. cell_at w.ma
   abbrev now : ℕ → Cell
   now k = cell_at w.machine k
 
-  -- a realm is made where none was: its starting tables are all that it names
+  -- a realm is made when there was none: its starting tables are all that it names
   pub realm_made : (rd : ℕ) (root : Root) (v : ℕ) → ((k : ℕ) → (now k).descriptor ≡ None) → AllDistinct (rd ∷ starting_tables root)
       → IsLinked (λ k. put_at (creation rd root v) k (now k))
   unfolding new_realm root_rows
@@ -128,7 +128,7 @@ module _ (w : World) (sound : IsSoundPart w) (old : IsLinked (λ k. cell_at w.ma
         ] role
       ] refl (sym (ap (λ (c : Cell). is_role_state c.state) (written g)) ∙ role)
 
-  -- a realm that names its starting tables alone is gone
+  -- a realm that names its starting tables alone is destroyed
   pub realm_gone : (rd : ℕ) (d : RealmRow) → (now rd).descriptor ≡ Some d → ((q : ℕ × ℕ) → row_target (mapping_at d.rows q) ≡ None) → ((n : ℕ) → get d.recs n ≡ None)
       → IsLinked (λ k. put_at (lefts (rd ∷ starting_tables d.root)) k (now k))
   realm_gone rd d is no_rows no_recs = record {

@@ -1,4 +1,4 @@
--- Lists of RECs by number: with one more at the end, and without the last one.
+-- Lists of RECs by number, after a REC is added at the end, and after the last REC is removed.
 use Rattle.std.proofs.Common.{◌≡◌, ℕ, zero, suc, ◌+◌, ◌<◌, ◌==◌, true, false, cond, List, [], ◌∷◌, ◌++◌, length, Option, Some, None, refl, sym, ap, ◌∙◌, subst, arith, ⊎_elim}
 use Rattle.std.specs.Prelude.{is_some}
 use Rattle.std.proofs.lemmas.Bool.{cases_eq, eq-eqb, ne_eqb}
@@ -32,7 +32,7 @@ push_same recs number granule none =
     ∙ ap (λ o. or_last o number granule number) none
     ∙ ap (λ t. cond t (Some granule) None) (eq-eqb number number refl)
 
--- a number that is there is found
+-- a number that is in the list is found
 pub found_at : (recs : List (ℕ × ℕ)) (i : ℕ) → i < length recs → is_some (granule_in recs (number_at recs i)) ≡ true
 found_at [] i inside = absurd (omega arith)
 found_at (rec ∷ recs) zero inside = ap (λ t. is_some (cond t (Some rec.1) (granule_in recs rec.0))) (eq-eqb rec.0 rec.0 refl)
@@ -41,7 +41,7 @@ found_at (rec ∷ recs) (suc i) inside = elim (rec.0 == number_at recs i) as (λ
   | false ↦ found_at recs i (omega arith)
 ]
 
--- one that is not there is not
+-- a number that is not in the list is not found
 pub not_found : (recs : List (ℕ × ℕ)) (number : ℕ) → ((i : ℕ) → i < length recs → number_at recs i ≡ number → ⊥) → granule_in recs number ≡ None
 not_found [] number never = refl
 not_found (rec ∷ recs) number never =

@@ -1,4 +1,4 @@
--- The roles of granules as a REC and its auxiliaries come to a realm, or leave it.
+-- The roles of granules after a REC is created in a realm, and after a REC is destroyed.
 use Rattle.std.proofs.Common.{◌≡◌, ℕ, true, false, cond, ◌||◌, ◌⊎◌, inl, inr, List, [], ◌∷◌, ◌++◌, map, Option, Some, None, refl, sym, ap, ◌∙◌}
 use Rattle.std.specs.Prelude.{is_some, ◌==◌, option_map, slice_get}
 use Rattle.std.specs.List.{list_all}
@@ -157,7 +157,7 @@ module _ (w : World) (sound : IsSoundPart w) (old : IsLinked (λ k. cell_at w.ma
             (AsAux m at_i.0, ap (λ o. aux_target o at_i.0) it_is ∙ ap (option_map (λ a. (a, RecAux))) at_i.1 ∙ (λ j. Some (k, sym (ap (λ (y : Cell). y.state) (at_aux k i)) j)))
       ] refl (sym (granules k) ∙ i)
 
-  -- a REC leaves, and its granules with it
+  -- a REC is removed, and its granules leave the realm
   pub rec_less : (m : ℕ) (rec : RecRow) → get d.recs m ≡ Some rec
       → ((q : ℕ) → recs_of e1 q ≡ cond (eq_by_cmp nat_cmp q m) None (recs_of d q))
       → IsLinked (λ k. put_at (lefts (rec.granule ∷ rec.auxiliaries) ++ Put n (record rd.cell { descriptor = Some e1 }) ∷ []) k (now k))

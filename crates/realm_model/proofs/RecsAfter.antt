@@ -57,7 +57,7 @@ module _ (b : ℕ) (w : World) (kept : IsKept b w) (number : ℕ) where
       by_realm (Some rd) at =
           ap (λ o. rec_granule (Some (record { number = rd.number; cell = record rd.cell { descriptor = o } })) number) (ap (λ (c : Cell). c.descriptor) (sym at) ∙ none rd.number)
 
--- ---- acts that make no REC and remove none
+-- ---- operations that make no REC and remove none
 
 abbrev SameRecs : RealmRow → RealmRow → Type 0
 SameRecs d e = (m : ℕ) → granule_of e m ≡ granule_of d m
@@ -85,7 +85,7 @@ keeps limits w sound (Enter n) plain stay = λ d rec h there ready m. restated d
 keeps limits w sound (Exit n) plain stay = λ d rec h there ready m. restated d n m rec (record rec { state = Ready }) there refl
 keeps limits w sound act plain stay = λ d e same m. ap (λ (r : RealmRow). granule_of r m) same
 
--- ---- a realm that ends has none
+-- ---- a realm that is destroyed has no RECs
 
 destroyed : (limits : Limits) (w : World) (sound : IsSoundPart w) (rd : ℕ) (root : Root) (v : ℕ) (realm : Option Seen) → IsAt w.machine realm
     → Yields (λ us. (k : ℕ) (d : RealmRow) → (cell_at w.machine k).descriptor ≡ Some d → (m : ℕ) → granule_of d m ≡ None)
@@ -155,7 +155,7 @@ module _ (limits : Limits) (b : ℕ) (w v : World) (kept : IsKept b w) (kept_v :
         | inr there ↦ granule_at b w kept m there.0 there.1 there.2 ∙ empty there.0 there.1 there.2 m
       ]
 
-  -- RECs stay but where one is made or removed
+  -- the RECs stay, unless one is made or removed
   pub recs_stay : (act : Act) → is_of_recs act ≡ false → step limits w (by b act) ≡ Some v → StaysAll
   recs_stay (Realm rd root vmid) plain s = made_stays rd root vmid s
   recs_stay (UnRealm rd root vmid) plain s = gone_stays rd root vmid s
@@ -167,7 +167,7 @@ module _ (limits : Limits) (b : ℕ) (w v : World) (kept : IsKept b w) (kept_v :
 abbrev Gains : ℕ → RealmRow → RealmRow → Type 0
 Gains granule d e = (m : ℕ) → granule_of e m ≡ cond (eq_by_cmp nat_cmp m d.next) (Some granule) (granule_of d m)
 
--- a realm that is there gains a REC by the updates
+-- a realm that exists gains a REC by the updates
 abbrev GainsBy : World → ℕ → List Update → Type 0
 GainsBy w granule us = (k : ℕ) (d : RealmRow) → (cell_at w.machine k).descriptor ≡ Some d → (e : RealmRow) × ((put_at us k (cell_at w.machine k)).descriptor ≡ Some e) × Gains granule d e
 

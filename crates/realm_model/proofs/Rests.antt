@@ -12,7 +12,7 @@ use Rattle.realm_model.proofs.Reachable.{reachable_worlds}
 use Rattle.realm_model.proofs.RealmOf.{IsAt, IsAt-realm_of}
 use Rattle.realm_model.proofs.RunningRecs.{runs, running, none_pass, none_passed}
 
--- ---- RECs that run, where their numbers are below the next
+-- ---- RECs that run, if their numbers are below the next
 module _ (realm : RealmRow) (below : (number : ℕ) (rec : RecRow) → get realm.recs number ≡ Some rec → number < realm.next) where
   all_rest : running realm.recs realm.next ≡ 0 → (number : ℕ) → runs realm.recs number ≡ false
   all_rest none number = by_rec (get realm.recs number) refl

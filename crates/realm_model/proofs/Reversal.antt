@@ -1,5 +1,5 @@
--- A reverse operation after its pair, and after anything through which the build owns the same: its command, and the
--- world after it.
+-- The command and the effect of a reverse operation. Since the reversed operation, the ownership of the build is
+-- unchanged.
 use Rattle.std.proofs.Common.{◌≡◌, ℕ, ◌+◌, ◌-◌, ◌*◌, ◌<◌, ◌≤◌, Bool, true, false, cond, ◌&&◌, ◌||◌, not, List, [], ◌∷◌, ◌++◌, map, Option, Some, None, Ok, refl, sym, ap, ◌∙◌, subst, arith, lit≤}
 use Rattle.std.specs.Prelude.{option_map, ◌==◌, nat_eq}
 use Rattle.std.specs.List.{list_all}
@@ -70,12 +70,12 @@ pub record Reversal (limits : Limits) (b : ℕ) (u w : World) (act r : Act) : Ty
   pub back : (k : ℕ) → SameCell (cell_at u.machine k) (put_at updates k (cell_at w.machine k))
   pub ready_if : is_running (realm_of b w) act ≡ false → ready ≡ true
 
--- ---- what leaves
+-- ---- granules that leave a realm
 
 abbrev pub Leaves : World → ℕ → Type 0
 Leaves u g = SameCell (cell_at u.machine g) left
 
--- updates whose granules leave, and last what the tail writes
+-- the reverse of updates: their granules leave the realm, and the updates at the end follow
 pub back_left : (u w : World) (us tail : List Update) (gs : List ℕ) → map granule_of us ≡ gs ++ map granule_of tail
     → ((g : ℕ) → is_in g gs ≡ true → Leaves u g)
     → ((k : ℕ) (c : Cell) → is_in k (map granule_of tail) ≡ true → SameCell (cell_at u.machine k) (put_at tail k c))
@@ -184,7 +184,7 @@ module _ (limits : Limits) (b : ℕ) (u w : World) (su : IsSoundPart u) (sw : Is
       let found = descriptor_some d1 (cell_at w.machine n).descriptor (subst (λ o. SameDescriptor o (cell_at w.machine n).descriptor) is same.descriptor) in
       record { realm = found.0; there = found.1; same = found.2; found = realm_of_there b w sw n found.0 (leased_too n held) found.1 }
 
-  -- it has the same width there
+  -- the realm has the same width in both worlds
   protected_too : {n : ℕ} {d1 : RealmRow} (both : InBoth n d1) (ipa : ℕ) → is_protected d1 ipa ≡ true → is_protected both.realm ipa ≡ true
   protected_too both ipa protected = ap (λ (r : Root). is_protected_at ipa r.width) (sym both.same.root) ∙ protected
 
@@ -475,7 +475,7 @@ module _ (limits : Limits) (b : ℕ) (u w : World) (su : IsSoundPart u) (sw : Is
         | Some rec ↦ λ h. let less : q < d.next = sound.recs q rec h in absurd (omega arith)
       ] refl
 
-  -- ---- paired acts
+  -- ---- paired operations
 
   abbrev Y : Act → List Update → Type 0
   Y act us = Leads us → Reversal limits b u w act (rev act)

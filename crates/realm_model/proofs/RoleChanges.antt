@@ -1,4 +1,4 @@
--- Realms and the granules that they name, after updates: of the host's granules, or of a realm.
+-- The invariant that links realms to the granules that they name, after updates of host granules or of a realm.
 use Rattle.std.proofs.Common.{◌≡◌, ℕ, Bool, true, false, cond, ◌||◌, ◌⊎◌, inl, inr, List, [], ◌∷◌, ◌++◌, map, Option, Some, None, refl, sym, ap, ◌∙◌, subst}
 use Rattle.std.specs.Prelude.{is_some, ◌==◌, option_map}
 use Rattle.std.specs.List.{list_all}
@@ -34,7 +34,7 @@ module _ (w : World) (sound : IsSoundPart w) where
   pub host_bare : (k : ℕ) → is_host_state (now k).state ≡ true → (now k).descriptor ≡ None
   host_bare k host = none_from (now k).descriptor ((sound.cells k).descriptor ∙ host_no_rd (now k).state host)
 
-  -- the realm stands at one place
+  -- a realm has one RD
   pub one_place : (k n : ℕ) (e d : RealmRow) → (now k).descriptor ≡ Some e → (now n).descriptor ≡ Some d → k ≡ n
   one_place k n e d is at = stands k e is ∙ sym (stands n d at)
     where
@@ -81,7 +81,7 @@ module _ (w : World) (sound : IsSoundPart w) where
         no_role : (q : Role) → ◌≡◌ {A = Option Role} None (Some q) → ⊥
         no_role q f = cc
 
-    -- a granule of the host's is written, and stays one
+    -- a granule that is UNDELEGATED or DELEGATED is written, and stays so
     pub host_put : (g : ℕ) (x : Cell) → is_host_state (now g).state ≡ true → is_host_state x.state ≡ true → x.descriptor ≡ None → IsLinked (λ k. put_at (Put g x ∷ []) k (now k))
     host_put g x host stays none = kept (λ k. put_at (Put g x ∷ []) k (now k))
         (λ k role. elim (k == g) as (λ t. (k == g) ≡ t → SameHead (cond t x (now k)) (now k)) [
@@ -98,7 +98,7 @@ module _ (w : World) (sound : IsSoundPart w) where
           | false ↦ λ at. is
         ] refl)
 
-    -- granules of the host's are given back
+    -- UNDELEGATED granules are given back
     pub freed : (gs : List ℕ) → list_all is_undelegated (map (seen w.machine) gs) ≡ true → IsLinked (λ k. cond (is_in k gs) blank (now k))
     freed gs free = kept (λ k. cond (is_in k gs) blank (now k))
         (λ k role. elim (is_in k gs) as (λ t. is_in k gs ≡ t → SameHead (cond t blank (now k)) (now k)) [
@@ -158,7 +158,7 @@ module _ (w : World) (sound : IsSoundPart w) where
             | false ↦ λ other. let cell = put_other us k (now k) out in (ap (λ (c : Cell). c.state) cell, ap (λ (c : Cell). c.realm) cell)
           ] refl)
 
-      -- but at the realm's own granule
+      -- the last update changes no granule that is UNDELEGATED or DELEGATED
       elsewhere : (k : ℕ) → is_host_state (now k).state ≡ true → put_at all k (now k) ≡ put_at us k (now k)
       elsewhere k host = split k
           ∙ elim (k == n) as (λ t. (k == n) ≡ t → cond t z (put_at us k (now k)) ≡ put_at us k (now k)) [
@@ -193,8 +193,8 @@ module _ (w : World) (sound : IsSoundPart w) where
                 ] refl
           ] refl (sym (ap (λ (c : Cell). is_role_state c.state) (split g)) ∙ h)
 
-      -- The realm names what it named, and besides fresh granules that were the host's. What it names no longer is
-      -- changed.
+      -- The realm names what it named, and fresh granules that were UNDELEGATED or DELEGATED. What it names no longer
+      -- is changed.
       pub changed : (fresh : ℕ → Option Role) → ((k : ℕ) (q : Role) → fresh k ≡ Some q → is_host_state (now k).state ≡ true)
           → ((p : Role) (to : ℕ × GranuleState) → target e1 p ≡ Some to →
           ((target d p ≡ Some to) × (fresh to.0 ≡ None → old.roles to.0 ≡ p → is_in to.0 (map granule_of us) ≡ false))

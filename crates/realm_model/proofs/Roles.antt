@@ -1,4 +1,4 @@
--- Realms and the granules that they name, when cells change.
+-- The invariant that links realms to the granules that they name, after granules change.
 use Rattle.std.proofs.Common.{◌≡◌, ℕ, true, false, ◌⊎◌, inl, inr, List, Option, Some, None, refl, sym, ap, ◌∙◌}
 use Rattle.std.specs.Prelude.{option_map, slice_get}
 use Rattle.std.specs.FinMap.{get}

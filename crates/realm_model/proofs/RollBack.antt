@@ -50,7 +50,7 @@ module _ (limits : Limits) (b : ℕ) (p : List Event) (base : World) (legal_p : 
     pub world_is : replay limits (p ++ erase b s) ≡ Some world
     pub back : IsBack b base y world
 
-  -- no less is open than after the first part
+  -- the build has no fewer operations open than after the first part
   abbrev Deep : List Event → Type 0
   Deep history = length below ≤ length (open_entries b history)
 
@@ -89,7 +89,7 @@ module _ (limits : Limits) (b : ℕ) (p : List Event) (base : World) (legal_p : 
             }
       ] refl
 
-  -- all that come
+  -- all events of the second part
   both_after : (s es : List Event) (y v : World) → IsLegal limits (p ++ s) → replay limits (p ++ s) ≡ Some y → Both s y → AllInTurn (p ++ s) es → after limits es y ≡ Some v
       → ((n : ℕ) → Deep (p ++ (s ++ take n es))) → Both (s ++ es) v
   unfolding after
@@ -118,7 +118,7 @@ module _ (limits : Limits) (b : ℕ) (p : List Event) (base : World) (legal_p : 
 
 -- ---- the mark
 
--- what the build does later is left out
+-- the build's later events are left out
 erase_after_own : (b place : ℕ) (history : List Event) (acts : List Act) → place ≤ length history → erase_after b place (history ++ map (by b) acts) ≡ erase_after b place history
 erase_after_own b place history acts within =
     (λ i. take-append-le place history (map (by b) acts) within i ++ erase b (drop-append-le place history (map (by b) acts) within i))

@@ -1,4 +1,4 @@
--- The room of builds after an accepted event.
+-- The history capacity that builds have used after an accepted event.
 use Rattle.std.proofs.Common.{◌≡◌, ℕ, ◌+◌, Bool, true, false, cond, inl, inr, ⊎_elim, List, [], ◌∷◌, ◌++◌, length, Some, None, Ok, Err, refl, sym, ap, ◌∙◌, subst, arith}
 use Rattle.std.specs.List.{sum_by}
 use Rattle.std.proofs.lemmas.Bool.{cases_eq}
@@ -39,7 +39,7 @@ use Rattle.realm_model.proofs.StepSays.{step_is}
 use Rattle.realm_model.proofs.Vmids.{still_none}
 use Rattle.realm_model.proofs.PartRealm.{part_realm, none_there, none_at_first, count_some, count_none}
 
--- ---- how many run after an act
+-- ---- the number of RECs that run after an operation
 
 abbrev is_of_rec_run : Act → Bool
 is_of_rec_run (Enter n) = true
@@ -113,9 +113,9 @@ module _ (limits : Limits) (b : ℕ) (w v : World) (kept : IsKept b w) (kept_v :
       by_act (UnRealm rd root vmid) s = count_gone rd root vmid s
       by_act act s = count_turned act refl refl s
 
--- ---- the room
+-- ---- the capacity
 
--- the room of each kind of act, and what it does to the count of running RECs
+-- the capacity that each kind of operation takes, and its effect on the count of running RECs
 room_of_paired : (act : Act) (x y : ℕ) → is_paired act ≡ true → RunsAfter act x y → (room_taken act ≡ 2) × (y ≡ x)
 unfolding room_taken reverse_of
 room_of_paired (Enter n) x y p r = cc
@@ -181,7 +181,7 @@ room_taken_legal limits history w event v legal at_w turn s =
     let grown : Grows limits history event v = grows limits history event w v legal at_w s turn in
     room_is_taken limits history w v event (λ b. kept_reached limits b history w at_w) (λ b. kept_reached limits b (history ++ event ∷ []) v grown.world_is) turn s
 
--- ---- all of it
+-- ---- the sum of the capacity that was taken
 
 room_step : (limits : Limits) (b : ℕ) (before : List Event) (w v : World) (e : Event) → IsLegal limits before → replay limits before ≡ Some w → RoomIsSum before w b
     → IsInTurn before e → step limits w e ≡ Some v → RoomIsSum (before ++ e ∷ []) v b

@@ -1,4 +1,4 @@
--- Starting tables: adjacent, and each another granule.
+-- The proof that the starting tables of a realm are distinct granules.
 use Rattle.std.proofs.Common.{◌≡◌, true, ap}
 use Rattle.std.proofs.lemmas.Bool.{and_parts, and_from, eqb-true, eq-eqb}
 use Rattle.granule_addr.specs.Root.{start_count, starting_tables}

@@ -1,4 +1,4 @@
--- Rows by their kind, and the granules that they lead to.
+-- The rows of translation tables by entry state, and the granules that the rows lead to.
 use Rattle.std.proofs.Common.{◌≡◌, ℕ, ◌≤◌, true, false, Option, Some, None, refl, ap, subst, arith}
 use Rattle.std.specs.Prelude.{option_map}
 use Rattle.std.specs.FinMap.{get}
@@ -41,7 +41,7 @@ plain_unassigned row h =
 pub plain_assigned : (row : Row) → is_assigned row ≡ true → is_table_kind (Some (mapping_of_row row)) ≡ false
 plain_assigned row h = elim row.state as (λ x. is_assigned_state x ≡ true → is_table_kind (Some (mapping x row.granule)) ≡ false) [ Unassigned ↦ λ h. cc | Assigned ↦ λ h. refl | Table ↦ λ h. cc ] h
 
--- ---- what rows lead to
+-- ---- the granules that rows lead to
 
 pub table_target : (h : EntryState) (g : Option ℕ) (pa : ℕ) → is_table_state h ≡ true → g ≡ Some pa → kind_target h g ≡ Some (pa, InRtt)
 table_target Unassigned g pa t e = cc

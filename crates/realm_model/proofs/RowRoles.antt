@@ -1,4 +1,4 @@
--- The roles of granules as one comes under a row of a realm, or leaves it.
+-- The roles of granules after a row of a realm is changed to lead to a granule, or to no granule.
 use Rattle.std.proofs.Common.{◌≡◌, ℕ, true, false, cond, ◌||◌, ◌⊎◌, inl, inr, [], ◌∷◌, Option, Some, None, refl, sym, ap, ◌∙◌}
 use Rattle.std.specs.Prelude.{is_some, ◌==◌, option_map}
 use Rattle.std.specs.FinMap.{get, insert}
@@ -35,7 +35,7 @@ module _ (rows : Rows) (place : ℕ × ℕ) (row : Row) where
   pub leaf_target : row_target (mapping_at (insert rows place row) place) ≡ kind_target row.state row.granule
   leaf_target = ap row_target (mapping_at-insert rows place place row ∙ ap (λ t. cond t (Some (mapping_of_row row)) (mapping_at rows place)) (place_self place))
 
-  -- what a row leads to then: what it led to, or what the new row leads to
+  -- the granule that a row leads to afterwards: as before, or the new row's
   pub leaf_new : (q : ℕ × ℕ) (to : ℕ × GranuleState) → row_target (mapping_at (insert rows place row) q) ≡ Some to
       → (row_target (mapping_at rows q) ≡ Some to) ⊎ ((q ≡ place) × (kind_target row.state row.granule ≡ Some to))
   leaf_new q to h = elim (leaf_cases q) [ inl new ↦ inr (new.0, sym new.1 ∙ h) | inr same ↦ inl (ap row_target (sym same) ∙ h) ]
@@ -69,7 +69,7 @@ module _ (w : World) (sound : IsSoundPart w) (old : IsLinked (λ k. cell_at w.ma
   same_aux : (m i : ℕ) → aux_target (option_map granules_of_rec (get e1.recs m)) i ≡ aux_target (option_map granules_of_rec (get d.recs m)) i
   same_aux m i = ap (λ rs. aux_target (option_map granules_of_rec (get rs m)) i) recs
 
-  -- a DELEGATED granule comes under a row
+  -- a row is changed to lead to a DELEGATED granule
   pub row_more : (g : ℕ) (c : Cell) (place : ℕ × ℕ) → is_delegated (seen w.machine g) ≡ true → c.descriptor ≡ None → c.realm ≡ Some n
       → row_target (mapping_at e1.rows place) ≡ Some (g, c.state)
       → ((q : ℕ × ℕ) (to : ℕ × GranuleState) → row_target (mapping_at e1.rows q) ≡ Some to → (row_target (mapping_at d.rows q) ≡ Some to) ⊎ (q ≡ place))
@@ -112,7 +112,7 @@ module _ (w : World) (sound : IsSoundPart w) (old : IsLinked (λ k. cell_at w.ma
       named (AsAux m i) to h out = same_aux m i ∙ h
       named (AtRow q) to h out = stays q to h
 
-  -- a granule leaves from under a row
+  -- a row is changed to lead to its granule no more
   pub row_less : (g : ℕ) (place : ℕ × ℕ) (s : GranuleState) → row_target (mapping_at d.rows place) ≡ Some (g, s)
       → ((q : ℕ × ℕ) (to : ℕ × GranuleState) → row_target (mapping_at e1.rows q) ≡ Some to → row_target (mapping_at d.rows q) ≡ Some to)
       → row_target (mapping_at e1.rows place) ≡ None

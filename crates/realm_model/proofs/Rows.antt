@@ -1,4 +1,4 @@
--- Rows of a realm: the row at a place after rows were put or dropped.
+-- The row at each place of a realm's tables after rows are inserted or removed.
 use Rattle.std.proofs.Common.{subst, ◌≡◌, ◌≢◌, ℕ, zero, suc, ◌+◌, ◌*◌, ◌^◌, ◌<◌, ◌≤◌, Bool, true, false, cond, ◌&&◌, not, Option, Some, None, lit≤, refl, sym, ap, ◌∙◌, arith, ◌⊎◌, inl, inr}
 use Rattle.std.specs.Prelude.{option_map, ◌==◌, nat_le, nat_lt}
 use Rattle.std.specs.Ordering.{eq_by_cmp}
@@ -35,7 +35,7 @@ get-put_rows_other change rows level first (suc n) q apart =
     get-put_row_other (put_rows change rows level first n) (level, first + n * covered_count level) q _ (apart n (omega arith))
     ∙ get-put_rows_other change rows level first n q (λ k h. apart k (omega arith))
 
--- what is at a place is what was, or it is put there
+-- the row at a place is as before, or is one that is put
 pub put_cases : (change : Option Row → Row) (rows : Rows) (level first n : ℕ) (q : ℕ × ℕ) → (get (put_rows change rows level first n) q ≡ get rows q)
     ⊎ ((get (put_rows change rows level first n) q ≡ Some (change (get rows q))) × (k : ℕ) × (k < n) × (q ≡ (level, first + k * covered_count level)))
 unfolding put_rows
@@ -54,7 +54,7 @@ put_cases change rows level first (suc n) q =
       ]
     ] refl now
 
--- one that is
+-- a place that is among those put
 pub get-put_rows : (change : Option Row → Row) (rows : Rows) (level first n k : ℕ) → k < n
     → get (put_rows change rows level first n) (level, first + k * covered_count level) ≡ Some (change (get rows (level, first + k * covered_count level)))
 unfolding put_rows
@@ -86,7 +86,7 @@ covered_pos level =
       | false ↦ elim (level == 2) as (λ t. 1 ≤ cond t (2 ^ 9) 1) [ true ↦ lit≤ tt | false ↦ lit≤ tt ]
     ]
 
--- each row of a table is among those that go with it
+-- each row of a table is among those that are removed with it
 pub among_put : (level first n k : ℕ) → k < n → is_among level first (n * covered_count level) (level, first + k * covered_count level) ≡ true
 among_put level first n k h =
     let c = covered_count level in

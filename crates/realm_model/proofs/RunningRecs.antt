@@ -17,7 +17,7 @@ use Rattle.granule_addr.proofs.Runs.{range_with_len_more}
 -- ---- numbers in a row that pass a test
 
 module _ (p q : ℕ → Bool) (n : ℕ) (same : (k : ℕ) → k ≢ n → q k ≡ p k) where
-  -- where they differ in one number, which is not among them
+  -- two tests that differ in one number, which is not in the range
   count_outside : (a m : ℕ) → n < a → filter q (range_with_len a m) ≡ filter p (range_with_len a m)
   count_outside a zero out = refl
   count_outside a (suc m) out =
@@ -26,7 +26,7 @@ module _ (p q : ℕ → Bool) (n : ℕ) (same : (k : ℕ) → k ≢ n → q k �
       other : (a : ℕ) → n < a → a ≢ n
       other a out e = omega arith
 
-  -- or is
+  -- two tests that differ in one number, which is in the range
   count_more : (a m : ℕ) → a ≤ n → n < a + m → p n ≡ false → q n ≡ true → length (filter q (range_with_len a m)) ≡ length (filter p (range_with_len a m)) + 1
   count_more a zero low high off on = absurd (omega arith)
   count_more a (suc m) low high off on =
@@ -60,12 +60,12 @@ module _ (p q : ℕ → Bool) (n : ℕ) (same : (k : ℕ) → k ≢ n → q k �
           both true e = omega arith
           both false e = e
 
--- where none passes
+-- if no number passes
 pub none_pass : (test : ℕ → Bool) (xs : List ℕ) → ((n : ℕ) → test n ≡ false) → length (filter test xs) ≡ 0
 none_pass test [] none = refl
 none_pass test (x ∷ xs) none = ap (λ t. length (cond t (x ∷ filter test xs) (filter test xs))) (none x) ∙ none_pass test xs none
 
--- and where none of them does, each fails
+-- if no number of a range passes, each fails
 pub none_passed : (test : ℕ → Bool) (first count n : ℕ) → first ≤ n → n < first + count → length (filter test (range_with_len first count)) ≡ 0 → test n ≡ false
 none_passed test first zero n low high none = absurd (omega arith)
 none_passed test first (suc count) n low high none =
@@ -100,19 +100,19 @@ runs-insert_same recs n rec = ap is_rec_running (get-insert nat_cmp_total recs n
 abbrev pub running : FinMap nat_cmp RecRow → ℕ → ℕ
 running recs next = length (filter (runs recs) (range_with_len 0 next))
 
--- one that did not run runs
+-- a REC that did not run runs
 pub running-start : (recs : FinMap nat_cmp RecRow) (next n : ℕ) (rec : RecRow) → n < next → runs recs n ≡ false → is_rec_running (Some rec) ≡ true
     → running (insert recs n rec) next ≡ running recs next + 1
 running-start recs next n rec below off on =
     count_more (runs recs) (runs (insert recs n rec)) n (runs-insert_other recs n rec) 0 next (omega arith) (omega arith) off (runs-insert_same recs n rec ∙ on)
 
--- one that ran does not
+-- a REC that ran does not run
 pub running-stop : (recs : FinMap nat_cmp RecRow) (next n : ℕ) (rec : RecRow) → n < next → runs recs n ≡ true → is_rec_running (Some rec) ≡ false
     → running (insert recs n rec) next + 1 ≡ running recs next
 running-stop recs next n rec below on off =
     sym (count_more (runs (insert recs n rec)) (runs recs) n (λ k apart. sym (runs-insert_other recs n rec k apart)) 0 next (omega arith) (omega arith) (runs-insert_same recs n rec ∙ off) on)
 
--- one more, which does not run
+-- a new REC does not run
 pub running-new : (recs : FinMap nat_cmp RecRow) (next : ℕ) (rec : RecRow) → is_rec_running (Some rec) ≡ false → running (insert recs next rec) (next + 1) ≡ running recs next
 running-new recs next rec off =
     ap length (
@@ -135,7 +135,7 @@ running-new recs next rec off =
         other : (a m : ℕ) → a + suc m ≤ next → a ≢ next
         other a m low e = omega arith
 
--- one less, which did not run
+-- a REC that did not run is removed
 pub running-gone : (recs : FinMap nat_cmp RecRow) (next n : ℕ) → runs recs n ≡ false → running (remove recs n) next ≡ running recs next
 running-gone recs next n off = ap length (filter_agree (runs (remove recs n)) (runs recs) same (range_with_len 0 next))
   where
@@ -146,6 +146,6 @@ running-gone recs next n off = ap length (filter_agree (runs (remove recs n)) (r
           | false ↦ λ e. refl
         ] refl
 
--- where there is none
+-- if there is no REC
 pub running-none : (recs : FinMap nat_cmp RecRow) (next : ℕ) → ((n : ℕ) → get recs n ≡ None) → running recs next ≡ 0
 running-none recs next none = none_pass (runs recs) (range_with_len 0 next) (λ n. ap is_rec_running (none n))

@@ -1,4 +1,4 @@
--- Derived `==`, which decides `≡` if those of the fields do.
+-- The proof that a derived `==` decides equality if the `==` of each field does.
 use Rattle.std.proofs.Common.{◌≡◌, ◌&&◌, List, [], ◌∷◌, Bool, true, false, inl, inr, refl, ap, nat_eq}
 use Rattle.std.proofs.lemmas.Bool.Decides.{Decides-eqb, Decides-and}
 use Rattle.std.proofs.lemmas.Slice.Eq.{bytes_eq-Decides}
@@ -8,7 +8,7 @@ use denote.Enum.Compared.{Each, by}
 use denote.Enum.Declared.{Record, Choice, left_or, right_or, values_one}
 use denote.Struct.Field.{Field}
 
--- a record, so that its type tells the test
+-- a record, so that its type determines the test
 pub record DecidesEquality {A : Type 0} (test : A → A → Bool) : Type 0 where
   pub tells : (x y : A) → Decides (test x y) (x ≡ y)
 
@@ -21,7 +21,7 @@ numbers = record { tells = bytes_eq-Decides }
 pub nothing : DecidesEquality (λ (x y : Unit {0}). true)
 nothing = record { tells = λ x y. (λ is. refl, λ same. refl) }
 
--- by a part that fixes the whole
+-- by a part that determines the whole
 pub through : {A B : Type 0} {test : B → B → Bool} (part : A → B) → ((x y : A) → part x ≡ part y → x ≡ y) → DecidesEquality test → DecidesEquality (λ x y. test (part x) (part y))
 through part one by_part = record {
   tells = λ x y.

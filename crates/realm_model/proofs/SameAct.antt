@@ -1,4 +1,4 @@
--- The derived `==` of operations, by the fields of each.
+-- The proof that the derived `==` of operations decides equality.
 use Rattle.std.proofs.Common.{◌&&◌, ℕ, nat_eq}
 use Rattle.std.specs.Str.{bytes_eq}
 use Rattle.arrayvec.specs.declared.array_vec.ArrayVec.{ArrayVec}
@@ -13,7 +13,7 @@ root = through (λ (x : Root). (x.first, x.width)) (λ x y same i. record { firs
 granules : DecidesEquality (λ (x y : ArrayVec ℕ 16 (Unit {0})). bytes_eq x.items y.items)
 granules = through (λ (x : ArrayVec ℕ 16 (Unit {0})). x.items) (λ x y same i. record { items = same i }) numbers
 
--- in the order of the acts
+-- in the order of the variants of `Act`
 pub same_act : DecidesEquality derived.eq-value.it
 same_act =
     let one = last number in

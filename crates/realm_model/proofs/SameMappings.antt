@@ -1,4 +1,4 @@
--- Maps and rows that look the same, after the same is put or removed.
+-- Two maps of rows that agree up to RIPAS, after the same insertion or removal in both.
 use Rattle.std.proofs.Common.{◌≡◌, ℕ, zero, suc, ◌+◌, ◌-◌, ◌*◌, true, false, cond, not, Some, None, Ordering, refl, sym, ap, ◌∙◌}
 use Rattle.std.specs.Prelude.{option_map}
 use Rattle.std.specs.Ordering.{eq_by_cmp}

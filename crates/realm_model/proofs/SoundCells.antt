@@ -1,4 +1,4 @@
--- The cells of a build, which the commands keep sound.
+-- The proof that commands preserve the invariant of each granule of a build.
 use Rattle.std.proofs.Common.{◌≡◌, ℕ, ◌+◌, ◌-◌, ◌%◌, ◌<◌, true, false, cond, inl, inr, List, [], ◌∷◌, map, set, Option, Some, None, refl, sym, ap, ◌∙◌, subst, arith}
 use Rattle.std.specs.Prelude.{option_map, is_some}
 use Rattle.std.specs.Ordering.{nat_cmp, eq_by_cmp}
@@ -87,7 +87,7 @@ good_updated_all o b (u ∷ us) w v good all e = good_updated_all o b us (update
 pub delegated_state : (c : Cell) (g : ℕ) → is_delegated (record { number = g; cell = c }) ≡ true → c.state ≡ Delegated
 delegated_state c g e = elim c.state as (λ s. elim s [ Delegated ↦ true | _ ↦ false ] ≡ true → s ≡ Delegated) [ Delegated ↦ λ e. refl | _ ↦ λ e. cc ] e
 
--- a realm that is made stands at o
+-- a realm that is made has the RD `o`
 abbrev pub StandsAt : ℕ → Act → Type 0
 StandsAt o (Realm rd root v) = rd ≡ o
 StandsAt o _ = Unit {0}

@@ -1,4 +1,4 @@
--- The part of each build, which is sound in every reached world.
+-- The proof that in every reached world each build's part satisfies its invariants.
 use Rattle.std.proofs.Common.{◌≡◌, ℕ, zero, suc, Bool, true, false, cond, List, [], ◌∷◌, map, length, pred, Option, Some, None, Ok, Err, refl, sym, ap, ◌∙◌, subst, arith}
 use Rattle.std.specs.Prelude.{is_some, ◌==◌, replicate}
 use Rattle.std.proofs.lemmas.Bool.{and_parts, eqb-true, eqb-false}
@@ -50,7 +50,7 @@ IsClean-part_of w b clean = part_clean (is_of_other b) w.leases w.machine clean
 pub IsSquare-part_of : (w : World) (b : ℕ) → IsSquare w → IsSquare (part_of w b)
 IsSquare-part_of w b h = length-map w.leases (unleased (is_of_other b)) ∙ h ∙ sym (part_length (is_of_other b) w.leases w.machine h)
 
--- cells without rows are sound wherever a realm stands
+-- cells without a realm's row are sound whatever the realm's RD is
 sound_anywhere : (o p g : ℕ) (c : Cell) → IsSoundCell o g c → c.descriptor ≡ None → IsSoundCell p g c
 sound_anywhere o p g c h none = record { realm = h.realm; descriptor = h.descriptor; alone = λ e. absurd (true_false _ e (sym h.descriptor ∙ ap is_some none)); itself = h.itself; row = h.row }
 
@@ -59,7 +59,7 @@ pub record IsSound (b : ℕ) (w : World) : Type 0 where
   pub square : IsSquare w
   pub part : IsSoundFor b w
 
--- where the realm of a build stands after an act
+-- the RD of a build's realm after an operation
 abbrev stand : ℕ → Act → ℕ
 stand o (Realm rd root v) = rd
 stand o _ = o

@@ -1,4 +1,4 @@
--- The rows of a realm, which the commands keep in shape.
+-- The proof that commands preserve the invariant of the rows of a realm's translation tables.
 use Rattle.std.proofs.Common.{lit≤, ◌/◌, ◌≡◌, ◌≢◌, ℕ, ◌+◌, ◌-◌, ◌*◌, ◌<◌, ◌≤◌, Bool, true, false, cond, ◌&&◌, ◌||◌, not, ◌⊎◌, inl, inr, Option, Some, None, refl, sym, ap, ◌∙◌, subst, arith}
 use Rattle.std.specs.Prelude.{option_map, is_some, ◌==◌, nat_le, nat_lt}
 use Rattle.std.specs.FinMap.{get, insert, empty, get-empty}
@@ -107,7 +107,7 @@ module _ {width : ℕ} (old : Rows) (level ipa : ℕ) (above : Row) (sound : IsS
   not_first : (level == 1) ≡ false
   not_first = ne_eqb level 1 (λ e. let l = at.low in omega (arith, l, e))
 
-  -- no row stands below a row that is no table
+  -- there is no row below a row that is no table
   pub none_under : is_table above ≡ false → (q : ℕ × ℕ) → q.0 ≡ level → first_covered (level - 1) q.1 ≡ ipa → mapping_at old q ≡ None
   none_under plain q same under = absent (mapping_at old q) (λ some.
       let parent : has_table (mapping_at old) q ≡ true = sound.below q some in
@@ -203,7 +203,7 @@ module _ {width : ℕ} (old : Rows) (level ipa : ℕ) (above : Row) (sound : IsS
   unfolding with_table
   with_table_sound granule ripas plain = made_sound granule ripas plain
 
-  -- each row then: the table where a row led nowhere, a free row where there was none, or as before
+  -- each row afterwards: the new TABLE row, a new UNASSIGNED row, or as before
   pub with_table_cases : (granule : ℕ) (ripas : Ripas) (q : ℕ × ℕ) → is_table above ≡ false
       → ((q ≡ up) × (mapping_at (with_table old level ipa granule ripas) q ≡ Some (mapping Table (Some granule))) × (row_target (mapping_at old q) ≡ None))
       ⊎ ((mapping_at (with_table old level ipa granule ripas) q ≡ Some (mapping Unassigned None)) × (mapping_at old q ≡ None)) ⊎ (mapping_at (with_table old level ipa granule ripas) q ≡ mapping_at old q)
@@ -222,7 +222,7 @@ module _ {width : ℕ} (old : Rows) (level ipa : ℕ) (above : Row) (sound : IsS
     | inr new ↦ let under = fresh_under granule ripas plain q new in inr (inl (new.0, none_under plain q under.0 under.1))
   ]
 
-  -- the row above is the table then, and the rows below are free
+  -- afterwards the row above is TABLE, and the rows below are UNASSIGNED
   pub mapping_at-with_table : (granule : ℕ) (ripas : Ripas) → is_table above ≡ false → mapping_at (with_table old level ipa granule ripas) up ≡ Some (mapping Table (Some granule))
   unfolding with_table
   mapping_at-with_table granule ripas plain = up_look granule ripas plain
@@ -231,7 +231,7 @@ module _ {width : ℕ} (old : Rows) (level ipa : ℕ) (above : Row) (sound : IsS
   unfolding with_table
   mapping_at-with_table_below granule ripas k less = put_there (unassigned ripas) (put_row old (level - 1) ipa (table granule)) level ipa 512 k less
 
-  -- ---- a table goes
+  -- ---- a table is removed
 
   module _ (unused : is_table_unused old level ipa ≡ true) where
     unused_row : (k : ℕ) → k < 512 → (row : Row) × (get old (level, ipa + k * covered_count level) ≡ Some row) × (is_unassigned row ≡ true)
@@ -274,7 +274,7 @@ module _ {width : ℕ} (old : Rows) (level ipa : ℕ) (above : Row) (sound : IsS
     under_up : (q : ℕ × ℕ) → under q ≡ true → first_covered (level - 1) q.1 ≡ ipa
     under_up q u = at.from_among q.1 (subst (λ l. is_among level ipa (512 * covered_count level) (l, q.1) ≡ true) (under_level q u) u)
 
-    -- what stands under the table leads nowhere
+    -- the rows of the table lead nowhere
     under_target : (q : ℕ × ℕ) → under q ≡ true → row_target (mapping_at old q) ≡ None
     under_target q u = of_look (mapping_at old q) refl
       where
@@ -352,7 +352,7 @@ module _ {width : ℕ} (old : Rows) (level ipa : ℕ) (above : Row) (sound : IsS
   unfolding without_table
   without_table_sound unused = left_sound unused
 
-  -- each row then: free above the table, none where none led anywhere, or as before
+  -- each row afterwards: UNASSIGNED above the table, removed in the table, or as before
   pub without_table_cases : is_table_unused old level ipa ≡ true → (q : ℕ × ℕ) → ((q ≡ up) × (mapping_at (without_table old level ipa) q ≡ Some (mapping Unassigned None)))
       ⊎ ((mapping_at (without_table old level ipa) q ≡ None) × (row_target (mapping_at old q) ≡ None)) ⊎ ((mapping_at (without_table old level ipa) q ≡ mapping_at old q) × (is_place q up ≡ false))
   unfolding without_table
@@ -368,12 +368,12 @@ module _ {width : ℕ} (old : Rows) (level ipa : ℕ) (above : Row) (sound : IsS
 
 -- ---- a realm with no table below its root
 
--- it has rows of the root alone, and they lead nowhere
+-- the realm has only rows of starting tables, and they lead nowhere
 module _ {width : ℕ} (rows : Rows) (sound : IsSoundRows width (mapping_at rows)) (plain : has_root_table width rows ≡ false) where
   no_root_table : all_rows (λ row. not (is_table row)) rows 1 0 (512 * start_count width) ≡ true
   no_root_table = not_false _ plain
 
-  -- none is a table
+  -- no row of level 1 is TABLE
   first_plain : (i : ℕ) → is_table_kind (mapping_at rows (1, i)) ≡ false
   first_plain i = of_look (mapping_at rows (1, i)) refl
     where
@@ -388,7 +388,7 @@ module _ {width : ℕ} (rows : Rows) (sound : IsSoundRows width (mapping_at rows
           let found = all_rows_at (λ row. not (is_table row)) rows 1 0 (512 * start_count width) k.0 no_root_table k.1 in
           ap is_table_kind (sym e ∙ ap (λ n. mapping_at rows (1, n)) k.2 ∙ ap (option_map mapping_of_row) found.1) ∙ not_true _ found.2
 
-  -- a row below it would stand below a table
+  -- a row below level 1 would be below a TABLE row
   no_second : (i : ℕ) → mapping_at rows (2, i) ≡ None
   no_second i = absent (mapping_at rows (2, i)) (λ some. true_false _ (sound.below (2, i) some) (first_plain (first_covered 1 i)))
 

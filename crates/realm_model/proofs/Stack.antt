@@ -1,4 +1,4 @@
--- The unmatched operations as a stack, which grows by a paired operation and loses its top by a reverse one.
+-- The unmatched operations as a stack: an operation with a reverse is pushed, and a reverse operation pops the top.
 use Rattle.std.proofs.Common.{◌≡◌, ℕ, zero, suc, pred, ◌+◌, ◌-◌, ◌≤◌, Bool, true, false, cond, not, ◌&&◌, ◌||◌, List, [], ◌∷◌, ◌++◌, length, take, refl, sym, ap, ◌∙◌, arith}
 use Rattle.std.specs.Prelude.{filter, fold, ◌==◌}
 use Rattle.std.proofs.lemmas.Bool.{eq-eqb, ne_eqb}
@@ -11,7 +11,7 @@ use Rattle.realm_model.specs.Act.{reverse_of, is_reverse, is_paired}
 use Rattle.realm_model.specs.History.{is_balanced, has_nearer, is_matched, unmatched}
 use Rattle.realm_model.proofs.Lists.{front, take-front}
 
--- no act is both
+-- no operation both has a reverse and is one
 paired_apart : (act : Act) → is_paired act ≡ true → is_reverse act ≡ false
 unfolding reverse_of is_reverse
 paired_apart (UnTake order first) h = cc
@@ -22,7 +22,7 @@ paired_apart (UnData granule ipa) h = cc
 paired_apart (UnRec granule auxiliaries number) h = cc
 paired_apart _ h = refl
 
--- the stack after one more act, by its kind
+-- the stack after one more operation, by its kind
 pub pushed_paired : (stack : List Act) (act : Act) → is_paired act ≡ true → pushed stack act ≡ stack ++ act ∷ []
 unfolding pushed
 pushed_paired stack act p = ap (λ t. cond t (stack ++ act ∷ []) (cond (is_reverse act) (take (length stack - 1) stack) stack)) p
@@ -35,7 +35,7 @@ pub pushed_other : (stack : List Act) (act : Act) → is_paired act ≡ false �
 unfolding pushed
 pushed_other stack act p r = λ i. cond (p i) (stack ++ act ∷ []) (cond (r i) (take (length stack - 1) stack) stack)
 
--- ---- one act, by the tests of it
+-- ---- one operation, by its tests
 
 abbrev need_step : Bool → Bool → ℕ → ℕ
 need_step p r n = cond p (pred n) (cond r (suc n) n)
@@ -92,12 +92,12 @@ near_step false false F G k n t apart h c next = next k h c
 
 -- ---- lists
 
--- how many paired acts before the list its reverse acts match
+-- the number of paired operations before the list that its reverses match
 abbrev need : List Act → ℕ
 need [] = 0
 need (x ∷ xs) = need_step (is_paired x) (is_reverse x) (need xs)
 
--- unmatched, by what is needed
+-- the unmatched operations, by these numbers
 abbrev opened : List Act → List Act
 opened [] = []
 opened (x ∷ xs) = opened_step (is_paired x) x (need xs) (opened xs)
@@ -148,7 +148,7 @@ length_push p F a =
     ap length (filter-append p F (a ∷ [])) ∙ length-append (filter p F) (filter p (a ∷ []))
     ∙ ap (λ n. length (filter p F) + n) (elim (p a) as (λ t. length (cond t (a ∷ []) []) ≡ cond t 1 0) [ true ↦ refl | false ↦ refl ])
 
--- ---- what is matched
+-- ---- the matched operations
 
 abbrev is_below : ℕ → ℕ → Bool
 is_below k zero = false
@@ -176,7 +176,7 @@ kind x = elim (is_paired x) as (λ t. is_paired x ≡ t → Kind x) [
 
 module _ (between rest : List Act) (a : Act) (k : ℕ) (n : need between ≡ 0) (c : pairs between ≡ backs between + k)
     (next : (j : ℕ) → need (between ++ a ∷ []) ≡ 0 → pairs (between ++ a ∷ []) ≡ backs (between ++ a ∷ []) + j → is_matched (between ++ a ∷ []) rest ≡ is_below j (need rest)) where
-  -- counts with the act
+  -- counts with the operation
   pairs_push : pairs (between ++ a ∷ []) ≡ pairs between + cond (is_paired a) 1 0
   pairs_push = length_push is_paired between a
 
@@ -236,7 +236,7 @@ unmatched-opened (x ∷ xs) =
 
 -- ---- the stack
 
--- one more act
+-- one more operation
 pub unmatched_push : (xs : List Act) (a : Act) → unmatched (xs ++ a ∷ []) ≡ pushed (unmatched xs) a
 unmatched_push xs a =
     unmatched-opened (xs ++ a ∷ [])
@@ -247,7 +247,7 @@ unmatched_push xs a =
     ]
     ∙ ap (λ o. pushed o a) (sym (unmatched-opened xs))
 
--- all of them, from an empty stack
+-- all operations, from an empty stack
 unmatched_all : (xs ys : List Act) → unmatched (xs ++ ys) ≡ fold pushed (unmatched xs) ys
 unmatched_all xs [] = ap unmatched (append-nil xs)
 unmatched_all xs (y ∷ ys) =

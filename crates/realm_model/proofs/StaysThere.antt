@@ -1,4 +1,4 @@
--- The granules of a build and the VMID of its realm, which it still has after it opens operations.
+-- The proof that a build keeps its granules and its realm's VMID as it opens further operations.
 use Rattle.std.proofs.Common.{◌≡◌, ℕ, true, false, cond, List, [], ◌∷◌, Option, Some, None, refl, sym, ap, ◌∙◌, subst}
 use Rattle.std.specs.Prelude.{slice_get}
 use Rattle.std.proofs.lemmas.Option.{slice_get_within}
@@ -23,7 +23,7 @@ use Rattle.realm_model.proofs.OwnsSame.{descriptor_some}
 use Rattle.realm_model.proofs.OwnLaws.{laws, SameFor}
 use Rattle.realm_model.proofs.Chain.{Chain}
 
--- what a build has in one world it has in another
+-- the granules and the VMID that a build has in one world it has in another
 pub record HasStill (b : ℕ) (w v : World) : Type 0 where
   pub leases : (g : ℕ) → slice_get (part_of w b).leases g ≡ Some (Some b) → slice_get (part_of v b).leases g ≡ Some (Some b)
   pub vmid : (k : ℕ) (d : RealmRow) → (cell_at (part_of w b).machine k).descriptor ≡ Some d → (e : RealmRow) × ((cell_at (part_of v b).machine k).descriptor ≡ Some e) × (e.vmid ≡ d.vmid)
@@ -42,7 +42,7 @@ still_same b w v same = record {
       (other.0, other.1, sym other.2.vmid);
 }
 
--- ---- a paired act
+-- ---- a paired operation
 
 paired_keeps : (act : Act) → is_paired act ≡ true → is_realm_destroy act ≡ false
 unfolding reverse_of
@@ -73,7 +73,7 @@ still_paired limits b w v act p sound s =
           (then.0, then.1, then.2.0);
     }
 
--- ---- all that is opened above a base
+-- ---- all operations that are opened above a base
 
 pub has_still : (limits : Limits) (b : ℕ) (base : World) (below st : List Act) (w : World) → Chain limits b (SameFor b) (IsSound b) (laws limits b) base below st w → HasStill b base w
 has_still limits b base below [] w h = still_same b base w h

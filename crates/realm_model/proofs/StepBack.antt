@@ -1,4 +1,4 @@
--- The conditions and the effect of a step, read back from its command.
+-- The conditions and the effect of a step, derived from the fact that the step is accepted.
 use Rattle.std.proofs.Common.{◌≡◌, ℕ, true, List, map, Some, Ok, Err, refl, sym, ap, ◌∙◌}
 use Rattle.std.specs.Prelude.{nat_lt}
 use Rattle.std.specs.List.{list_all}
@@ -14,7 +14,7 @@ use Rattle.realm_model.specs.Undoing.{by}
 use Rattle.realm_model.proofs.Booleans.{guarded}
 use Rattle.realm_model.proofs.Outcomes.{Yields}
 
--- what a step asked for
+-- the requirements that a step met
 pub record Asked (limits : Limits) (b : ℕ) (w : World) (act : Act) : Type 0 where
   pub below : nat_lt b limits.builds ≡ true
   pub leases : list_all (is_leased_to (holder b act) w.leases) (named act) ≡ true
@@ -29,7 +29,7 @@ asked limits b w v act s =
     let first = and_parts _ _ ranged.0 in
     record { below = first.0; leases = first.1; range = ranged.1; fit = outer.1 }
 
--- what a step did, where its command yields P
+-- the effect of a step, if the updates of its command have the property P
 pub done : (limits : Limits) (b : ℕ) (w v : World) (act : Act) (P : List Update → Type 0)
     → Yields P (outcome_of limits.vmids limits.aux (used_vmids w.machine) act (realm_of b w) (map (seen w.machine) (named act))) → step limits w (by b act) ≡ Some v
     → (us : List Update) × P us × (updated_all b us w ≡ Some v)
@@ -41,7 +41,7 @@ done limits b w v act P yields s =
     of_plan (Ok us) yields e = (us, yields.where_ok us refl, e)
     of_plan (Err rmi) yields e = cc
 
--- what a step did, by the list of updates that its outcome_of is
+-- the effect of a step, by the list of updates that is its outcome
 pub planned : (limits : Limits) (b : ℕ) (w v : World) (act : Act) (us : List Update)
     → outcome_of limits.vmids limits.aux (used_vmids w.machine) act (realm_of b w) (map (seen w.machine) (named act)) ≡ Ok us → step limits w (by b act) ≡ Some v → updated_all b us w ≡ Some v
 unfolding step

@@ -1,4 +1,4 @@
--- The rows of a table, which are removed with it.
+-- The proof that the destruction of a table restores the rows from before its creation, up to RIPAS.
 use Rattle.std.proofs.Common.{◌≡◌, ℕ, ◌+◌, ◌-◌, ◌*◌, Bool, true, false, cond, not, Some, None, refl, sym, ap, ◌∙◌}
 use Rattle.std.specs.Prelude.{option_map}
 use Rattle.std.specs.Ordering.{eq_by_cmp}
@@ -13,7 +13,7 @@ use Rattle.realm_model.proofs.Booleans.{false_from, true_false}
 use Rattle.realm_model.proofs.Maps.{place_total, same_place}
 use Rattle.realm_model.proofs.Rows.{is_among, get-drop_rows, get-put_rows_other, get-put_row_other, among_put, differs}
 
--- rows that own what rows with a new table own are, without the table, those from before it
+-- if rows own the same as rows with a new table, then without the table they own the same as the rows before it
 module _ (old rows : Rows) (level ipa granule : ℕ) (ripas : Ripas) (above : Row)
     (was : get old (level - 1, first_covered (level - 1) ipa) ≡ Some above) (free : mapping_of_row above ≡ mapping Unassigned None)
     (none_below : (q : ℕ × ℕ) → is_among level ipa (512 * covered_count level) q ≡ true → get old q ≡ None)

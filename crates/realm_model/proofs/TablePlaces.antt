@@ -1,4 +1,4 @@
--- The places of tables: those below the row that covers an IPA.
+-- The places of a table's 512 rows, which are covered by the row above the table.
 use Rattle.std.proofs.Common.{◌≡◌, ℕ, ◌+◌, ◌-◌, ◌*◌, ◌/◌, ◌%◌, ◌<◌, ◌≤◌, true, false, ◌||◌, refl, sym, subst, arith, lit≤}
 use Rattle.std.specs.Prelude.{◌==◌}
 use Rattle.std.proofs.lemmas.Bool.{and_parts, and_from, eqb-true, eq-eqb, lt-ltb, le-leb, ltb-true, leb-true}
@@ -14,7 +14,7 @@ by_level P level h two three = elim (level == 2) as (λ t. (level == 2) ≡ t �
   | false ↦ λ e h. subst P (sym (eqb-true level 3 h)) three
 ] refl h
 
--- what is below the row that covers an IPA
+-- the place of a table: level 2 or 3, and the first IPA granule of an entry of the level above
 pub record IsTablePlace (ipa level : ℕ) : Type 0 where
   pub low : (1 ≤ level - 1) × (level - 1 ≤ 2) × (level - 1 + 1 ≡ level)
   pub first : first_covered (level - 1) ipa ≡ ipa

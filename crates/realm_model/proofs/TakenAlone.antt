@@ -1,4 +1,4 @@
--- The events of a build alone, which lead to its part of the world; and a world as the sum of its parts.
+-- The proof that a build's events alone lead to its part of the world, and that the parts determine the world.
 use Rattle.std.proofs.Common.{◌≡◌, ℕ, Bool, true, false, cond, not, List, [], ◌∷◌, ◌++◌, map, Option, Some, None, refl, sym, ap, ◌∙◌, subst, ◌<◌, ◌≤◌, arith}
 use Rattle.std.specs.Prelude.{◌==◌, option_map, option_and_then, is_some}
 use Rattle.std.specs.List.{last_or}
@@ -33,7 +33,7 @@ alone_again b (e ∷ es) =
       | false ↦ λ other. alone_again b es
     ] refl
 
--- its acts are those that it has among others
+-- the build's operations are those that it has among others
 acts_of-alone : (b c : ℕ) (es : List Event) → c ≡ b → acts_of c (events_of b es) ≡ acts_of c es
 acts_of-alone b c es same = subst (λ n. acts_of n (events_of b es) ≡ acts_of n es) (sym same) (ap (map (λ (x : Event). x.act)) (alone_again b es))
 
@@ -50,7 +50,7 @@ AllInTurn-alone b before (e ∷ es) h =
       | false ↦ λ other. subst (λ start. AllInTurn start (events_of b es)) (events_push b before e false other ∙ append-nil (events_of b before)) next
     ] refl
 
--- ---- their world
+-- ---- the world of a build's events
 
 part_of-opening : (limits : Limits) (b : ℕ) → part_of (opening limits) b ≡ opening limits
 part_of-opening limits b = λ i. record {
@@ -129,7 +129,7 @@ same_parts w v clean_w clean_v h =
 
 -- ---- the same events of each build
 
--- a build that is not there has none
+-- a build that does not exist has no events
 none_after : (limits : Limits) (b : ℕ) → limits.builds ≤ b → (es : List Event) (w v : World) → after limits es w ≡ Some v → events_of b es ≡ []
 unfolding after
 none_after limits b past [] w v h = refl

@@ -30,7 +30,7 @@ use Rattle.realm_model.proofs.LeftOut.{noninterference}
 use Rattle.realm_model.proofs.FreeSets.{free_set-without, part_of-without}
 use Rattle.realm_model.proofs.ZeroPages.{kept_reached}
 
--- a reverse act is reverse, and not paired
+-- a reverse operation is a reverse, and has none
 abbrev Back : Act → Type 0
 Back r = (is_paired r ≡ false) × (is_reverse r ≡ true)
 
@@ -53,12 +53,12 @@ events b st = map (by b) (reverses st)
 events_more : (b : ℕ) (act r : Act) (st : List Act) → reverse_of act ≡ Some r → events b (act ∷ st) ≡ by b r ∷ events b st
 events_more b act r st e = ap (map (by b)) (ap (λ o. elim o [ Some r ↦ r ∷ reverses st | None ↦ reverses st ]) e)
 
--- from a base world on, above what was open there
+-- histories from a base world on, above the operations that are open there
 module _ (limits : Limits) (b : ℕ) (base : World) (below : List Act) where
   abbrev pub KeptOver : List Act → List Event → World → Type 0
   KeptOver st history w = Kept limits b (SameFor b) (IsSound b) (laws limits b) base below st history w
 
-  -- each has one reverse
+  -- each open operation has one reverse
   pub counted : (st : List Act) (w : World) → Chain limits b (SameFor b) (IsSound b) (laws limits b) base below st w → length (events b st) ≡ length st
   counted [] w h = refl
   counted (act ∷ st) w h =
@@ -71,7 +71,7 @@ module _ (limits : Limits) (b : ℕ) (base : World) (below : List Act) where
     pub world_is : replay limits history ≡ Some world
     pub kept : Kept limits b (SameFor b) (IsSound b) (laws limits b) base below [] history world
 
-  -- all that is open above it can be undone, where none of it made a REC that runs
+  -- all operations open above the base can be undone, if none of them made a REC that runs
   pub undo_all : (st : List Act) (history : List Event) (w : World) → IsLegal limits history → replay limits history ≡ Some w → KeptOver st history w → list_any (is_running (realm_of b w)) st ≡ false
       → Ended (history ++ events b st)
   undo_all [] history w legal at_w k rests =

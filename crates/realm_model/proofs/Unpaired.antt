@@ -1,4 +1,4 @@
--- An operation that has no reverse, and is none, which leads to a world that owns the same.
+-- The proof that an operation changes no ownership if it has no reverse and is no reverse.
 use Rattle.std.proofs.Common.{◌≡◌, ℕ, false, List, [], ◌∷◌, map, Option, Some, None, Ok, Err, refl, sym, ap, ◌∙◌, subst}
 use Rattle.std.specs.Cmp.{nat_cmp_total}
 use Rattle.std.specs.FinMap.{get, insert}

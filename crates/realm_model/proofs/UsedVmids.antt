@@ -1,4 +1,4 @@
--- The VMIDs in use: the realms that have them, and the part of them that an operation's outcome depends on.
+-- The VMIDs in use: each is that of a realm, and an accepted command is also accepted if fewer are in use.
 use Rattle.std.proofs.Common.{◌≡◌, ℕ, zero, suc, Bool, true, false, cond, ◌||◌, not, List, [], ◌∷◌, Option, Some, None, Ok, refl, sym, ap, ◌∙◌}
 use Rattle.std.specs.Prelude.{◌==◌, option_map}
 use Rattle.std.specs.List.{cons_option}
@@ -15,7 +15,7 @@ use Rattle.realm_model.specs.Command.Check.{is_in}
 use Rattle.realm_model.proofs.Lists.{is_in_head, is_in_more}
 use Rattle.realm_model.proofs.Outcomes.{Yields-Ok, Yields-check, check_true}
 
--- with that of the realm, if there is one
+-- the VMIDs with that of the realm, if there is one
 abbrev with_vmid : Option RealmRow → List ℕ → List ℕ
 with_vmid o used = cons_option (option_map (λ (r : RealmRow). r.vmid) o) used
 
@@ -36,7 +36,7 @@ pub record HasUser (v : ℕ) (machine : Machine) : Type 0 where
   pub there : (cell_at machine at).descriptor ≡ Some realm
   pub same : realm.vmid ≡ v
 
--- and each VMID in use is that of a realm
+-- each VMID in use is that of a realm
 pub used_by : (v : ℕ) (machine : Machine) → is_in v (used_vmids machine) ≡ true → HasUser v machine
 used_by v [] e = cc
 used_by v (c ∷ machine) e = of_row c.descriptor refl (used_by v machine) e
@@ -51,7 +51,7 @@ used_by v (c ∷ machine) e = of_row c.descriptor refl (used_by v machine) e
       | false ↦ λ other e. later (rest e)
     ] refl e
 
--- a realm that is seen with some builds hidden is there
+-- a realm that is seen with some builds hidden exists
 row_shown : (p : Option ℕ → Bool) (leases : List (Option ℕ)) (machine : Machine) (k : ℕ) (d : RealmRow) → (cell_at (each (hidden p) leases machine) k).descriptor ≡ Some d
     → (cell_at machine k).descriptor ≡ Some d
 row_shown p [] machine k d is = cc
@@ -65,7 +65,7 @@ used-hidden p leases machine v e =
     let user = used_by v (each (hidden p) leases machine) e in
     ap (λ n. is_in n (used_vmids machine)) (sym user.same) ∙ used_at machine user.at user.realm (row_shown p leases machine user.at user.realm user.there)
 
--- what is no refusal is none where no more are in use, and changes the same
+-- a command that is not refused has the same updates if no more VMIDs are in use
 pub outcome_of-fewer : (limits : Limits) (used fewer : List ℕ) → ((v : ℕ) → is_in v fewer ≡ true → is_in v used ≡ true) → (act : Act) (realm : Option Seen) (gs : List Seen) (us : List Update)
     → outcome_of limits.vmids limits.aux used act realm gs ≡ Ok us → outcome_of limits.vmids limits.aux fewer act realm gs ≡ Ok us
 unfolding outcome_of

@@ -1,4 +1,4 @@
--- The VMIDs of realms in every reached world: in range, and each of one realm alone.
+-- The proof that the VMIDs of realms are in range and distinct in every reached world.
 use Rattle.std.proofs.Common.{◌≡◌, ◌≢◌, ℕ, ◌≤◌, true, false, cond, ◌⊎◌, inl, inr, List, [], ◌∷◌, map, replicate, Option, Some, None, refl, sym, ap, ◌∙◌, subst}
 use Rattle.std.specs.Prelude.{◌==◌, is_some}
 use Rattle.std.proofs.lemmas.Bool.{eqb-true}
@@ -87,7 +87,7 @@ module _ (limits : Limits) (w : World) (Made : ℕ → RealmRow → Type 0) wher
   realm_vmid : (rd : Seen) (d : RealmRow) → now rd.number ≡ rd.cell → rd.cell.descriptor ≡ Some d → (e : RealmRow) → d.vmid ≡ e.vmid → From rd.number e
   realm_vmid rd d at is e same = inl (d, ap (λ (c : Cell). c.descriptor) at ∙ is, same)
 
-  -- what an act that makes a realm makes
+  -- the realm that an operation makes, if it makes one
   abbrev Makes : Act → Type 0
   Makes (Realm rd root v) = (e : RealmRow) → e.vmid ≡ v → CanBeMade limits.vmids (used_vmids w.machine) w.machine rd root v → Made rd e
   Makes _ = Unit {0}
@@ -160,7 +160,7 @@ pub record HasVmids (limits : Limits) (w : World) : Type 0 where
   pub range : (k : ℕ) (d : RealmRow) → (cell_at w.machine k).descriptor ≡ Some d → (1 ≤ d.vmid) × (d.vmid ≤ limits.vmids)
   pub apart : (k h : ℕ) (d e : RealmRow) → (cell_at w.machine k).descriptor ≡ Some d → (cell_at w.machine h).descriptor ≡ Some e → d.vmid ≡ e.vmid → k ≡ h
 
--- the realm that an act makes
+-- the realm of an operation that makes one
 abbrev pub IsMade : Limits → World → Act → ℕ → RealmRow → Type 0
 IsMade limits w (Realm rd root v) k e = (k ≡ rd) × (e.vmid ≡ v) × CanBeMade limits.vmids (used_vmids w.machine) w.machine rd root v
 IsMade limits w _ k e = ⊥
@@ -189,7 +189,7 @@ realm_before limits w v b act square s k e is =
     from_put limits w (IsMade limits w act) did.0 k (cell_at w.machine k) did.1 (from_now limits w (IsMade limits w act) k) e
     (ap (λ (c : Cell). c.descriptor) (sym (cell_put b did.0 w v square did.2 k)) ∙ is)
 
--- an act that makes no realm leaves none where none was
+-- if there was no realm, an operation that makes none leaves none
 none_made : (limits : Limits) (w : World) (act : Act) (k : ℕ) (e : RealmRow) → makes_realm act ≡ false → IsMade limits w act k e → ⊥
 none_made limits w (Realm rd root v) k e plain made = cc
 none_made limits w _ k e plain made = made

@@ -29,9 +29,9 @@ use Rattle.realm_model.proofs.ZeroPages.{kept_reached}
 use Rattle.realm_model.proofs.Made.{taken_back, opens, closes, stays}
 use Rattle.realm_model.specs.VmidsUsed.{VmidsFollowSteps}
 
--- ---- the VMIDs of open acts
+-- ---- the VMIDs of open operations
 
--- the VMID of the realm that an act made, and of the one that a reverse removes
+-- the VMID of the realm that an operation made, and of the one that a reverse removes
 abbrev vmid_made : Act → List ℕ
 vmid_made (Realm rd root vmid) = vmid ∷ []
 vmid_made _ = []
@@ -128,7 +128,7 @@ module _ (limits : Limits) (history : List Event) (w : World) (legal : IsLegal l
       (ap (λ (x : Cell). x.descriptor) (stands b v has) ∙ has.row) (ap (λ (x : Cell). x.descriptor) (stands c v also) ∙ also.row) (has.same ∙ sym also.same) in
       same_Some _ _ (same_Some _ _ (sym (holds b v has) ∙ ap (slice_get w.leases) place ∙ holds c v also))
 
--- ---- after an act
+-- ---- after an operation
 
 both_ways : (s t : Bool) → (s ≡ true → t ≡ true) → (t ≡ true → s ≡ true) → s ≡ t
 both_ways true t to from = sym (to refl)

@@ -1,4 +1,4 @@
--- The end of a walk.
+-- The level and the row at which an RTT walk ends.
 use Rattle.std.proofs.Common.{◌≡◌, ℕ, zero, suc, ◌≤◌, Some, None, refl, sym, ap, ◌∙◌, arith}
 use Rattle.std.proofs.lemmas.Option.{same_Some}
 use Rattle.realm_model.specs.Rows.{Row, Rows, Walk, walk, row_at}
@@ -31,7 +31,7 @@ walk_end rows ipa (suc level) end e =
       | None ↦ λ there e. walk_end rows ipa level end e
     ] refl e
 
--- one ends above a level that has no row there
+-- a walk ends above a level that has no row there
 pub walk_above : (rows : Rows) (ipa level : ℕ) → row_at rows (suc level) ipa ≡ None → walk rows ipa (suc level) ≡ walk rows ipa level
 unfolding walk
 walk_above rows ipa level none = ap (λ o. elim o [ Some row ↦ Some (record { level = suc level; row = row }) | None ↦ walk rows ipa level ]) none

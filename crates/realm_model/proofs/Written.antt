@@ -1,4 +1,4 @@
--- The cell of each granule after updates.
+-- The state and the contents of each granule after a sequence of updates.
 use Rattle.std.proofs.Common.{◌≡◌, ℕ, zero, suc, ◌<◌, Bool, true, false, cond, ◌||◌, ◌⊎◌, inl, inr, List, [], ◌∷◌, ◌++◌, map, set, length, Option, Some, None, refl, sym, ap, ◌∙◌, subst}
 use Rattle.std.specs.Prelude.{◌==◌, slice_get}
 use Rattle.std.specs.List.{list_all}
@@ -94,7 +94,7 @@ pub seen-each_put : (m : Machine) (x : Cell) (gs : List ℕ) → map (put_seen x
 seen-each_put m x [] = refl
 seen-each_put m x (g ∷ gs) = ap (λ r. Put g x ∷ r) (seen-each_put m x gs)
 
--- what one more update in front keeps, one for each of a list in front keeps
+-- a property that one more update in front keeps is kept by one update for each element of a list
 module _ {X : Type 0} (P : List Update → Type 0) (f : X → Update) (more : (x : X) (us : List Update) → P us → P (f x ∷ us)) where
   pub each_in_front : (xs : List X) (us : List Update) → P us → P (map f xs ++ us)
   each_in_front [] us h = h

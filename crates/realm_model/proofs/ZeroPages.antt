@@ -71,7 +71,7 @@ zero_frees : (gs : List Seen) → AllKeepZero (map (λ (g : Seen). Free g.number
 zero_frees [] = tt
 zero_frees (g ∷ gs) = (tt, zero_frees gs)
 
--- ---- acts
+-- ---- operations
 
 abbrev is_guest_write : Act → Bool
 is_guest_write (Poke n ipa o v) = true
@@ -186,7 +186,7 @@ zero_step limits b w v e sound linked zero s = elim (e.build == b) as (λ t. (e.
         part_zero limits b (part_of w b) (part_of v b) e.act (IsSquare-part_of w b sound.square) linked zero
         (subst (λ d. step limits (part_of w b) d ≡ Some (part_of v b)) same (step-part_of limits b w v e own s))
 
--- all that every reached world keeps of the part of a build
+-- the invariants of a build's part in every reached world
 pub record IsKept (b : ℕ) (w : World) : Type 0 where
   pub sound : IsSound b w
   pub linked : IsLinkedFor b w

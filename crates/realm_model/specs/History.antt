@@ -1,4 +1,4 @@
--- Histories: what is open, replay, what is legal, a history without a build.
+-- Histories of events: open operations, replay, legality, and the history without one build's events.
 use Rattle.std.specs.Prelude.{◌≡◌, ℕ, List, [], ◌∷◌, ◌++◌, Bool, false, cond, ◌&&◌, ◌||◌, ◌==◌, not, IsTrue, map, filter, length, Option, Some, None, IsSome, option_map, option_and_then}
 use Rattle.std.specs.List.{last_or, flat_map}
 use Rattle.realm_model.specs.declared.act.Act.{Act}

@@ -1,5 +1,4 @@
--- The schedule of events, and what it can change: a build's events alone, two histories with the same events of each
--- build, and two events of different builds.
+-- Schedules of events: a build's events alone, histories with the same events of each build, and events that commute.
 use Rattle.std.specs.Prelude.{◌≡◌, ◌≢◌, ◌↔◌, ◌⊎◌, ℕ, List, [], ◌∷◌, ◌++◌, option_map}
 use Rattle.std.specs.List.{Contains}
 use Rattle.realm_model.specs.declared.act.Act.{Act}

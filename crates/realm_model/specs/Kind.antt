@@ -1,4 +1,4 @@
--- The kinds of paired operations.
+-- The kinds of operations that have a reverse.
 use Rattle.std.specs.Prelude.{Option, Some, None}
 use Rattle.realm_model.specs.declared.act.Act.{Act}
 use Rattle.realm_model.specs.declared.act.Act.TheVariants.{Take, Delegate, Realm, Rtt, Data, Unknown, Rec}

@@ -1,4 +1,4 @@
--- A history without a build's events: the other builds keep their room, and each event is accepted again.
+-- A history without a build's events: the other builds use the same capacity, and each event is accepted again.
 use Rattle.std.specs.Prelude.{◌≡◌, ◌≢◌, ℕ, ◌+◌, ◌<◌, ◌≤◌, true, List, [], ◌∷◌, ◌++◌, length, take, Some}
 use Rattle.realm_model.specs.declared.act.Event.{Event}
 use Rattle.realm_model.specs.Machine.{Limits}
@@ -8,17 +8,17 @@ use Rattle.realm_model.specs.Step.{step}
 use Rattle.realm_model.specs.History.{erase, open_entries, replay, IsInTurn}
 use Rattle.realm_model.specs.Room.{used_room, room_taken}
 
--- Without the events of a build, another build has the same operations open and the same room used.
+-- Without the events of a build, another build has the same operations open and the same capacity used.
 pub record KeepsItsRoom (history : List Event) (world : World) (build other : ℕ) : Type 0 where
   pub left_open : open_entries other (erase build history) ≡ open_entries other history
   pub room : used_room other (erase build history) (without world build) ≡ used_room other history world
 
--- each build other than the one left out keeps its open operations and its used room
+-- each build other than the one left out keeps its open operations and its used capacity
 abbrev pub OthersKeepTheirRoom : List Event → World → ℕ → ℕ → Type 0
 OthersKeepTheirRoom history world build other = build ≢ other → KeepsItsRoom history world build other
 
 -- An event is accepted after a history, with `capacity` entries and `most` open operations allowed to each build. It is
--- in turn and a step, and its build has the room that it takes. If its operation has a reverse, the build has fewer
+-- in turn and a step, and its build has the capacity that it takes. If its operation has a reverse, the build has fewer
 -- than `most` operations open before.
 pub record IsAccepted (limits : Limits) (capacity most : ℕ) (before : List Event) (event : Event) : Type 0 where
   pub world : World
@@ -40,7 +40,7 @@ pub record OthersHaveRoom (capacity most : ℕ) (history : List Event) (world : 
   pub used : (other : ℕ) → build ≢ other → used_room other history world ≤ capacity
   pub few_open : (other n : ℕ) → build ≢ other → length (open_entries other (take n history)) ≤ most
 
--- If the other builds have room, each event of the history without the build is accepted in sequence.
+-- If the other builds have enough capacity, each event of the history without the build is accepted in sequence.
 abbrev pub WhatIsLeftIsAccepted : Limits → ℕ → ℕ → List Event → World → ℕ → Type 0
 WhatIsLeftIsAccepted limits capacity most history world build =
     OthersHaveRoom capacity most history world build → AllAccepted limits capacity most [] (erase build history)

@@ -1,4 +1,4 @@
--- The outcome of an operation: that of its command, and the conditions on its own fields.
+-- The outcome of an operation's command, and the conditions on the operation's own fields.
 use Rattle.std.specs.Prelude.{ℕ, ◌-◌, ◌%◌, ◌^◌, ◌==◌, nat_eq, nat_le, nat_lt, List, [], ◌∷◌, map, Bool, true, false, ◌&&◌, Option, Some, None, Ok, Err, is_none, slice_index}
 use Rattle.std.specs.List.{list_all}
 use Rattle.std.specs.Option.{option_eq}
@@ -20,7 +20,7 @@ use Rattle.realm_model.specs.Command.Rec.{rec_create, rec_enter, rec_exit, rec_d
 
 -- ---- the granules that a command names, by their number
 
--- An operation names as many granules as its command takes, so the refusals for too few never come.
+-- An operation names as many granules as its command takes, so the refusals for too few never occur.
 
 abbrev pub on_one : List Seen → (Seen → Outcome) → Outcome
 on_one [] f = Err error_input

@@ -1,5 +1,5 @@
--- The ownership in a world: all of it but bytes, RIPAS, measurements, the numbers of next RECs, and the states of
--- realms and RECs.
+-- Ownership in a world: everything except bytes, RIPAS, measurements, next REC numbers, and the states of realms and
+-- RECs.
 use Rattle.std.specs.Prelude.{◌≡◌, ℕ, List, Option, Some, None, option_map}
 use Rattle.std.specs.FinMap.{get}
 use Rattle.realm_model.specs.declared.states.EntryState.{EntryState}

@@ -1,4 +1,4 @@
--- The place of a build's operation: the RD of its realm, and the REC that it names.
+-- The RD of a build's realm, and the granule of the REC that the build's operation names.
 use Rattle.std.specs.Prelude.{◌≡◌, ℕ, Option, Some, None, option_map, option_and_then}
 use Rattle.std.specs.FinMap.{get}
 use Rattle.realm_model.specs.declared.act.Act.{Act}

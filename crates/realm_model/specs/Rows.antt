@@ -135,7 +135,7 @@ without_table rows level ipa =
 unfoldable pub is_table_unused : Rows → ℕ → ℕ → Bool
 is_table_unused rows level ipa = all_rows is_unassigned rows level ipa 512
 
--- A row with its RIPAS changed to RAM. Commands change only rows that exist, so the first case never comes.
+-- A row with its RIPAS changed to RAM. Commands change only rows that exist, so the first case never occurs.
 abbrev pub as_ram : Option Row → Row
 as_ram None = unassigned Ram
 as_ram (Some row) = record row { ripas = Ram }

@@ -1,4 +1,4 @@
--- RECs that run. RMM 1.0, REC attributes: the state of a REC.
+-- The running RECs of a realm, and their number. RMM 1.0, REC attributes: the state of a REC.
 use Rattle.std.specs.Prelude.{◌≡◌, ◌↔◌, ℕ, filter, length, Bool, false, not, Option, Some, None}
 use Rattle.std.specs.List.{range_with_len}
 use Rattle.std.specs.FinMap.{get}

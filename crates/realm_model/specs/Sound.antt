@@ -1,4 +1,4 @@
--- Sound rows, and states of granules.
+-- The invariants of the rows of a realm's translation tables, and classes of granule states.
 use Rattle.std.specs.Prelude.{◌≡◌, ℕ, ◌+◌, ◌-◌, ◌<◌, ◌≤◌, ◌==◌, ◌||◌, Bool, true, false, Option, Some, None, is_some, option_map}
 use Rattle.std.specs.FinMap.{get}
 use Rattle.granule_addr.specs.Ipa.{first_covered, is_protected_at}

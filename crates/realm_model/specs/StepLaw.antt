@@ -1,4 +1,4 @@
--- The conditions and the effect of a step, one by one.
+-- The conditions and the effect of a step of the model, as a relation between two worlds.
 use Rattle.std.specs.Prelude.{◌≡◌, ◌<◌, ◌↔◌, ℕ, List, [], ◌∷◌, IsTrue, Option, Some, None, Ok, slice_get, slice_set}
 use Rattle.std.specs.List.{All}
 use Rattle.realm_model.specs.declared.act.Act.{Act}

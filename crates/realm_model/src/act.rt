@@ -104,11 +104,11 @@ pub enum Act {
     Enter {
         number: RecNo,
     },
-    /// A REC stops running.
+    /// The exit of a running REC, which becomes READY.
     Exit {
         number: RecNo,
     },
-    /// A running REC writes a byte of its realm's memory.
+    /// A running REC's write of a byte of its realm's memory.
     Poke {
         number: RecNo,
         ipa: IpaGran,
@@ -148,7 +148,7 @@ impl Act {
     ghost use Rattle.std.specs.Prelude.{Some, None, if◌then◌else◌};
     ghost use Rattle.realm_model.specs.Act as acts;
 
-    /// Whether two operations are the same. They are if they have the same kind, granules and numbers.
+    /// Whether two operations have the same kind, granules and numbers.
     pub fn is_same(&self, act: &Act) -> bool
         ensures { (result ≡ true) ↔ (self.now ≡ act.now) }
     {

@@ -1,4 +1,4 @@
-//! Limits on the capacity that a build has in its journal and in a history.
+//! The capacity of a build's journal, and the limits of a history's capacity for each build.
 
 /// The capacity of a build's journal, in operations. A build can have at most that many operations open at once.
 pub const JOURNAL_ROOM: u16 = 512;

@@ -94,7 +94,7 @@ pub fn others_keep_their_room()
 {}
 
 /// A history is still accepted if the events of one build are left out. The remaining events are accepted one by one,
-/// starting from the empty history. The machine has the same limits and room, and each build can have as many
+/// starting from the empty history. The machine has the same limits and capacity, and each build can have as many
 /// operations open.
 pub fn what_is_left_is_accepted()
     ensures { (limits : Limits) (capacity most : ℕ) (history : List Event) (world : World) (build : ℕ)

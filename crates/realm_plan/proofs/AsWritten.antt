@@ -1,4 +1,4 @@
--- The spelling of a plan's steps, which is that in its document.
+-- Proof that the steps of a plan are spelled as in the document from which the plan is read.
 use Rattle.std.proofs.Common.{◌≡◌, ℕ, ◌+◌, List, [], ◌∷◌, length, map, Option, Some, None, Result, Ok, Err, option_map, refl, sym, ap, inl, inr}
 use Rattle.std.specs.Prelude.{nat_lt, IfOk}
 use Rattle.std.proofs.lemmas.Bool.{cases_Bool}
@@ -80,7 +80,7 @@ plan_as_written bytes p e = elim (cases_Bool (nat_lt 1048576 (length bytes))) [
       rw document (document_as_written found.0 p found.2)
 ]
 
--- what a call gave, where it gave a plan
+-- the result of a call, if it is a plan
 pub gives_as_written : (bytes : List ℕ) (r : Result code.Plan PlanError) → Gives plan_view r (plan_of bytes) → IfOk r (λ p. written_steps bytes ≡ Some (map (map spelling) (plan_view p).builds))
 gives_as_written bytes (Err e) gives = tt
 gives_as_written bytes (Ok p) gives = plan_as_written bytes (plan_view p) gives

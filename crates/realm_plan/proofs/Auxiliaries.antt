@@ -1,4 +1,4 @@
--- A bound of the numbers of a REC: its page and its auxiliary pages are not more than are read.
+-- Proof that a `rec` step with at most 16 auxiliary pages has at most 17 numbers.
 use Rattle.std.proofs.Common.{ℕ, ◌≤◌, List, ◌∷◌, length, replicate, arith}
 use Rattle.decimal_text.specs.Numbers.{AreNumbers}
 use Rattle.decimal_text.specs.Ranges.{AreAtMost}

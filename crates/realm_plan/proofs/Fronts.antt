@@ -1,4 +1,4 @@
--- A list that is read item after item.
+-- Loop invariants for code that reads a list item by item, and stops at the first item that it cannot read.
 use Rattle.std.proofs.Common.{◌≡◌, ℕ, ◌+◌, ◌<◌, ◌≤◌, List, [], ◌∷◌, ◌++◌, length, get_or, drop, Bool, true, ◌&&◌}
 use Rattle.std.proofs.Common.{Option, Some, None, String, Global, string_bytes, Result, Ok, Err, option_map, refl, sym, ap, ◌∙◌, append_assoc}
 use Rattle.std.specs.Prelude.{option_and_then}
@@ -17,15 +17,15 @@ use Rattle.realm_plan.specs.declared.fault.PlanFault.{PlanFault}
 use Rattle.realm_plan.specs.declared.fault.PlanError.{PlanError}
 use Rattle.realm_plan.specs.declared.fault.PlanError.TheVariants as errors
 
--- the items found so far in front of those that are still to be read, where all of them are of the kind
+-- the items found so far in front of those that are still to be read, if all of these are of the kind
 abbrev pub with_front : {A : Type 0} → List A → Option (List A) → Option (List A)
 with_front front rest = option_map (λ more. front ++ more) rest
 
--- the same, where reading may end in a fault
+-- the same, if reading may end in a fault
 abbrev pub or_fault_with_front : {A : Type 0} → List A → Result (List A) PlanFault → Result (List A) PlanFault
 or_fault_with_front front rest = rest >>= (λ more. Ok (front ++ more))
 
--- nothing is in front of all
+-- at first, nothing is in front
 pub starts : {A : Type 0} (front : List A) (rest whole : Option (List A)) → front ≡ [] → rest ≡ whole → with_front front rest ≡ whole
 starts front None whole none same = same
 starts front (Some more) whole none same = ap (λ before. Some (before ++ more)) none ∙ same

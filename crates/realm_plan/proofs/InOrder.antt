@@ -1,4 +1,4 @@
--- The parts of a plan, read one after another: the first that fails is its fault.
+-- Proof that the fault of a plan is that of the first part of the plan that cannot be read.
 use Rattle.std.proofs.Common.{◌≡◌, ℕ, false, List, length, Result, Ok, refl}
 use Rattle.realm_plan.specs.declared.step.PlanStep.{PlanStep}
 use Rattle.realm_plan.specs.Contents.{Contents}
@@ -13,7 +13,7 @@ pub fails_first : {A B : Type 0} (f : A → Result B PlanFault) (r : Result A Pl
 fails_first f r errors.Memory fails = tt
 fails_first f r (errors.Fault fault) wrong = rw wrong refl
 
--- what comes after the steps are read, one bind after another
+-- the reading after that of the steps, one bind after another
 module _ (c : Contents) where
   abbrev pub made : List (List PlanStep) → List ℕ → Numbers → Plan
   made builds order n = record { pages = n.pages; vmids = n.vmids; aux = n.aux; history = n.history; builds = builds; order = order; gives_up = false }

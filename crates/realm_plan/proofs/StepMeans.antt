@@ -1,4 +1,4 @@
--- The meaning of a step's own word and numbers, if they are in its ranges.
+-- Proof that a step's word and numbers mean the step, if each number is in its range.
 use Rattle.std.proofs.Common.{◌≡◌, [], ◌∷◌, true, eqb, not, Some, refl}
 use Rattle.std.specs.List.{list_all}
 use Rattle.std.proofs.lemmas.Bool.{le-leb}

@@ -1,4 +1,4 @@
--- The spelling of the step that a word and its numbers mean.
+-- Proof that a word and numbers that mean a step are the spelling of that step.
 use Rattle.std.proofs.Common.{◌≡◌, ℕ, List, [], ◌∷◌, true, false, cond, leb, Some, None, option_map, codes, refl, subst}
 use Rattle.std.proofs.lemmas.Bool.{leb-true}
 use Rattle.decimal_text.specs.Ranges.{AreAtMost}

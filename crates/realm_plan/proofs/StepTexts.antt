@@ -1,4 +1,4 @@
--- The grammar of steps: each is the meaning of its text, and of no other.
+-- Proof that each step is the meaning of its own text, and of no other text.
 use Rattle.std.proofs.Common.{◌≡◌, ℕ, List, Option, Some, None, sym, ◌∙◌}
 use Rattle.std.specs.Prelude.{IfSome, IfNone}
 use Rattle.decimal_text.proofs.Grammars.{IsGrammar, meaning_of_spelled, spelled_from_meaning}
@@ -27,7 +27,7 @@ pub none_is_step : (text : List ℕ) (found : Option PlanStep) → found ≡ ste
 none_is_step text None e = λ step is. let bad : None ≡ Some step = e ∙ step_of_text text step is in cc
 none_is_step text (Some step) e = tt
 
--- two steps that are spelled alike are one
+-- two steps with the same spelling are equal
 pub spelled_once : (text : List ℕ) (a b : PlanStep) → IsStepText text a → IsStepText text b → a ≡ b
 spelled_once text a b is_a is_b =
     let same : Some a ≡ Some b = sym (step_of_text text a is_a) ∙ step_of_text text b is_b in

@@ -1,4 +1,4 @@
--- Lists seen item by item.
+-- Rewrite rules for a mapped list: its length, and a test of all its items.
 use Rattle.std.proofs.lemmas.List.{length-map}
 use Rattle.std.proofs.lemmas.List.Folds.{list_all-map}
 

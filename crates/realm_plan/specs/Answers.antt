@@ -1,4 +1,4 @@
--- The texts of answers.
+-- The printed texts of a host's replies and refusals.
 use Rattle.std.specs.Prelude.{ℕ, List, [], ◌∷◌, ◌++◌, codes}
 use Rattle.std.specs.Fmt.{decimal}
 use Rattle.decimal_text.specs.Numbers.{spelled_numbers}

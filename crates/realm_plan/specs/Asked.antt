@@ -1,4 +1,4 @@
--- The request of a step to the host.
+-- The request that a plan's step makes of the host, with the IPA width 39 if the step leaves out the width.
 use Rattle.host_commands.specs.declared.cmd.Cmd.TheVariants.{Realm}
 use Rattle.host_commands.specs.declared.cmd.Step.{Step}
 use Rattle.host_commands.specs.declared.cmd.Step.TheVariants.{Ask}

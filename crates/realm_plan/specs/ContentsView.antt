@@ -1,4 +1,4 @@
--- The view of the code's `Contents`.
+-- The specification's view of the code's type `Contents`.
 use Rattle.std.specs.Prelude.{map}
 use Rattle.realm_plan.specs.Contents.{Contents}
 use Rattle.realm_plan.specs.declared.contents.Contents as code

@@ -1,4 +1,4 @@
--- Lines of an output that have no answer.
+-- The output lines that have no answer: idle turns, pages, realms and the number of free granules.
 use Rattle.std.specs.Prelude.{ℕ, List, [], ◌∷◌, ◌++◌, codes}
 use Rattle.std.specs.Fmt.{decimal}
 use Rattle.decimal_text.specs.Numbers.{spelled_numbers}
@@ -40,6 +40,6 @@ realm_word realm.Active = codes "ACTIVE"
 abbrev pub realm_line : ℕ → RealmState → ℕ → List ℕ
 realm_line build state vmid = decimal build ++ (codes " realm " ++ (realm_word state ++ (codes " vmid" ++ (then_number vmid ++ 10 ∷ []))))
 
--- the number of pages that nobody leases
+-- the number of granules that no build leases
 abbrev pub free_line : ℕ → List ℕ
 free_line count = codes "free" ++ (then_number count ++ 10 ∷ [])

@@ -1,4 +1,4 @@
--- A value or the one fault, and the result of a call that returns it.
+-- A value or a plan's fault, and the result of a call that returns either or fails to allocate memory.
 use Rattle.std.specs.Prelude.{◌≡◌, Result, Ok, Err, Option, Some, None}
 use Rattle.realm_plan.specs.declared.fault.PlanFault.{PlanFault}
 use Rattle.realm_plan.specs.declared.fault.PlanError.{PlanError}
@@ -18,7 +18,7 @@ abbrev pub Fails : {Y : Type 0} → PlanError → Result Y PlanFault → Type 0
 Fails errors.Memory read = Unit {0}
 Fails (errors.Fault fault) read = read ≡ Err fault
 
--- A call returned the value, as `view` sees it, or the fault. Its error of too little memory says nothing.
+-- A call returned the value, as `view` sees it, or the fault. If its error is `Memory`, nothing is stated.
 abbrev pub Gives : {X Y : Type 0} → (X → Y) → Result X PlanError → Result Y PlanFault → Type 0
 Gives view (Ok x) read = read ≡ Ok (view x)
 Gives view (Err e) read = Fails e read

@@ -1,4 +1,4 @@
--- The plan of a byte list, or its one fault.
+-- The plan that a list of bytes spells, or the fault that makes the bytes an invalid plan.
 use Rattle.std.specs.Prelude.{ℕ, ◌+◌, ℤ, pos, negsuc, nat_lt, nat_le, Bool, false, ◌&&◌, List, [], ◌∷◌, length, if◌then◌else◌, Option, Some, None, Result, Ok, Err}
 use Rattle.std.specs.List.{list_all}
 use Rattle.std.specs.Str.{is_utf8}

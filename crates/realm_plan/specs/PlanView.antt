@@ -1,4 +1,4 @@
--- The view of the code's `Plan`.
+-- The specification's view of the code's type `Plan`.
 use Rattle.std.specs.Prelude.{map}
 use Rattle.realm_plan.specs.Plan.{Plan}
 use Rattle.realm_plan.specs.declared.plan.Plan as code

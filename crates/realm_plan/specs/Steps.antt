@@ -1,4 +1,4 @@
--- The step of a word and its numbers, as a function: a row for each word.
+-- The plan step that a word and its numbers mean, by a table with a row for each word.
 use Rattle.std.specs.Prelude.{ℕ, nat_le, List, [], ◌∷◌, codes, if◌then◌else◌, Option, None, option_map}
 use Rattle.std.specs.Option.{option_or}
 use Rattle.std.specs.Str.{bytes_eq}

@@ -1,4 +1,4 @@
--- The texts of the steps of a document.
+-- The texts of the steps of each build in a plan's document.
 use Rattle.std.specs.Prelude.{ℕ, List, Option, option_map}
 use Rattle.realm_plan.specs.Contents.{◌>>=◌, contents_of}
 use Rattle.realm_plan.specs.Plan.{document_of}

@@ -13,8 +13,8 @@ use std::fmt;
 #[derive(Clone, Copy)]
 pub struct KindWord(pub Kind);
 
-/// The printed text of a host's refusal of a step. It has the number and the name of the refusal, and the numbers that
-/// the refusal carries.
+/// The printed text of a host's refusal of a step: the number and the name of the refusal, and the numbers that the
+/// refusal carries.
 #[derive(Clone, Copy)]
 pub struct RefusalText(pub Refusal);
 

@@ -6,7 +6,7 @@ use std::alloc::{AllocError, AllocFailed};
 use thiserror::Error;
 
 /// The reason why bytes are not a valid plan. Of several reasons, it is the first in this list; but too many bytes come
-/// before all.
+/// before all other reasons.
 #[derive(Clone, Copy, Debug, PartialEq, Eq, Error)]
 pub enum PlanFault {
     /// Bytes of a plan that are not UTF-8, or not TOML.
@@ -15,15 +15,15 @@ pub enum PlanFault {
     /// A key of a plan that is missing, unknown or of the wrong kind.
     #[error("plan 21 key")]
     Key,
-    /// A plan's step whose text cannot be parsed. It is text `step` of build `build`, the first such text of the lowest
-    /// build that has one. Builds and steps are counted from 0.
+    /// The first step whose text cannot be parsed, in the sequence of a plan's builds and their steps. The fields are
+    /// the numbers of the build and of the step, both counted from 0.
     #[error("plan 22 step {build} {step}")]
     Step { build: usize, step: usize },
-    /// An entry of a plan's schedule `order` that names no build. It is the first such entry, and `place` is its index,
-    /// counted from 0.
+    /// The first entry of a plan's schedule `order` that names no build. The index of the entry is `place`, counted
+    /// from 0.
     #[error("plan 23 order {place}")]
     Order { place: usize },
-    /// A limit that the plan violates. It is a limit on a number, a list's length or the plan's size in bytes.
+    /// A limit that the plan violates: on a number, on a list's length or on the plan's size in bytes.
     #[error("plan 24 limit")]
     Limit,
 }

@@ -1,8 +1,8 @@
 //! The parser of plans, and the printed texts of steps, replies, refusals and maps.
 //!
-//! All functions go from values to values: none reads a device or knows a host. `Plan::from_bytes` returns the plan
-//! that the bytes are, or the one fault that `plan_of` names. `step_from_text` reads a step, and `StepText` writes one.
-//! The texts of answers and the lines of a map are here too, so that each has one place.
+//! No function reads a device or depends on a host. `Plan::from_bytes` returns the plan that the bytes spell, or the
+//! one fault that `plan_of` names. `step_from_text` reads a step, and `StepText` writes one. The texts of answers and
+//! the lines of a map are here too, so that each is defined once.
 #![tactic(auto)]
 
 mod answer;

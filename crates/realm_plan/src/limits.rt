@@ -41,8 +41,7 @@ fn between(low: u16, high: u16, whole: i64) -> Result<u16, PlanError>
     }
 }
 
-/// Returns an error if the check of a length has failed. `holds` is whether the length is within its limits. The error
-/// is the fault `Limit`.
+/// Returns the fault `Limit` as an error, unless `holds` says that a length is within its limits.
 fn within(holds: bool) -> Result<(), PlanError>
     ensures value { Gives (λ n. n) result (within_at holds) }
 {

@@ -1,5 +1,6 @@
-//! The output lines for idle turns, pages, realms and the number of free pages. They are the lines of a run's text that
-//! hold no answer. Each `push_` function appends one line. If allocation fails, the text may have a part of the line.
+//! The output lines for idle turns, pages, realms and the number of free granules. They are the lines of a run's text
+//! that hold no answer. Each `push_` function appends one line. If allocation fails, the text may have a part of the
+//! line.
 ghost use Rattle.std.specs.Prelude.{◌≡◌, ◌++◌, OnOk, string_bytes};
 ghost use Rattle.realm_plan.specs.Lines.{state_word, sum_numbers, realm_word, idle_line, page_line, realm_line, free_line};
 

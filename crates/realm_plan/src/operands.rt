@@ -49,7 +49,7 @@ impl Operand for Offset {
     }
 }
 
-/// The maximum number of operands of a step. They are the page of a REC, and 16 auxiliary pages.
+/// The maximum number of operands of a step: the page of a REC, and 16 auxiliary pages.
 pub const MOST_NUMBERS: usize = 17;
 
 pub fn one(first: u32) -> ArrayVec<u32, MOST_NUMBERS>

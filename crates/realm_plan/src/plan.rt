@@ -28,9 +28,9 @@ pub struct Plan {
     pub builds: Vec<Vec<PlanStep>>,
     /// The schedule: for each turn, the build that takes it.
     pub order: Vec<BuildId>,
-    /// Whether a build skips its remaining steps and aborts after a step of it is refused.
+    /// Whether a build skips its remaining steps and aborts after one of its steps is refused.
     pub gives_up: bool,
-    /// The abort step, which a build performs after a step of it is refused, if `gives_up` is set.
+    /// The abort step, which a build performs after one of its steps is refused, if `gives_up` is set.
     pub abort: PlanStep,
     pub ghost pages_in_limits: { (1 ≤ pages) × (pages ≤ 4096) },
     pub ghost vmids_in_limits: { 1 ≤ vmids },
@@ -108,7 +108,7 @@ impl Plan {
     }
 
     /// Parses a plan from the bytes of its TOML text. The error is the reason why the bytes spell no valid plan.
-    /// `Memory` comes only if allocation failed.
+    /// `Memory` means that allocation failed.
     #[tactic(auto, unfolding(crate::specs::Plan::plan_of))]
     pub fn from_bytes(alloc: Global, bytes: &[u8]) -> Result<Plan, PlanError>
         ensures value { Gives plan_view result (plan_of bytes.now) }
@@ -126,8 +126,8 @@ impl Plan {
         Plan::from_contents(alloc, &contents)
     }
 
-    /// Returns the plan with `gives_up` set, so that a build whose step is refused aborts. The bytes of a plan never
-    /// set it.
+    /// Returns the plan with `gives_up` set, so that a build whose step is refused aborts. A plan that is parsed from
+    /// bytes never has `gives_up` set.
     pub fn giving_up(self) -> Plan
         ensures { plan_view result ≡ record (plan_view self) { gives_up = true } }
     {

@@ -1,4 +1,4 @@
--- The answers of a host, which match its history.
+-- Proofs that the answers of a host match the events in its history.
 use Rattle.std.proofs.Common.{◌≡◌, ℕ, ◌<◌, ◌≤◌, cond, List, [], ◌∷◌, ◌++◌, map, Option, Some, None, refl, sym, ap, ◌∙◌, subst, arith}
 use Rattle.std.specs.Prelude.{slice_get, nat_lt, is_none, option_and_then, if◌then◌else◌}
 use Rattle.std.specs.List.{All, filter_map, cons_option}
@@ -48,7 +48,7 @@ no_page_missing host build cmd none =
 -- ---- the granules that are named
 
 module _ (pages : List ℕ) (few : All (λ page. page < 4096) pages) where
-  -- a page that is there has a granule
+  -- each page of the build has a granule
   granule_there : (page granule : ℕ) → slice_get pages page ≡ Some granule → option_and_then (λ number. if nat_lt number 4096 then Some number else None) (Some granule) ≡ Some granule
   granule_there page granule is =
       let inside = slice_get_within pages page granule is in

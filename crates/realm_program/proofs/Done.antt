@@ -1,4 +1,4 @@
--- The effect of a command or an undo.
+-- Proofs about the check that a recorded operation is that of a command, or of an undo.
 use Rattle.std.proofs.Common.{◌≡◌, ℕ, ◌-◌, ◌↔◌, Bool, true, false, List, length, drop, Option, Some, None, sym, ap, ◌∙◌}
 use Rattle.std.specs.Prelude.{IsTrue, slice_get, option_map, option_and_then}
 use Rattle.std.specs.List.{last_or}
@@ -18,7 +18,7 @@ use Rattle.realm_program.specs.Fitting.{AreGranules, IsMadeOf, IsFittingUndo}
 use Rattle.realm_program.specs.Allocation.{allocated_in}
 use Rattle.realm_program.proofs.Held.{same_granules}
 
--- ---- what was picked for a command is what its act holds
+-- ---- the values allocated for a command are those in its operation
 
 module _ (allocated : Allocated) (act : Act) where
   allocated_peek : (offset : ℕ) (o : Option ℕ) → option_and_then (λ g. Some (acts.Peek g offset allocated.byte)) o ≡ Some act
@@ -55,7 +55,7 @@ module _ (allocated : Allocated) (act : Act) where
 
 module _ (pages : List ℕ) (cmd : Cmd) (act : Act) (granules : List ℕ) (allocated : Allocated) (o : Option Act)
     (are : AreGranules pages (operands cmd) granules) (allocated_is : allocated ≡ allocated_in act) (o_is : o ≡ act_of cmd granules allocated) where
-  -- where the act is made, it is made of the granules that were found
+  -- if the operation is made, it is made of the granules that were found
   made_again : IsMadeOf pages cmd act → o ≡ Some act
   made_again made =
       let same : granules ≡ made.granules = same_granules granules made.granules (sym are ∙ made.are_granules) in

@@ -1,4 +1,4 @@
--- The ends of a run of all workers.
+-- Proofs about the result of a run by workers: an output text, or the reason why there is none.
 use Rattle.std.proofs.Common.{◌≡◌, inl, inr, ℕ, ◌∷◌, [], ◌++◌, List, length, sym, subst, ◌∙◌, ap, ap₂}
 use Rattle.std.specs.Global.{Vec}
 use Rattle.std.specs.List.{AllZip, flat_map}

@@ -1,4 +1,4 @@
--- The ends of the printing of a plan.
+-- Proofs about the outcomes of printing a plan's text: all of it, a prefix, or nothing is written.
 use Rattle.std.proofs.Common.{◌≡◌, ◌↔◌, ℕ, List, Option, IfSome, Ok, Err, Bool, true, false, refl}
 use Rattle.std.specs.Io.KnownBytes.{Appends}
 use Rattle.realm_plan.specs.Outcome.{Fails}
@@ -26,7 +26,7 @@ faulty_plan input bytes (plan_error.Fault fault) kept fails = plan_from_kept inp
 -- ---- the text
 
 module _ (texts : Plan → List ℕ → Type 0) (without : Plan → Fault → Type 0) (unread : Bool) (input : Option (List ℕ)) where
-  -- where there is no plan, nothing is written
+  -- if there is no plan, nothing is written
   pub no_plan : (output : Option (List ℕ)) (fault : Fault) → HasNoPlan input fault → (fault ≡ Device → unread ≡ true) → IsEnd texts without unread input output output (Err fault)
   no_plan output (PlanIsFaulty fault) none read = (none, keeps_same output)
   no_plan output EraseNamesNoBuild none read = absurd none
@@ -54,12 +54,12 @@ module _ (texts : Plan → List ℕ → Type 0) (without : Plan → Fault → Ty
   pub printed : (old new : Option (List ℕ)) (plan : Plan) (text : List ℕ) → IsPlanOf input plan → texts plan text → Appends old new text → IsPrinted texts input old new
   printed old new plan text of_input is_text written = record { text = text; text_of = record { plan = plan; of_input = of_input; is_text = is_text }; written = written }
 
--- where a plan was read, no read failed
+-- if a plan was read, no read failed
 pub read_well : {A : Type 0} (failed : Bool) (plan : A) → (failed ≡ true) ↔ (Ok plan ≡ Err Device) → failed ≡ false
 read_well false plan told = refl
 read_well true plan told = let failed = told.0 refl in absurd (cc)
 
--- a replay, and what else is told of a run, has no text only for a reason of its own
+-- the reason why a run has no text is neither a faulty plan nor a failed device
 pub fault_of_text : (erase : Option ℕ) (plan : Plan) (fault : Fault) → IsWithoutText erase plan fault → IsFaultOfText fault
 fault_of_text erase plan (PlanIsFaulty fault) none = none
 fault_of_text erase plan EraseNamesNoBuild none = tt

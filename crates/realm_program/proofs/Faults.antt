@@ -1,4 +1,4 @@
--- The reasons why a run in threads has no text.
+-- Proof that a run in threads never lacks a text because of a faulty plan, or of a failed read or write.
 use Rattle.std.proofs.Common.{ℕ}
 use Rattle.realm_plan.specs.Plan.{Plan}
 use Rattle.realm_program.specs.Printed.{IsFaultOfText}

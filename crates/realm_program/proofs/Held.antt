@@ -1,4 +1,4 @@
--- Pages by the open operations, and lists of granules.
+-- Lemmas on the granules of a build's pages, as computed from the build's open operations.
 use Rattle.std.proofs.Common.{Bool, true, false, subst, ◌≡◌, ℕ, zero, suc, ◌+◌, ◌^◌, ◌<◌, List, [], ◌∷◌, ◌++◌, length}
 use Rattle.std.proofs.Common.{map, drop, get_or, Option, Some, None, refl, sym, ap, ◌∙◌, arith, length-append}
 use Rattle.std.specs.Prelude.{slice_get, option_and_then, nat_lt, ◌&&◌, if◌then◌else◌}
@@ -54,7 +54,7 @@ module _ (opened : List Act) (i : ℕ) (act : Act) (inside : i < length opened) 
 
 -- ---- lists of granules
 
--- a page that is none has no granule
+-- a list in which a page has no granule is no list of granules
 pub no_granule : (f : ℕ → Option ℕ) (numbers granules : List ℕ) (i d : ℕ) → i < length numbers → f (get_or numbers i d) ≡ None → map f numbers ≡ map (λ granule. Some granule) granules → ⊥
 no_granule f [] granules i d inside none e = absurd (omega arith)
 no_granule f (n ∷ ns) [] i d inside none e = cc

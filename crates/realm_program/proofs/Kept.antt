@@ -1,4 +1,4 @@
--- The bytes that are kept of an input, one read after another.
+-- Proofs that the bytes read from an input are the ones to keep: all of them, or the first 1,048,577.
 use Rattle.std.proofs.Common.{◌≡◌, ℕ, ◌+◌, ◌≤◌, List, [], ◌++◌, length, take, Option, Some, None, sym, ap, ◌∙◌, arith}
 use mathlib.Core.List.{append-nil}
 use Rattle.std.specs.Prelude.{IfSome}

@@ -1,4 +1,4 @@
--- A bound of the bytes of a plan: no more than are kept.
+-- Proofs that parsing only the kept bytes of an input gives the same plan or fault as parsing all its bytes.
 use Rattle.std.proofs.Common.{◌≡◌, ℕ, suc, ◌<◌, List, length, length-take-le, take, true, false, ltb, Option, Some, None, Result, Err, sym, ap, ◌∙◌, arith, inl, inr}
 use Rattle.std.specs.Prelude.{IfSome}
 use Rattle.std.proofs.lemmas.Bool.{cases_Bool, lt-ltb, ltb-true}
@@ -29,7 +29,7 @@ plan_of-kept_of bytes = elim (cases_Bool (ltb 1048576 (length bytes))) [
   | inr short ↦ ap plan_of (all_kept 1048576 bytes short)
 ]
 
--- what is read of the bytes that were kept is read of the whole input, where that is known
+-- what is read of the bytes that were kept is read of the whole input, if that is known
 pub plan_from_kept : (known : Option (List ℕ)) (bytes : List ℕ) (read : Result Plan PlanFault) → IfSome known (λ xs. bytes ≡ kept_of xs) → plan_of bytes ≡ read → IfSome known (λ xs. plan_of xs ≡ read)
 plan_from_kept None bytes read kept is = tt
 plan_from_kept (Some xs) bytes read kept is = sym (plan_of-kept_of xs) ∙ ap plan_of (sym kept) ∙ is

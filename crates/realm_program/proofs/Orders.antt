@@ -1,4 +1,4 @@
--- Two runs after which each build's seat has the same events.
+-- Proof that the text of a run in threads does not reveal the sequence in which builds took the lock.
 use Rattle.std.proofs.Common.{◌≡◌, ℕ, List, ◌++◌, sym, ap, ◌∙◌, subst}
 use Rattle.std.specs.List.{flat_map}
 use Rattle.host_ledger.specs.View.{HostView}

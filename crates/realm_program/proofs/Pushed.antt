@@ -1,4 +1,4 @@
--- Lists of granules that are made page by page.
+-- Lemmas on a list of granules to which the granule of one page after another is appended.
 use Rattle.std.proofs.Common.{◌≡◌, ℕ, ◌+◌, List, [], ◌∷◌, ◌++◌, length}
 use Rattle.std.proofs.Common.{map, Option, Some, refl, sym, ap, ◌∙◌, length-append, append_assoc}
 use Rattle.std.proofs.lemmas.List.{map-append, length-map}

@@ -1,4 +1,4 @@
--- The state of reading a report and a history.
+-- The loop invariant of the comparison of a worker's report with a history, and proofs about it.
 use Rattle.std.proofs.Common.{◌≡◌, ℕ, zero, suc, ◌+◌, ◌<◌, ◌≤◌, ◌↔◌, Bool, true, false, cond, List, [], ◌∷◌, ◌++◌, length, take, drop, get_or}
 use Rattle.std.proofs.Common.{nat_eq, Option, Some, None, refl, sym, ap, ◌∙◌, subst, inl, inr, arith, length-drop, add-zero, below_more}
 use Rattle.std.specs.Prelude.{slice_get, IsTrue, IfSome, IsSomeAnd}
@@ -39,7 +39,7 @@ pub record IsAt (build : ℕ) (history : List Event) (count next : ℕ) (opened 
   pub enough : count ≤ length (events_of build history)
   pub opened_is : opened ≡ open_entries build (take count (events_of build history))
 
--- `count` lines are read, each of them fits, and the events that they tell are followed.
+-- `count` lines are read, each of them fits, and the events of the accepted ones are followed.
 pub record IsReadTo (build : ℕ) (steps : List Step) (lines : List ReportLine) (history : List Event) (count next : ℕ) (opened : List Act) : Type 0 where
   pub at : IsAt build history (accepted_count (take count lines)) next opened
   pub fit : (place : ℕ) → place < count → (line : ReportLine) → slice_get lines place ≡ Some line → LineFits build steps history (accepted_count (take place lines)) line
@@ -68,7 +68,7 @@ module _ {build : ℕ} {history : List Event} {count next : ℕ} {opened : List 
       ∙ first_own build (drop next history) (subst (λ o. IfSome o (λ event. event.build ≡ build)) (slice_get-drop history next) at.own)
       ∙ sym (slice_get-drop history next)
 
-  -- a line fits there where it fits what is open and the next event
+  -- a line fits there if it fits what is open and the next event
   pub fits_from : (steps : List Step) (line : ReportLine) → FitsHere steps opened (slice_get history next) line → LineFits build steps history count line
   fits_from steps line here =
       subst (λ acts. FitsHere steps acts (slice_get (events_of build history) count) line) at.opened_is
@@ -123,7 +123,7 @@ module _ {build : ℕ} {history : List Event} {count next : ℕ} {opened : List 
 
 -- ---- lines
 
--- an answer that tells an event has one
+-- an accepted answer that fits has an event
 answer_has : (pages : List ℕ) (opened : List Act) (next : Option Event) (asked : Question) (answer : Answer) → AnswerFits pages opened next asked answer
     → is_done answer ≡ true → (event : Event) × (next ≡ Some event)
 answer_has pages opened (Some event) asked answer fits done = (event, refl)

@@ -1,4 +1,4 @@
--- A list that is taken in turn: the part that was taken so far, and the rest.
+-- Lemmas on a list whose elements are taken one by one: the part taken so far, and the rest.
 use Rattle.std.proofs.Common.{◌≡◌, ℕ, ◌+◌, List, [], ◌∷◌, ◌++◌, length, sym, ap, ◌∙◌, append_assoc, append-nil, arith}
 
 none_left : {X : Type 0} (taken left : List X) → length left ≡ 0 → taken ++ left ≡ taken

@@ -1,4 +1,4 @@
--- Faults, and the exit status of each.
+-- The exit status of the program for each fault.
 use Rattle.std.specs.Prelude.{ℕ}
 use Rattle.checked_io.specs.declared.told.ReadError.{ReadError}
 use Rattle.checked_io.specs.declared.told.ReadError.TheVariants as read_error

@@ -1,4 +1,4 @@
--- The match of a host's answer with the history that the host has then.
+-- The condition that a host's answer to a call matches the event that the call adds to the history.
 use Rattle.std.specs.Prelude.{◌≡◌, ℕ, ◌≤◌, [], ◌∷◌, ◌++◌, Some, None}
 use Rattle.host_ledger.specs.View.{HostView}
 use Rattle.host_ledger.specs.declared.mark.Mark.{Mark}

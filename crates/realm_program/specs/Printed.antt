@@ -1,4 +1,5 @@
--- The printing of a plan's text, and its end. The parameters say which texts a plan has, and why it may have none.
+-- The possible outcomes of printing a plan's text. The parameters say which texts a plan has, and for which faults it
+-- may have none.
 use Rattle.std.specs.Prelude.{◌≡◌, ℕ, Bool, true, false, List, Option, IfSome, Result, Ok, Err}
 use Rattle.std.specs.Io.KnownBytes.{Appends, Keeps}
 use Rattle.realm_plan.specs.Plan.{Plan, plan_of}

@@ -1,4 +1,4 @@
--- The text of a replay.
+-- The output text of a plan's replay, with all builds or with one left out.
 use Rattle.std.specs.Prelude.{◌≡◌, ◌<◌, ◌≤◌, ℕ, List, [], ◌++◌, length, Option, Some, None}
 use Rattle.host_ledger.specs.View.{HostView}
 use Rattle.host_ledger.specs.Booted.{booted}

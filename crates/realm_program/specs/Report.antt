@@ -1,4 +1,4 @@
--- The text of a report: each of its lines is like that of a turn.
+-- The text of a worker's report, with a line for each answer in the form of a turn's line.
 use Rattle.std.specs.Prelude.{ℕ, ◌==◌, Bool, true, false, not, ◌&&◌, if◌then◌else◌, List, [], ◌∷◌, ◌++◌, Option, Some, None, slice_get}
 use Rattle.host_commands.specs.declared.cmd.Cmd.TheVariants.{Exit}
 use Rattle.host_commands.specs.declared.cmd.Step.TheVariants.{Ask, Undo}
@@ -14,8 +14,8 @@ use Rattle.plan_replay.specs.Turn.{undoes_many}
 use Rattle.plan_replay.specs.declared.answer.TurnAnswer.{TurnAnswer}
 use Rattle.plan_replay.specs.declared.answer.TurnAnswer.TheVariants as tells
 
--- The step of a line: the plan's at that index, as it is there. A question after a refusal is written as the step that
--- would ask it.
+-- The step of a line: the plan's at that index, as the plan has it. A question after a refusal is written as the step
+-- that would ask it.
 abbrev pub step_of_line : List PlanStep → Asked → Option PlanStep
 step_of_line steps (asked.Step place) = slice_get steps place
 step_of_line steps (asked.Exit number) = Some (Whole (Ask (Exit number)))

@@ -1,4 +1,4 @@
--- The fault of the program for a run in threads that has no text.
+-- The program's fault for each reason why a run in threads has no text.
 use Rattle.realm_program.specs.declared.run_fault.RunFault.{RunFault}
 use Rattle.realm_program.specs.declared.run_fault.RunFault.TheVariants as run_fault
 use Rattle.realm_program.specs.declared.fault.Fault.{Fault}

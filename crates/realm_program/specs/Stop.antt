@@ -1,4 +1,4 @@
--- The exit status of the program.
+-- The exit status of `realmhost` for each outcome.
 use Rattle.std.specs.Prelude.{◌≡◌, ◌⊎◌, ℕ, Result, Ok, Err}
 use Rattle.command_line.specs.Stop.{status_of_stop}
 use Rattle.command_line.specs.declared.stop.Stop.{Stop}

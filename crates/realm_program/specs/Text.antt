@@ -1,4 +1,4 @@
--- The text of reports.
+-- The text of a worker's report, and the last line of a threaded run's output, `audit ok`.
 use Rattle.std.specs.Prelude.{ℕ, List, [], codes, slice_index_or}
 use Rattle.std.specs.Global.{Vec}
 use Rattle.host_commands.specs.declared.cmd.Step.{Step}

@@ -1,4 +1,4 @@
--- The text of a run in threads.
+-- The output text of a plan's run in threads, and the reasons why there may be none.
 use Rattle.std.specs.Prelude.{ℕ, List}
 use Rattle.realm_plan.specs.Plan.{Plan}
 use Rattle.realm_program.specs.Order.{ScheduleIsNotRevealed}

@@ -1,4 +1,4 @@
--- The bytes that are read of an input.
+-- The bytes that the program keeps of an input, and a bound on the number of read calls.
 use Rattle.std.specs.Prelude.{ℕ, ◌+◌, ◌≤◌, List, length, take, Option, IfSome}
 
 -- The first 1048577 bytes of an input, or all of a shorter one. A plan has at most 1048576 bytes.

@@ -1,4 +1,4 @@
--- Runs of a plan in threads, and the text of one.
+-- The runs of a plan by workers in threads, and the output text of such a run.
 use Rattle.std.specs.Prelude.{◌≡◌, ◌⊎◌, ℕ, true, false, List, [], ◌++◌, map, length, All}
 use Rattle.std.specs.Global.{Vec}
 use Rattle.std.specs.List.{AllZip, flat_map, range_with_len}

@@ -9,7 +9,7 @@ use realm_plan::{PlanError, PlanFault};
 use std::alloc::AllocError;
 use thiserror::Error;
 
-/// The reason why a program prints nothing, or only a prefix of its text. Its line goes to standard error.
+/// The reason why a program prints nothing, or only a prefix of its text. The reason's line goes to standard error.
 #[derive(Clone, Copy, Debug, PartialEq, Eq, Error)]
 pub enum Fault {
     /// An input that is not a plan.

@@ -7,7 +7,7 @@ use checked_io::{ReadError, Told};
 use std::alloc::Global;
 use std::io::Read;
 
-/// The maximum number of input bytes that are kept. It is one more than a plan may have.
+/// The maximum number of input bytes that are kept, which is one more than a plan may have.
 pub const KEPT: usize = 1_048_577;
 
 /// The maximum number of read calls for one input.
@@ -54,7 +54,7 @@ fn read_into<R: Read>(bytes: &mut Vec<u8>, input: &mut Told<R>) -> Result<(), Re
 
 /// Reads an input to its end, or up to 1,048,577 bytes. Returns the bytes.
 ///
-/// `Device` comes if a read failed, and `Memory` only if allocation failed.
+/// The error is `Device` exactly if a read failed, and `Memory` only if allocation failed.
 pub fn read_whole<R: Read>(alloc: Global, input: &mut Told<R>) -> Result<Vec<u8>, ReadError>
     requires { input.old.failed ≡ false }
     ensures told { (input.new.failed ≡ true) ↔ (result ≡ Err Device) }

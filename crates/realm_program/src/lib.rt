@@ -1,7 +1,7 @@
-//! The program that runs a plan and prints the result. It replays the plan, or runs it in threads.
+//! The library of the program `realmhost`, which replays a plan or runs it in threads, and prints the result.
 //!
-//! `print` goes from the bytes of a plan to a text of it, over any reader and any writer. `Fault` is each reason not to
-//! have printed the text, with its exit status. `replay` prints the text of a run, and `run` that of a run in threads.
+//! `print` reads a plan and writes a text of it, with any reader and any writer. `Fault` has the reasons why the text
+//! was not printed, with their exit statuses. `replay` prints the text of a run, and `run` that of a run in threads.
 //! `fits` says whether a worker's report agrees with a history.
 //!
 //! Nothing here depends on the process that it runs in: a caller hands in the devices, and the gate that gives workers

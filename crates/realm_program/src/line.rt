@@ -70,9 +70,9 @@ fn step_fits(opened: &[Act], history: &[Event], next: usize, step: &Step, answer
     }
 }
 
-/// Whether a line of a report agrees with a history of events. Its answer must agree with the build's open operations
-/// `opened`, and with the build's next event. The event is at index `next` of the history. A line of a step that the
-/// plan does not have agrees with nothing.
+/// Whether a line of a report agrees with a history of events. The line's answer must agree with the build's open
+/// operations `opened`, and with the build's next event. The event is at index `next` of the history. A line of a step
+/// that the plan does not have agrees with nothing.
 pub(crate) fn line_fits(
     opened: &[Act],
     history: &[Event],

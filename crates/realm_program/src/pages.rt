@@ -76,8 +76,8 @@ fn push_granules(granules: &mut ArrayVec<Gran, 17>, opened: &[Act], pages: &[u16
     Some(())
 }
 
-// Appends the granules of `count` pages from `first` on. None if one of the pages is not there, or is no granule of a
-// machine.
+// Appends the granules of `count` pages from `first` on. Returns `None` if the build lacks one of the pages, or if one
+// is no granule of a machine.
 fn push_run(granules: &mut ArrayVec<Gran, 17>, opened: &[Act], first: u16, count: u16) -> Option<()>
     requires room { length granules.old.items + count ≤ 17 }
     ensures some { IfSome result (λ _. ArePushed (flat_map pages_held opened.now) (range_with_len first count) granules.old.items granules.new.items) }
@@ -90,7 +90,7 @@ fn push_run(granules: &mut ArrayVec<Gran, 17>, opened: &[Act], first: u16, count
 }
 
 /// Returns the granules that a command names by the page numbers of its build. The build's open operations are
-/// `opened`. Returns `None` if one of the pages is not there, or is no granule of a machine.
+/// `opened`. Returns `None` if the build lacks one of the pages, or if one is no granule of a machine.
 #[tactic(auto, unfolding(host_commands::specs::Needs::operands))]
 pub(crate) fn granules_of(opened: &[Act], cmd: &Cmd) -> Option<ArrayVec<Gran, 17>>
     ensures some { IfSome result (λ granules. AreGranules (flat_map pages_held opened.now) (operands cmd.now) granules.items) }

@@ -82,9 +82,10 @@ fn push_line(
     }
 }
 
-/// Appends the lines of a worker's report to a text. Each has the form of a turn's line: the build, the step and the
-/// answer. An undo is `done` in the last line of an abort or a step back, also if the worker was stopped there. A line
-/// whose index the plan does not have is left out: no report of the plan has one. At an `Err` the text may have a part.
+/// Appends the lines of a worker's report to a text. Each line has the form of a turn's line: the build, the step and
+/// the answer. An undo is `done` in the last line of an abort or a step back, also if the worker was stopped there. A
+/// line whose index the plan does not have is left out: no report of the plan has one. If allocation fails, the text
+/// may have a part of the lines.
 pub(crate) fn push_report(
     text: &mut String,
     steps: &[PlanStep],

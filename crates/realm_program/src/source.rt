@@ -12,7 +12,8 @@ use realm_plan::Plan;
 use std::alloc::Global;
 use std::io::Read;
 
-/// Reads a plan from an input. Errors: its fault; Memory, if allocation failed; Device, if a read failed.
+/// Reads a plan from an input. Errors: `Plan`, with the fault of an input that is no plan; `Memory`, if allocation
+/// failed; `Device`, if a read failed.
 pub fn plan_in<R: Read>(alloc: Global, input: &mut Told<R>) -> Result<Plan, Fault>
     requires { input.old.failed ≡ false }
     ensures told { (input.new.failed ≡ true) ↔ (result ≡ Err Device) }

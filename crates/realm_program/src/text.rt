@@ -67,7 +67,7 @@ fn ledger_of(alloc: Global, plan: &Plan) -> Result<HostLedger, AllocError>
     Ok(host.into_ledger())
 }
 
-/// Returns the printed map of pages and realms with one build left out. It is the map of a fresh host to which the
+/// Returns the printed map of pages and realms with one build left out. The map is that of a fresh host to which the
 /// history is applied without the events of `build`. The fresh host is booted from the plan. The one error is that
 /// allocation failed.
 pub fn map_without(

@@ -121,8 +121,8 @@ pub fn run_text<R: Threads + Wait + Sync, S: PageStore + Drop + Send, G: Gate + 
     run_with::<R, S, G, Brand>(rt, alloc, plan, Blanks::new(), host, gate)
 }
 
-/// The results of the workers that performed the steps of a plan's builds. For each worker, they are the seat, and the
-/// report paired with the worker's steps.
+/// The results of the workers that performed the steps of a plan's builds. For each worker, the results are the seat,
+/// and the report paired with the worker's steps.
 #[derive(Drop)]
 pub struct Ends<L: Ledgers> {
     pub seats: Vec<Seat<L>>,
@@ -130,7 +130,7 @@ pub struct Ends<L: Ledgers> {
 }
 
 /// Ends the workers of a plan's builds, and returns their results. The results are the workers' seats and reports, in
-/// the order of the workers.
+/// the sequence of the workers.
 pub(crate) fn ends_of<L: Ledgers>(
     alloc: Global,
     workers: Vec<Worker<L>>,

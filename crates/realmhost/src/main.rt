@@ -1,5 +1,5 @@
-//! The command-line program that runs a plan of realm builds, by its schedule or in threads. A plan comes on standard
-//! input, and the text of its run goes to standard output.
+//! The command-line program that runs a plan of realm builds, by its schedule or in threads. The plan is read from
+//! standard input, and the text of the run is written to standard output.
 #![tactic(auto)]
 
 ghost use Rattle.std.specs.Prelude.{◌≡◌, false, IfErr};

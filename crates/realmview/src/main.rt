@@ -1,6 +1,6 @@
-//! The program `realmview`, which shows plans and histories. It prints the faults of a plan, the reasons of its
-//! refusals and the results of its other schedules. It prints the history of its run, its run as data and as a page,
-//! and the map of a history. The plan or the history is a file, or standard input.
+//! The program `realmview`, which shows plans and histories. The program prints the faults of a plan, the reasons for
+//! its refusals, and the outcomes of its other schedules. It also prints the history of a plan's run, the run as data
+//! and as a browser page, and the map of a history. The plan or the history is a file, or standard input.
 #![tactic(auto)]
 
 ghost use Rattle.std.specs.Prelude.{◌≡◌, IfErr};
@@ -24,8 +24,8 @@ fn awaited(asked: ViewSubcommand) -> &'static str {
     }
 }
 
-/// Returns the kind of a subcommand's output, which decides its colours on a terminal. It is `None` if the output has
-/// no colour.
+/// Returns the kind of a subcommand's output, which decides its colours on a terminal. The result is `None` if the
+/// output has no colour.
 fn painting(asked: ViewSubcommand) -> Option<TextKind> {
     match asked {
         ViewSubcommand::Check | ViewSubcommand::Why { .. } => Some(TextKind::Messages),

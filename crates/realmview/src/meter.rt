@@ -7,8 +7,8 @@ use view_program::schedules::Progress;
 /// The minimum time between two progress lines, in milliseconds.
 const PAUSE: u128 = 200;
 
-/// A progress line on a terminal. It shows the number of schedules run so far, on standard error if that is a terminal.
-/// It is written over the one before it, five times a second at most.
+/// A progress line with the number of schedules run so far, on standard error if that is a terminal. Each line is
+/// written over the one before it, five times a second at most.
 #[derive(Drop)]
 pub struct Meter<'a> {
     rt: &'a HostRuntime,

@@ -1,4 +1,4 @@
--- Calls on a handle, by what the handle has before and after.
+-- Proofs on the effect of a C call on an open handle and on a closed handle.
 use Rattle.std.proofs.Common.{◌≡◌, Option, Some, None, sym, subst}
 use Rattle.history_calls.specs.Frame.{Place}
 use Rattle.host_ledger.specs.View.{HostView}

@@ -1,4 +1,5 @@
--- The machine value of `HeldHost`, and what is owned with it. Assumes `Logic`.
+-- The machine value and the ownership predicate of `HeldHost`. The proofs assume `Logic`, the interface of the
+-- separation logic.
 use Rattle.std.proofs.Common.{◌≡◌, ℕ, List, [], ◌∷◌, ◌++◌, refl, subst, w64}
 use mathlib.Core.Bool.{Bool, true, not}
 use lib.Dec.{T}

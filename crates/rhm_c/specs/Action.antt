@@ -1,4 +1,4 @@
--- Operations of a host on an RMM, as C has them.
+-- The C form of the operations that a host performs on an RMM.
 use Rattle.std.specs.Prelude.{ℕ, List, [], ◌∷◌, length, map, replicate, Option, Some, None, slice_get, slice_index_or}
 use Rattle.std.specs.List.{range_with_len}
 use Rattle.rmi_abi.specs.Call.{registers_of}

@@ -1,4 +1,4 @@
--- Answers as C has them, and the calls of a host on a handle.
+-- The C form of a host's answers, and the effect of a call on a handle.
 use Rattle.std.specs.Prelude.{◌≡◌, ℕ, Option, Some, None, Result, Ok, Err}
 use Rattle.realm_model.specs.Rmi.{result_word}
 use Rattle.host_commands.specs.declared.cmd.Cmd.{Cmd}

@@ -1,4 +1,4 @@
--- The code of a placed host.
+-- An injective encoding of a host with the physical addresses of its granules.
 use Rattle.std.specs.Prelude.{ℕ, refl}
 use Rattle.std.specs.Coded.{Coded, code_by, coded×, coded_ℕ}
 use Rattle.host_ledger.specs.Codes.{host_code}

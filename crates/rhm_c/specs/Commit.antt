@@ -25,7 +25,8 @@ use Rattle.rhm_c.specs.declared.commit.FirmwareAnswer.{FirmwareAnswer}
 abbrev pub diverged : ℕ → CallAnswer
 diverged word = record { status = 16; value = word }
 
--- X0 says that the call was performed: its status is RMI_SUCCESS. After an entry it may also say that the REC still runs.
+-- X0 says that the call was performed: its status is RMI_SUCCESS. After an entry it may also say that the REC still
+-- runs.
 abbrev pub is_performed : ℕ → HostAction → Bool
 is_performed x0 (Calls call x1) = x0 % 256 == 0
 is_performed x0 (Enter rec run) = x0 % 256 == 0 || x0 == 2 ^ 64 - 2
@@ -36,8 +37,8 @@ abbrev pub is_output : ℕ → HostAction → Bool
 is_output x1 (Calls call (Some known)) = x1 == known
 is_output x1 _ = true
 
--- The check of calls that the model performs: the RMM has performed them too, with the outputs that are known. Or 16:
--- it has not; or 17: there is another output.
+-- The check of calls that the model performs: the RMM has performed them too, with the outputs that are known. If it
+-- has not, the status is 16, and for another output it is 17.
 abbrev pub check_performed : FirmwareAnswer → List HostAction → Result (Unit {0}) CallAnswer
 check_performed answer actions =
     if list_all (is_performed answer.x0) actions then (if list_all (is_output answer.x1) actions then Ok tt else Err (only 17)) else Err (diverged 0)
@@ -61,8 +62,8 @@ abbrev pub IsPerformedIf : Result (Unit {0}) CallAnswer → HostView → ℕ →
 IsPerformedIf (Ok done) old build call given new = IsAnsweredAs answered_as old build call given new
 IsPerformedIf (Err answer) old build call given new = IsOnly old answer given new
 
--- A command is performed exactly if neither the host nor its model refuses it, and the RMM has performed it too. If both
--- refuse it with the same word, that is the answer.
+-- A command is performed exactly if neither the host nor its model refuses it, and the RMM has performed it too. If
+-- both refuse it with the same word, that is the answer.
 abbrev pub IsCommitted : RawCommand → FirmwareAnswer → Result (ℕ × Cmd) ℕ → Place → HostView → CallAnswer → HostView → Type 0
 IsCommitted raw answer (Ok asked) place old given new =
     IsPerformedIf (committable answer (refusal_of old asked.0 (Ask asked.1)) (actions_asked place old asked.0 (raw.run % 64) asked.1)) old asked.0 (Ask asked.1) given new

@@ -1,4 +1,4 @@
--- The history of a host as C has it.
+-- The C form of a host's history and of its events.
 use Rattle.std.specs.Prelude.{ℕ, ◌^◌, List, length, map, replicate, Option, Some, None, option_map, slice_get}
 use Rattle.granule_addr.specs.declared.width.Root.{Root}
 use Rattle.realm_model.specs.declared.act.Act.{Act}

@@ -1,4 +1,4 @@
--- Commands and undos that are prepared on a handle.
+-- The preparation of a command or an undo on a handle: the status, and the operations for the RMM.
 use Rattle.std.specs.Prelude.{ℕ, ◌%◌, Option, Some, None, Result, Ok, Err}
 use Rattle.arrayvec.specs.ArrayVec.{ArrayVec}
 use Rattle.host_commands.specs.declared.cmd.Cmd.{Cmd}

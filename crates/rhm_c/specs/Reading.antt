@@ -1,4 +1,4 @@
--- Readings of a host as C has them. RMM 1.0, Granule, Realm and REC attributes.
+-- The C form of the values that are read from a host. RMM 1.0, Granule, Realm and REC attributes.
 use Rattle.std.specs.Prelude.{◌≡◌, ℕ, nat_le, nat_lt, Bool, length, Option, Some, None, is_some, unwrap_or, option_map, option_and_then, if◌then◌else◌}
 use Rattle.realm_model.specs.declared.states.GranuleState.{GranuleState}
 use Rattle.realm_model.specs.declared.states.GranuleState.TheVariants.{Undelegated, Delegated, Rd, Rec, RecAux, Data, Rtt}

@@ -1,4 +1,4 @@
--- Settings as C has them, and the host of a handle that is opened.
+-- The valid ranges of the settings that C gives, and the host of a newly opened handle.
 use Rattle.std.specs.Prelude.{◌%◌, ◌^◌, ◌==◌, ◌&&◌, Bool, nat_le, nat_lt}
 use Rattle.host_ledger.specs.Booted.{booted}
 use Rattle.rhm_c.specs.declared.placed_host.PlacedHost.{PlacedHost}

@@ -50,7 +50,7 @@ pub record IsMarkedHere (old : HostView) (build : ℕ) (given : CallAnswer) (new
   pub is_result : IsMarked old build result new
   pub given_is : given ≡ marked_as result
 
--- A build without a mark has nothing to undo. That there is no such build, or that it is in abort, comes first.
+-- The refusal of a rollback without a mark: `NothingToUndo`, unless there is no such build, or it is in abort.
 abbrev pub refusal_without_mark : HostView → ℕ → Refusal
 refusal_without_mark host build = unwrap_or (first_that_holds (build_checks (summary_of host) build)) NothingToUndo
 

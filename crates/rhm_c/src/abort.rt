@@ -11,7 +11,7 @@ use crate::placed_host::PlainHost;
 use granule_addr::BuildId;
 use std::alloc::Global;
 
-/// Begins to abort a build: the host refuses its commands until it has no operation open.
+/// Begins to abort a build: the host refuses the build's commands until the build has no operation open.
 pub(crate) fn begin(host: &mut PlainHost, build: BuildId) -> CallAnswer
     ensures { IsBegunHere host.old build result host.new }
 {
@@ -25,8 +25,8 @@ pub(crate) fn abort(host: &mut PlainHost, build: BuildId) -> CallAnswer
     counted(&host.abort(build))
 }
 
-/// Begins to abort a build: the host refuses its commands until it has no operation open. Until then each of its undos
-/// is performed. Returns 0, with the number of operations that it has open in `value`.
+/// Begins to abort a build: the host refuses the build's commands until the build has no operation open. Until then
+/// each of its undos is performed. Returns 0, with the number of operations that it has open in `value`.
 ///
 /// Else nothing changes: 1, 2 and 8 are the refusals, and 14 a closed handle.
 #[unsafe(no_mangle)]

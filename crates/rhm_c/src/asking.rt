@@ -34,8 +34,9 @@ fn ask_raw(host: &mut PlainHost, build: u64, raw: &RawCommand) -> CallAnswer
 
 /// Performs a build's command in one call. Returns 0, with the reply in `value`, and one event ends the history.
 ///
-/// Else nothing changes: 1 to 13 is the number of the refusal, and `value` the page, the order or the RMM's result word
-/// that it has. 14 comes for a closed handle, 15 if there is no such command. `value` is 0 if there is none.
+/// Else nothing changes. A status from 1 to 13 is the number of the refusal, and `value` is the page, the order or the
+/// RMM's result word that the refusal has. 14 is returned for a closed handle, and 15 if there is no such command.
+/// `value` is 0 if the answer has none.
 #[unsafe(no_mangle)]
 pub extern "C" fn rhm_ask(
     alloc: Global,

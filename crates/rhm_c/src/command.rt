@@ -46,7 +46,7 @@ impl RawCommand {
             && self.aux_count <= 16
     }
 
-    // The auxiliary pages of a REC; `None` comes if one has a number above 65,535.
+    // The auxiliary pages of a REC; `None` if one has a number above 65,535.
     fn auxiliaries(&self) -> Option<ArrayVec<u16, 16>>
         requires { self.now.aux_count ≤ 16 }
         ensures { result ≡ commands.auxiliaries_in (take self.now.aux_count self.now.aux) }

@@ -34,7 +34,7 @@ impl HostHandle {
         Some(held.into_parts(alloc).into_box())
     }
 
-    // Puts a host into a closed handle. The host of an open one would never be given back.
+    // Puts a host into a closed handle. A host that the handle had already would never be freed.
     pub(crate) fn give(&mut self, placed: Box<PlacedHost>)
         requires closed { self.old.held.host ≡ None }
         ensures { self.new.held.host ≡ Some placed.value }

@@ -1,4 +1,4 @@
-//! A heap-allocated host that a C program keeps. No other file knows its pointer.
+//! A heap-allocated host that a C program keeps. The field with the host's pointer is private to this file.
 ghost use Rattle.std.specs.Prelude.{◌≡◌, true, Option, Some, None, is_some};
 ghost use Rattle.std.specs.Coded.{coded_option};
 ghost use Rattle.rhm_c.specs.Codes.{placed_host_code};

@@ -6,7 +6,7 @@
 //!
 //! A command of a build can be performed at once, or in two steps in front of an RMM. `rhm_prepare` gives the
 //! operations that the hypervisor performs there, and changes nothing. `rhm_commit` is given the answer, and performs
-//! the command here if it is the one that is expected.
+//! the command here if the answer is the expected one.
 #![tactic(auto)]
 
 mod abort;

@@ -32,7 +32,7 @@ fn refusal_without_mark(host: &PlainHost, build: BuildId) -> Refusal
     }
 }
 
-/// Rolls a build back to its marked point, by undoing what it has opened since.
+/// Rolls a build back to its marked point, by undoing the operations opened since then.
 pub(crate) fn roll_back(host: &mut PlainHost, build: BuildId) -> CallAnswer
     ensures { IsBackHere host.old build result host.new }
 {

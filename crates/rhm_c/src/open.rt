@@ -14,10 +14,11 @@ const NO_MEMORY: u64 = 2;
 
 const ALREADY_OPEN: u64 = 3;
 
-/// Opens a closed handle with a new host. The host has the given settings. Each granule is UNDELEGATED and nobody's.
+/// Opens a closed handle with a new host. The host has the given settings. Each granule is UNDELEGATED and leased to no
+/// build.
 ///
-/// Returns 0 if the handle is open now; else nothing changes. 3 comes exactly if it was open, and 2 if allocation
-/// failed. 1 comes exactly if it was closed and a setting is out of its range.
+/// Returns 0 if the handle is open now; else nothing changes. Returns 3 exactly if the handle was open, and 1 exactly
+/// if it was closed and a setting is out of its range. Returns 2 if allocation failed.
 #[unsafe(no_mangle)]
 pub extern "C" fn rhm_open(alloc: Global, handle: &mut HostHandle, settings: &HostSettings) -> u64
     ensures done { result ≡ 0 → handle.new.held.host ≡ Some (opened_host settings.now) }

@@ -19,7 +19,7 @@ pub struct PlacedHost {
 }
 
 impl PlacedHost {
-    /// Creates a host with the given settings. `None` comes if there is no memory.
+    /// Creates a host with the given settings. Returns `None` if there is not enough memory.
     pub(crate) fn open(alloc: Global, settings: &HostSettings) -> Option<PlacedHost>
         requires { are_settings settings.now ≡ true }
         ensures { IfSome result (λ placed. placed ≡ opened_host settings.now) }

@@ -1,4 +1,5 @@
--- Answers in registers. RMM 1.0, RMI command outputs; SMCCC 1.2.
+-- The encoding of an RMI answer in the registers X0 to X4, and the registers after an unknown function. RMM 1.0, RMI
+-- command outputs; SMCCC 1.2.
 use Rattle.std.specs.Prelude.{◌-◌, ◌^◌}
 use Rattle.rmi_abi.specs.declared.registers.SmcResult.{SmcResult}
 use Rattle.rmi_abi.specs.declared.registers.Registers.{Registers}

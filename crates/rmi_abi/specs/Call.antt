@@ -1,5 +1,5 @@
--- Calls by registers. RMM 1.0, RMI function identifiers: X0 has the function, X1 to X5 the operands. SMCCC 1.2, SMC64
--- fast calls.
+-- The encoding of RMI calls in registers: the function identifier in X0, and the operands in X1 to X5. RMM 1.0, RMI
+-- function identifiers; SMCCC 1.2, SMC64 fast calls.
 use Rattle.std.specs.Prelude.{ℕ, ◌==◌, nat_le, Option, Some, None, if◌then◌else◌}
 use Rattle.rmi_abi.specs.declared.call.Call.{Call}
 use Rattle.rmi_abi.specs.declared.call.Call.TheVariants.{Version, GranuleDelegate, GranuleUndelegate, DataCreate, DataCreateUnknown, DataDestroy, RealmActivate, RealmCreate, RealmDestroy, RecCreate, RecDestroy, RecEnter}

@@ -1,4 +1,5 @@
--- Feature register 0. RMM 1.0, RmiFeatureRegister0: HASH_SHA_256 and HASH_SHA_512 are 1; LPA2, SVE and the PMU are 0.
+-- The value of feature register 0 for given settings; all other feature registers are 0. RMM 1.0, RmiFeatureRegister0:
+-- HASH_SHA_256 and HASH_SHA_512 are 1; LPA2, SVE and the PMU are 0.
 use Rattle.std.specs.Prelude.{ℕ, ◌+◌, ◌*◌, ◌^◌, ◌==◌, if◌then◌else◌}
 use Rattle.rmi_abi.specs.declared.settings.Layout.{Layout}
 use Rattle.rmi_abi.specs.declared.settings.Layout.TheVariants.{Rel0, Eac5}

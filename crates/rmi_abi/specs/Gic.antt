@@ -1,5 +1,5 @@
--- The GIC fields of a run page. RMM 1.0, RmiRecEnter and RmiRecExit; Arm GIC Architecture Specification, ICH_HCR_EL2
--- and ICH_LR<n>_EL2.
+-- The GIC fields of a REC's run page, and the values that a host may set in them. RMM 1.0, RmiRecEnter and RmiRecExit;
+-- Arm GIC Architecture Specification, ICH_HCR_EL2 and ICH_LR<n>_EL2.
 use Rattle.std.specs.Prelude.{ℕ, ◌+◌, ◌/◌, ◌%◌, ◌^◌, ◌==◌, ◌&&◌, Bool, nat_le, List, if◌then◌else◌}
 use Rattle.page_arena.specs.Word.{word_of_page}
 

@@ -1,4 +1,5 @@
--- Affinities of RECs. RMM 1.0, RmiRecMpidr: Aff0 in bits 3:0, Aff1 in 15:8, Aff2 in 23:16, Aff3 in 31:24.
+-- The valid MPIDR values of RECs, and the REC number that each of them names. RMM 1.0, RmiRecMpidr: Aff0 in bits 3:0,
+-- Aff1 in 15:8, Aff2 in 23:16, Aff3 in 31:24.
 use Rattle.std.specs.Prelude.{ℕ, ◌+◌, ◌*◌, ◌/◌, ◌%◌, ◌^◌, ◌&&◌, Bool, nat_lt}
 
 -- all bits that are no affinity's are 0

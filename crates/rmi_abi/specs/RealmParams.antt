@@ -1,4 +1,5 @@
--- The parameters of a realm. RMM 1.0, RmiRealmParams: each field is at the start of one of the page's 512 words.
+-- The parameters with which a host creates a realm, as fields of a page. RMM 1.0, RmiRealmParams: each field is at the
+-- start of one of the page's 512 words.
 use Rattle.std.specs.Prelude.{ℕ, ◌%◌, ◌^◌, List}
 use Rattle.page_arena.specs.Word.{word_of_page}
 use Rattle.rmi_abi.specs.declared.realm_params.RealmParams.{RealmParams}

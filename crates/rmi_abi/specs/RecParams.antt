@@ -1,4 +1,5 @@
--- The parameters of a REC. RMM 1.0, RmiRecParams: each field is one of the page's 512 words.
+-- The parameters with which a host creates a REC, as fields of a page. RMM 1.0, RmiRecParams: each field is one of the
+-- page's 512 words.
 use Rattle.std.specs.Prelude.{ℕ, ◌+◌, ◌%◌, ◌==◌, Bool, List}
 use Rattle.page_arena.specs.Word.{word_of_page}
 

@@ -1,4 +1,5 @@
--- Result words. RMM 1.0, RmiCommandReturnCode: the status in bits 7:0, the index in bits 15:8.
+-- The encoding of RMI result words in X0. RMM 1.0, RmiCommandReturnCode: the status in bits 7:0, the index in bits
+-- 15:8.
 use Rattle.std.specs.Prelude.{ℕ, ◌+◌, ◌-◌, ◌*◌, ◌^◌, ◌/◌, ◌%◌, ◌==◌, ◌&&◌, Bool, true, false, nat_lt, Option, Some, None, if◌then◌else◌}
 use Rattle.rmi_abi.specs.declared.word.Word.{Word}
 use Rattle.rmi_abi.specs.declared.word.Word.TheVariants.{Success, ErrorInput, ErrorRealm, ErrorRec, ErrorRtt, Running}

@@ -1,11 +1,11 @@
-//! The GIC fields in the run page of a REC. They are gicv3_hcr, followed by 16 list registers.
+//! The GIC fields in a REC's run page: gicv3_hcr, followed by 16 list registers.
 ghost use Rattle.std.specs.Prelude.{◌≡◌, ◌<◌, length};
 ghost use Rattle.rmi_abi.specs.Gic as gic;
 
 use page_arena::word_in;
 
-/// Functions that read and check the GIC fields in a REC's run page. A host sets the fields for an entry. RMM 1.0,
-/// RmiRecEnter.
+/// Functions that read and check the GIC fields in a REC's run page. A host sets these fields for RMI_REC_ENTER. RMM
+/// 1.0, RmiRecEnter.
 pub struct GicFields;
 
 impl GicFields {

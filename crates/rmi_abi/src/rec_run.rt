@@ -47,8 +47,7 @@ impl EnterFlags {
     }
 }
 
-/// Returns the value for general-purpose register `k` at REC entry, from the run page. The host gives this value. RMM
-/// 1.0, RmiRecEnter.
+/// Returns the host's value for general-purpose register `k` at REC entry, from the run page. RMM 1.0, RmiRecEnter.
 pub fn entry_gpr(page: &[u8], k: u8) -> u64
     requires page { length page.now ≡ 4096 }
     requires below { k < 31 }
@@ -67,7 +66,7 @@ pub enum ExitReason {
     HostCall,
 }
 
-/// The values that a host gets at an exit from a REC. RMM 1.0, RmiRecExit; the words that are no field here are 0.
+/// The values that a host gets at an exit from a REC. RMM 1.0, RmiRecExit; the words without a field here are 0.
 #[derive(Clone, Copy)]
 pub struct RecExit {
     pub reason: ExitReason,

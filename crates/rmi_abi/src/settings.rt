@@ -4,15 +4,15 @@ ghost use Rattle.rmi_abi.specs.Settings as ranges;
 
 use std::marker::Model;
 
-/// The layout of feature register 0. It is that of RMM 1.0-rel0, or of the drafts up to 1.0-eac5.
+/// The layout of feature register 0: that of RMM 1.0-rel0, or that of the drafts up to 1.0-eac5.
 #[derive(Clone, Copy)]
 pub enum Layout {
     Rel0,
     Eac5,
 }
 
-/// The settings of an RMM: its memory, its limits, and choices in its behavior. A choice that the standard leaves open
-/// has the default that is the likeliest.
+/// The settings of an RMM: its memory, its limits, and choices in its behavior. The default of a choice that the
+/// standard leaves open is the likeliest one.
 #[derive(Clone, Copy)]
 pub struct RmmSettings {
     /// The address of the first granule of the machine's memory.
@@ -44,12 +44,12 @@ pub struct RmmSettings {
     /// Whether the output `top` for an address inside a live entry is that entry's start. If not, `top` is the address
     /// itself.
     pub aligns_live_top: bool,
-    /// Whether a PSCI exit shows only the function and the target.
+    /// Whether a PSCI exit shows the host only the function and the target of the PSCI call.
     pub shows_target_alone: bool,
-    /// Whether a host may set the shareability of a descriptor. Bits 9:8 may then be 0b10 or 0b11, and not only 0.
+    /// Whether a host may choose the shareability of a descriptor: 0b10 or 0b11 in bits 9:8, and not only 0.
     pub takes_shareability: bool,
-    /// Whether REALM_CREATE checks its parameters against feature register 0. It then refuses a number of breakpoints
-    /// or watchpoints, or a vector length, above that of the register.
+    /// Whether REALM_CREATE checks its parameters against feature register 0. REALM_CREATE then refuses a number of
+    /// breakpoints or watchpoints, or a vector length, above that of the register.
     pub checks_params: bool,
     /// Whether REC_ENTER checks gicv3_hcr and gicv3_lrs.
     pub checks_gic: bool,

@@ -2,8 +2,8 @@
 ghost use Rattle.std.specs.Prelude.{◌≡◌};
 ghost use Rattle.rmi_abi.specs.Word as words;
 
-/// The result word of an RMI command, returned in X0. It has a status, and an index with RMI_ERROR_REALM or
-/// RMI_ERROR_RTT. RMM 1.0, RmiCommandReturnCode.
+/// The result word of an RMI command, returned in X0: a status, with an index for RMI_ERROR_REALM and RMI_ERROR_RTT.
+/// RMM 1.0, RmiCommandReturnCode.
 #[derive(Clone, Copy)]
 pub enum Word {
     Success,
@@ -11,8 +11,8 @@ pub enum Word {
     ErrorRealm(u8),
     ErrorRec,
     ErrorRtt(u8),
-    /// The result word of a REC_ENTER call that has not returned yet. Its REC is still running. The word is this RMM's
-    /// own, and not one of the standard.
+    /// The result word of a REC_ENTER call that has not returned yet, because the REC is still running. The word is
+    /// this RMM's own, and not one of the standard.
     Running,
 }
 

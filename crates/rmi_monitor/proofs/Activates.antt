@@ -1,4 +1,4 @@
--- The activation of a realm, over the fields of an RMM.
+-- The effect of RMI_REALM_ACTIVATE on the fields of an RMM.
 use Rattle.std.proofs.Common.{◌≡◌, ℕ, Bool, true, false, [], ◌∷◌, set, Some, Ok, Err, refl, sym, ap, ◌∙◌, subst, arith}
 use Rattle.realm_model.specs.declared.states.RealmState.TheVariants.{Active}
 use Rattle.realm_model.specs.Machine.{RealmRow}

@@ -1,4 +1,5 @@
--- The reverse of the newest operation that a build has open, which is not refused.
+-- The proof that the RMM accepts the reverse of a build's newest open operation, unless that operation
+-- created a REC that runs.
 use Rattle.std.proofs.Common.{◌≡◌, ℕ, true, List, Some, ◌∙◌, subst}
 use Rattle.std.specs.Prelude.{slice_get}
 use Rattle.std.specs.List.{All}
@@ -16,7 +17,7 @@ use Rattle.realm_model.specs.declared.act.RealmAndRec.{RealmAndRec}
 use Rattle.rmi_monitor.specs.Mirror.{IsAsked, NewestIsAccepted}
 use Rattle.rmi_monitor.proofs.Forward.{holder_is, same_outcome}
 
--- what a step asked for
+-- an operation whose command is a step meets the requirements on the command
 asked_of : (limits : Limits) (world next : World) (build : ℕ) (act : Act) → is_command act ≡ true → step limits world (by build act) ≡ Some next
     → IsAsked limits world build act
 asked_of limits world next build act command stepped =

@@ -1,4 +1,4 @@
--- The steps of a block that is taken, and of one that is given back.
+-- The proof that taking a block and giving a block back are steps of the model.
 use Rattle.std.proofs.Common.{◌≡◌, ℕ, ◌+◌, ◌-◌, ◌%◌, ◌^◌, ◌<◌, ◌≤◌, Bool, true, false, List, [], ◌∷◌, length, map, Option, Some, None, refl, sym, ap, ◌∙◌, subst, arith}
 use Rattle.std.specs.Prelude.{is_none, slice_get}
 use Rattle.std.specs.List.{All, list_all, last_or}
@@ -46,7 +46,7 @@ module _ (limits : Limits) (history : List Event) (world : World) (monitor : Mon
   flags_long : length (map is_none world.leases) ≡ length world.leases
   flags_long = length-map world.leases is_none
 
-  -- a step in turn that leaves the monitor as it leaves the world
+  -- an operation in turn that changes the RMM as its step changes the world is performed
   performed_as : (act : Act) (new : MonitorView) (next : World) → IsInTurn history (by build act) → step limits world (by build act) ≡ Some next
       → new.vmids ≡ monitor.vmids → new.aux ≡ monitor.aux → new.machine ≡ next.machine → new.free ≡ map is_none next.leases
       → next.leases ≡ leases_after build act world.leases → IsPerformed limits history world build act new

@@ -1,4 +1,4 @@
--- Blocks that are given back, over the fields of an RMM.
+-- The fields of an RMM after a block is taken, and after a block is given back.
 use Rattle.std.proofs.Common.{◌≡◌, ◌≢◌, ℕ, ◌+◌, ◌^◌, ◌<◌, ◌≤◌, ⊎_elim, Bool, true, false, List, [], length, Option, Some, None, refl, sym, ap, ◌∙◌, subst, arith}
 use Rattle.std.specs.Prelude.{IsTrue, ◌↔◌, IfSome, IfNone}
 use Rattle.std.specs.Bool.{OnTrue, OnFalse}
@@ -52,7 +52,7 @@ module _ (monitor : MonitorView) (fields : Fields) (view_is : seen_as fields ≡
   page_inside : (g : ℕ) → first ≤ g → g < first + count → page_at new.pages g ≡ zero_page
   page_inside g low high = get_or-with_run_inside fields.pages first count zero_page fits g [] low high
 
-  -- what is not UNDELEGATED has its page
+  -- a granule that is not UNDELEGATED keeps its page
   page_stays : (g : ℕ) → (granule_at fields.granules g).state ≢ Undelegated → page_at new.pages g ≡ page_at fields.pages g
   page_stays g used = ⊎_elim
       (λ h. absurd (used (state_inside g h.0 h.1)))

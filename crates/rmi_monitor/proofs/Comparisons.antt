@@ -1,4 +1,4 @@
--- The consequences of tests: of two indexes, of a predicate that holds, and of an option.
+-- Lemmas on tests: Boolean combinations, numbers that pass a test, and options.
 use Rattle.std.proofs.Common.{◌≡◌, ℕ, Bool, true, false, cond, Option, Some, None, refl, sym, ◌∙◌, option_map}
 use Rattle.std.specs.Prelude.{◌&&◌, ◌||◌}
 use Rattle.std.proofs.lemmas.Option.{same_Some}
@@ -16,17 +16,17 @@ pub and_with : (a b : Bool) → b ≡ true → (a && b) ≡ a
 and_with true b h = h
 and_with false b h = refl
 
--- the number that came was let through
+-- if there is a number, the test held
 pub test_held : (test : Bool) (n m : ℕ) (place : Option ℕ) → place ≡ cond test (Some n) None → place ≡ Some m → (test ≡ true) × (m ≡ n)
 test_held true n m place e is = let told : Some n ≡ Some m = sym e ∙ is in (refl, (cc))
 test_held false n m place e is = let told : None ≡ Some m = sym e ∙ is in cc
 
--- and none came, so the test failed
+-- if there is no number, the test failed
 pub test_failed : (test : Bool) (n : ℕ) (place : Option ℕ) → place ≡ cond test (Some n) None → place ≡ None → test ≡ false
 test_failed true n place e is = let told : Some n ≡ None = sym e ∙ is in cc
 test_failed false n place e is = refl
 
--- what came of an option's value
+-- if a mapped option has a value, that is the mapped value of the option
 pub some_map : {A B : Type 0} (f : A → B) (o : Option A) (y : B) → option_map f o ≡ Some y → (x : A) × (o ≡ Some x) × (f x ≡ y)
 some_map f None y e = cc
 some_map f (Some x) y e = (x, refl, same_Some (f x) y e)

@@ -1,4 +1,4 @@
--- The outcome of creating a realm, by the fields of an RMM.
+-- The checks and the outcome of RMI_REALM_CREATE, derived from the fields of an RMM.
 use Rattle.std.proofs.Common.{◌≡◌, ℕ, ◌<◌, ◌≤◌, Bool, true, false, List, [], ◌∷◌, length, map, set, cond, Option, Some, None, Ok, Err, refl, sym, ap, ◌∙◌, subst, ⊎_elim}
 use Rattle.std.specs.Prelude.{◌==◌, ◌%◌, ◌&&◌, ◌↔◌, IsTrue, not, nat_le}
 use Rattle.std.specs.Bool.{OnTrue}
@@ -46,7 +46,7 @@ pub create_no_width : (monitor : MonitorView) (rd first width vmid : ℕ) (given
     → make_realm monitor rd (record { first = first; width = width }) vmid ≡ Err error_input
 create_no_width monitor rd first width vmid given e none = check_false _ _ _ (first_fails _ _ _ _ _ _ _ (test_failed (is_width width) width given e none))
 
--- the width that is given, where a realm may have it
+-- the width that is given, if a realm may have it
 pub is_given : (width given : ℕ) (place : Option ℕ) → place ≡ cond (is_width width) (Some width) None → place ≡ Some given → (is_width given ≡ true) × (given ≡ width)
 is_given width given place e is = let held = test_held (is_width width) width given place e is in (ap is_width held.1 ∙ held.0, held.1)
 
@@ -136,7 +136,7 @@ module _ (monitor : MonitorView) (fields : Fields) (view_is : seen_as fields ≡
         unfolding check
         create_done = by_fit ∙ (λ i. check (fit i && not (unused i)) error_input (Ok updates))
 
-        -- what the checks say of the granules
+        -- the results of the checks of the granules
         abbrev both : Bool
         both = root.first % start_count root.width == 0 && is_delegated_at fields.granules rd
 
@@ -174,7 +174,7 @@ module _ (monitor : MonitorView) (fields : Fields) (view_is : seen_as fields ≡
         create_shifted true shifted answer is = is
         create_shifted false shifted answer is = absurd (let told = answer.1 rd_was in cc)
 
-        -- after the RD is one
+        -- after the RD is moved
         module _ (shifted : List Granule) (shift : shifted ≡ with_state fields.granules rd InRd (Some rd)) where
           pub create_backed : IsBacked fields.pages fields.free shifted
           create_backed =
@@ -184,7 +184,7 @@ module _ (monitor : MonitorView) (fields : Fields) (view_is : seen_as fields ≡
           pub create_delegated : All (λ table. IsIn shifted table Delegated None) tables
           create_delegated = subst (λ gs. All (λ table. IsIn gs table Delegated None) tables) (sym shift) (tables_delegated fields whole rd root rd_inside rd_was starts)
 
-          -- and the starting tables are
+          -- after the starting tables are moved too
           module _ (realm : RealmAttributes) (realm_vmid : realm.vmid ≡ vmid) (realm_root : realm.root ≡ root) (fresh : realm_row realm empty (root_rows root.width) ≡ new_realm vmid root)
               (granules : List Granule) (pages : List (List ℕ)) (free : List Bool) (moved : granules ≡ with_states shifted tables InRtt (Some rd))
               (cleared : pages ≡ set_each zero_page tables fields.pages) (translation : rows pages root ≡ root_rows root.width)

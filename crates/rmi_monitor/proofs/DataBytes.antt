@@ -1,4 +1,4 @@
--- The write of a byte to a realm's page of data: the machine has it, and nothing else changes.
+-- The write of a byte to a realm's page of data: the machine gets the byte, and nothing else changes.
 use Rattle.std.proofs.Common.{◌≡◌, ◌≢◌, ℕ, ◌<◌, Bool, false, List, [], ◌∷◌, length, set, Ok, Some, refl, sym, ap, ◌∙◌, subst}
 use Rattle.std.proofs.lemmas.List.{length-set, get_or-set_same, get_or-set_other}
 use Rattle.page_arena.specs.Page.{page_at, is_free, with_byte}
@@ -42,7 +42,7 @@ module _ (old : Fields) (whole : IsWhole old) (rd page offset value : ℕ) (is :
   elsewhere : (g : ℕ) → g ≢ page → page_at new.pages g ≡ page_at old.pages g
   elsewhere g differs = get_or-set_other old.pages page g (set (page_at old.pages page) offset value) [] differs
 
-  -- a granule that is not in DATA is another
+  -- a granule that is not in state DATA is another one
   page_stays : (g : ℕ) → (granule_at old.granules g).state ≢ InData → page_at new.pages g ≡ page_at old.pages g
   page_stays g other = elsewhere g (λ s. other (ap (λ h. (granule_at old.granules h).state) s ∙ state_is))
 
@@ -91,7 +91,7 @@ module _ (old : Fields) (whole : IsWhole old) (rd page offset value : ℕ) (is :
       (λ i. record (cell_of old page) { bytes = bytes_here i; descriptor = descriptor_is page i })
       (λ g lt differs. cell_stays old new g refl (λ not_table. elsewhere g differs) (descriptor_is g))
 
-  -- ---- the monitor
+  -- ---- the RMM
 
   module _ (pages : List (List ℕ)) (free : List Bool) (written : pages ≡ with_byte old.pages page offset value) (kept : free ≡ old.free) where
     same_fields : record old { pages = pages; free = free } ≡ new

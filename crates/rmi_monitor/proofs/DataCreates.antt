@@ -1,4 +1,5 @@
--- RMI_DATA_CREATE over the fields of an RMM: a DELEGATED granule becomes a page with the bytes of another granule.
+-- The effect of RMI_DATA_CREATE on the fields of an RMM: a DELEGATED granule becomes a page with another granule's
+-- bytes.
 use Rattle.std.proofs.Common.{◌≡◌, ◌≢◌, ℕ, ◌<◌, ◌&&◌, Bool, true, false, List, [], ◌∷◌, length, set, get_or, Option, option_map, Some, None, Ok, Err, refl, sym, ap, ◌∙◌, subst, arith}
 use Rattle.std.proofs.lemmas.Bool.{and_from, and_left, and_right, and_parts}
 use Rattle.std.proofs.lemmas.List.{get_or-set_other}
@@ -111,7 +112,7 @@ module _ {monitor : MonitorView} {fields : Fields} (has : HasFields monitor fiel
         create_refused : {l : ℕ} → ((f : Row → Outcome) → with_free_page (rows fields.pages at.0.root) at.1 f ≡ Err (error_rtt l)) → outcome ≡ Err (error_rtt l)
         create_refused refused = decided ∙ (λ k. with_free_page (rows fields.pages (sym located.tables k).root) (sym located.same k) on_row) ∙ refused on_row
 
-        -- what the calls leave: the map, the copy, and the measurement
+        -- the fields after the calls: the map, the copy, and the measurement
         module _ {granules : List Granule} {pages : List (List ℕ)} {free : List Bool}
             (given_call : MapCall at.0 fields.pages fields.free fields.granules pages free granules g at.1 (Some Ram))
             {copied : List (List ℕ)} (copies : copied ≡ set pages g (page_at pages source)) {kept : List Bool} (keeps : kept ≡ free)
@@ -185,7 +186,7 @@ module _ {monitor : MonitorView} {fields : Fields} (has : HasFields monitor fiel
           create_done =
               moves_done has named.rd_taken there map_after same_realm put outcome (λ i. record (held InData rd) { bytes = page_is i }) row_now created
 
-  -- ---- where the page goes is found
+  -- ---- the operands pass the checks
 
   module _ {at : Tables × ℕ} (found : LocatesNew monitor.machine rd ipa at × ((is_delegated (seen_in monitor g) && is_undelegated (seen_in monitor source)) ≡ true)) where
     it : Stands fields rd ipa at

@@ -1,4 +1,4 @@
--- RMI_DATA_DESTROY over the fields of an RMM: a page of data leaves its realm.
+-- The effect of RMI_DATA_DESTROY on the fields of an RMM: a page of data leaves its realm.
 use Rattle.std.proofs.Common.{◌≡◌, ℕ, Bool, List, [], ◌∷◌, Some, None, Ok, Err, refl, sym, ap, ◌∙◌, subst, lit≤}
 use Rattle.std.proofs.lemmas.Option.{same_Some}
 use Rattle.rtt.specs.Granules.{IsIn}
@@ -28,7 +28,7 @@ use Rattle.rmi_monitor.proofs.Refusals.{Passes, passed_row, row_passes}
 use Rattle.rmi_monitor.proofs.RealmCommands.{with_call, Done, left_by, rows_done}
 use Rattle.rmi_monitor.proofs.RealmFound.{row_of, somewhere}
 
--- What the call says where it is not refused.
+-- The postcondition of the call if it is not refused.
 pub record UnmapCall (at : Tables) (pages : List (List ℕ)) (free : List Bool) (granules : List Granule) (new_pages : List (List ℕ)) (new_free : List Bool) (new_granules : List Granule)
     (ipa : ℕ) : Type 0 where
   pub answer : (row : Row) × ((f : Row → Outcome) → with_mapped_page (rows pages at.root) ipa f ≡ f row)

@@ -1,4 +1,4 @@
--- The mapping of a page of data: the fields of an RMM before and after its page is written.
+-- The fields of an RMM after a page of data is mapped, and after the page is then written.
 use Rattle.std.proofs.Common.{◌≡◌, ℕ, ◌<◌, Bool, List, [], length, set, Option, Some, refl, sym, ap, ◌∙◌, subst}
 use Rattle.std.proofs.lemmas.List.{length-set, get_or-set_same, get_or-set_other}
 use Rattle.granule_addr.specs.declared.width.Root.{Root}
@@ -29,7 +29,7 @@ still_inside old granules g to pages free moved backed h inside = subst (λ (n :
 pub written_inside : (pages written : List (List ℕ)) (g : ℕ) (page : List ℕ) → written ≡ set pages g page → (h : ℕ) → h < length pages → h < length written
 written_inside pages written g page is h inside = subst (λ (n : ℕ). h < n) (sym (ap length is ∙ length-set pages g page)) inside
 
--- What a map says where it is not refused.
+-- The postcondition of a map if it is not refused.
 pub record MapCall (at : Tables) (pages : List (List ℕ)) (free : List Bool) (granules : List Granule) (new_pages : List (List ℕ)) (new_free : List Bool) (new_granules : List Granule)
     (page ipa : ℕ) (ripas : Option Ripas) : Type 0 where
   pub answer : (row : Row) × ((f : Row → Outcome) → with_free_page (rows pages at.root) ipa f ≡ f row)
@@ -38,7 +38,7 @@ pub record MapCall (at : Tables) (pages : List (List ℕ)) (free : List Bool) (g
   pub others : ChangesTablesOnly at.root pages new_pages
   pub keeps : Keeps at.rd at.root pages free granules new_pages new_free new_granules
 
--- the same of the tables and the IPA granule that code has
+-- the same for the tables and the IPA granule of the code
 pub map_call_at : {realm : RealmAttributes} {rd ipa : ℕ} {at : Tables × ℕ} {pages : List (List ℕ)} {free : List Bool} {granules : List Granule}
     {new_pages : List (List ℕ)} {new_free : List Bool} {new_granules : List Granule} {page : ℕ} {ripas : Option Ripas}
     → IsLocated realm rd ipa at → MapCall at.0 pages free granules new_pages new_free new_granules page at.1 ripas
@@ -46,7 +46,7 @@ pub map_call_at : {realm : RealmAttributes} {rd ipa : ℕ} {at : Tables × ℕ} 
 map_call_at {pages = pages} {free = free} {granules = granules} {new_pages = new_pages} {new_free = new_free} {new_granules = new_granules} {page = page} {ripas = ripas} located call =
     subst (λ (to : Tables × ℕ). MapCall to.0 pages free granules new_pages new_free new_granules page to.1 ripas) (λ k. (located.tables k, located.same k)) call
 
--- what it leaves
+-- the fields after a map
 pub mapped_by : {fields : Fields} {rd : ℕ} {root : Root} {g ipa : ℕ} {ripas : Option Ripas} {granules : List Granule} {pages : List (List ℕ)} {free : List Bool}
     → MapCall (record { rd = rd; root = root }) fields.pages fields.free fields.granules pages free granules g ipa ripas
     → g < length fields.granules → (granule_at fields.granules g).state ≡ Delegated → Moves fields rd root g (record { state = InData; realm = Some rd }) granules pages free
@@ -61,7 +61,7 @@ mapped_by call inside was = record {
   keeps = call.keeps;
 }
 
--- its page is written after the map
+-- the page is written after the map
 module _ (fields : Fields) (rd : ℕ) (root : Root) (g : ℕ) (granules : List Granule) (pages : List (List ℕ)) (free : List Bool)
     (map : Moves fields rd root g (record { state = InData; realm = Some rd }) granules pages free) (page : List ℕ) where
   state_now : (granule_at granules g).state ≡ InData

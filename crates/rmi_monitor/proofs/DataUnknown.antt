@@ -1,4 +1,4 @@
--- RMI_DATA_CREATE_UNKNOWN over the fields of an RMM: a DELEGATED granule becomes a page of zeros of a realm.
+-- The effect of RMI_DATA_CREATE_UNKNOWN on the fields of an RMM: a DELEGATED granule becomes a realm's page of zeros.
 use Rattle.std.proofs.Common.{◌≡◌, ℕ, ◌&&◌, Bool, true, false, List, [], ◌∷◌, None, Ok, Err, sym, ◌∙◌}
 use Rattle.std.proofs.lemmas.Bool.{and_from, and_left, and_right}
 use Rattle.rtt.specs.Granules.{granule_at}

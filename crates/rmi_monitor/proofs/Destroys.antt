@@ -1,4 +1,4 @@
--- The outcome of destroying a realm, by the fields of an RMM.
+-- The checks and the outcome of RMI_REALM_DESTROY, derived from the fields of an RMM.
 use Rattle.std.proofs.Common.{◌≡◌, ℕ, ◌<◌, ◌≤◌, Bool, true, false, List, ◌∷◌, length, map, set, get_or, Some, None, Ok, Err, refl, sym, ap, ◌∙◌, subst, arith}
 use Rattle.std.specs.Prelude.{◌==◌, ◌&&◌, not}
 use Rattle.std.specs.FinMap.{len}

@@ -1,4 +1,4 @@
--- The step of the world by an operation that is performed.
+-- The proof that each operation that the RMM performs is a step of the model.
 use Rattle.std.proofs.Common.{◌≡◌, ℕ, true, List, map, Option, Some, None, Ok, Err, refl, sym, ap, ◌∙◌, subst}
 use Rattle.std.specs.Prelude.{option_map, slice_get}
 use Rattle.std.specs.List.{All}
@@ -24,7 +24,7 @@ use Rattle.rmi_monitor.specs.Performing.{realm_on, outcome_on}
 use Rattle.rmi_monitor.specs.Mirror.{IsMirror, IsAsked, IsPerformed, PerformedIsStep}
 use Rattle.realm_model.specs.Places.{IsPlaceOf, rd_of}
 
--- ---- of an act that is a command
+-- ---- an operation that is a command
 
 pub holder_is : (build : ℕ) (act : Act) → is_command act ≡ true → holder build act ≡ Some build
 holder_is build (Take order first) command = cc
@@ -36,7 +36,7 @@ leases_stay build (Take order first) leases command = cc
 leases_stay build (UnTake order first) leases command = cc
 leases_stay build _ leases command = refl
 
--- ---- the outcome in the monitor is that in the world
+-- ---- the outcome in the RMM is that in the world
 
 rd_seen : (machine : Machine) (realm : Option Seen) → IsAt machine realm → option_map (seen machine) (option_map (λ (rd : Seen). rd.number) realm) ≡ realm
 rd_seen machine None there = refl
@@ -58,7 +58,7 @@ module _ (limits : Limits) (history : List Event) (world : World) (monitor : Mon
         ap (λ o. outcome_of monitor.vmids monitor.aux (used_vmids monitor.machine) act o (gs monitor.machine)) (ap (realm_on monitor) at.realm ∙ realm_seen)
         ∙ (λ i. outcome_of (mirror.vmids i) (mirror.aux i) (used_vmids (mirror.machine i)) act (realm_of build world) (gs (mirror.machine i)))
 
-    -- ---- it is done
+    -- ---- the command is done
 
     module _ (asked : IsAsked limits world build act) (turn : IsInTurn history (by build act)) (updates : List Update)
         (done : outcome_on monitor place.realm act ≡ Ok updates) (new : MonitorView) (new_is : new ≡ after_command (outcome_on monitor place.realm act) monitor) where
@@ -100,7 +100,7 @@ module _ (limits : Limits) (history : List Event) (world : World) (monitor : Mon
             };
           }
 
--- ---- whatever the monitor answers
+-- ---- whatever the RMM answers
 
 refused_with : (rmi : Rmi) (outcome : Outcome) → Answers {A = Unit {0}} (Err rmi) outcome → outcome ≡ Err rmi
 refused_with rmi (Ok updates) h = absurd h

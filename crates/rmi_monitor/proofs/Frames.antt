@@ -1,4 +1,4 @@
--- The fields of an RMM that a command leaves alone, by which the invariant still holds.
+-- The fields of an RMM that a command leaves unchanged, and the invariant that therefore still holds.
 use Rattle.std.proofs.Common.{◌≡◌, ◌≢◌, ℕ, ◌<◌, ◌≤◌, Bool, true, false, cond, List, length, get_or, Some, None, option_map, refl, sym, ap, ◌∙◌, subst, arith}
 use Rattle.std.specs.Prelude.{is_some, nat_eq, ◌==◌}
 use Rattle.std.specs.Option.{option_eq}
@@ -24,7 +24,7 @@ use Rattle.rmi_monitor.proofs.UsedVmids.{AreUsed}
 
 -- ---- granules
 
--- The granules that are not touched stay, and the RECs at them, but for the pages of tables.
+-- The granules that are not touched stay the same, with their RECs, but for the pages of tables.
 pub record Stays (old new : Fields) (touched : ℕ → Bool) : Type 0 where
   pub free : new.free ≡ old.free
   pub granule_count : length new.granules ≡ length old.granules
@@ -34,7 +34,7 @@ pub record Stays (old new : Fields) (touched : ℕ → Bool) : Type 0 where
   pub rec : (g : ℕ) → touched g ≡ false → rec_at new g ≡ rec_at old g
 
 module _ (old new : Fields) (touched : ℕ → Bool) (stays : Stays old new touched) where
-  -- a granule that is not touched is sound, where its realm stays
+  -- a granule that is not touched stays sound, if its realm stays
   sound_kept : (g : ℕ) → touched g ≡ false → realm_at new g ≡ realm_at old g → IsSoundAt old g → IsSoundAt new g
   sound_kept g e realm was =
       let same : (granule_at new.granules g).state ≡ (granule_at old.granules g).state = ap (λ (x : Granule). x.state) (stays.granule g e) in
@@ -46,7 +46,7 @@ module _ (old new : Fields) (touched : ℕ → Bool) (stays : Stays old new touc
         rec = ap is_some (stays.rec g e) ∙ was.rec ∙ sym (ap is_rec_state same);
       }
 
-  -- what is not UNDELEGATED is taken, where what is touched is
+  -- each granule that is not UNDELEGATED is taken, if each touched one is
   pub backed_after : IsBacked old.pages old.free old.granules → ((g : ℕ) → touched g ≡ true → is_free old.free g ≡ false) → IsBacked new.pages new.free new.granules
   backed_after was taken = record {
     as_many = stays.granule_count ∙ was.as_many ∙ sym stays.page_count;
@@ -58,7 +58,7 @@ module _ (old new : Fields) (touched : ℕ → Bool) (stays : Stays old new touc
         ] refl;
   }
 
-  -- A realm is left alone where no page of a table is changed, and no granule in RTT or DATA is touched.
+  -- A realm is left alone if no page of a table is changed, and no granule in state RTT or DATA is touched.
   pub alone_after : ((g : ℕ) → (granule_at old.granules g).state ≡ InRtt → page_at new.pages g ≡ page_at old.pages g)
       → ((g : ℕ) → (granule_at old.granules g).state ≡ InRtt → touched g ≡ false)
       → ((g : ℕ) → (granule_at old.granules g).state ≡ InData → touched g ≡ false)
@@ -74,7 +74,7 @@ module _ (old new : Fields) (touched : ℕ → Bool) (stays : Stays old new touc
 
 -- ---- RECs
 
--- a granule that is a REC is in REC
+-- a granule that is a REC is in state REC
 pub in_rec : (fields : Fields) (g : ℕ) → IsSoundAt fields g → (rec : RecAttributes) → rec_at fields g ≡ Some rec → (granule_at fields.granules g).state ≡ InRec
 in_rec fields g sound rec e = rec_state (granule_at fields.granules g).state (sym sound.rec ∙ ap is_some e)
   where
@@ -82,14 +82,14 @@ in_rec fields g sound rec e = rec_state (granule_at fields.granules g).state (sy
     rec_state InRec h = refl
     rec_state _ h = cc
 
--- The RECs stay, and the granules of RECs do.
+-- The RECs and their granules stay the same.
 pub record StayRecs (old new : Fields) : Type 0 where
   pub granule_count : length new.granules ≡ length old.granules
   pub rec : (g : ℕ) → rec_at new g ≡ rec_at old g
   pub granule : (g : ℕ) → (granule_at old.granules g).state ≡ InRec → granule_at new.granules g ≡ granule_at old.granules g
   pub auxiliary : (g : ℕ) → (granule_at old.granules g).state ≡ InRecAux → granule_at new.granules g ≡ granule_at old.granules g
 
--- The RECs after a command: they are as they should be, each realm but one has the same, and counts are those of RECs.
+-- The RECs after a command: their invariant holds, each realm but one has the same RECs, and counts are those of RECs.
 pub record LeavesRecs (old new : Fields) (rd : ℕ) : Type 0 where
   pub has : HasRecs new
   pub others : (r : ℕ) → r ≢ rd → recs_of new.granules new.recs r ≡ recs_of old.granules old.recs r
@@ -117,7 +117,7 @@ module _ (old new : Fields) (stay : StayRecs old new) (whole : IsWhole old) wher
         | None ↦ λ e. rec_of-none new.granules new.recs rd g (stay.rec g ∙ e) ∙ sym (rec_of-none old.granules old.recs rd g e)
       ] refl
 
-  -- they are as they should be, where the realms that have some are there still
+  -- the invariant of RECs holds, if each realm that has one still exists
   HasRecs_stay : ((g rd : ℕ) (rec : RecAttributes) (realm : RealmAttributes) → rec_at old g ≡ Some rec → (granule_at old.granules g).realm ≡ Some rd → realm_at old rd ≡ Some realm
       → (now : RealmAttributes) × (realm_at new rd ≡ Some now) × (realm.next ≤ now.next))
       → HasRecs new
@@ -151,7 +151,7 @@ module _ (old new : Fields) (stay : StayRecs old new) (whole : IsWhole old) wher
           let after = there g before.rd rec before.realm at before.of before.there in
           record { rd = before.rd; of = realm_same g rec at ∙ before.of; realm = after.0; there = after.1; below = nat_within rec.number before.realm.next after.0.next before.below after.2 }
 
-  -- and counts are theirs
+  -- the counts of RECs are right
   pub recs_stay : new.rec_counts ≡ old.rec_counts
       → ((g rd : ℕ) (rec : RecAttributes) (realm : RealmAttributes) → rec_at old g ≡ Some rec → (granule_at old.granules g).realm ≡ Some rd → realm_at old rd ≡ Some realm
       → (now : RealmAttributes) × (realm_at new rd ≡ Some now) × (realm.next ≤ now.next))
@@ -162,7 +162,7 @@ module _ (old new : Fields) (stay : StayRecs old new) (whole : IsWhole old) wher
     counted = λ r. ap (λ cs. get_or cs r 0) counts ∙ whole.counted r ∙ ap len (sym (recs_of_stay r));
   }
 
--- RECs do not look at pages
+-- RECs do not depend on pages
 pub recs_beside : (old : Fields) → IsWhole old → (pages : List (List ℕ)) (free : List Bool) → HasRecs (record old { pages = pages; free = free })
 recs_beside old whole pages free =
     (recs_stay old (record old { pages = pages; free = free }) (record { granule_count = refl; rec = λ g. refl; granule = λ g is. refl; auxiliary = λ g is. refl })
@@ -181,8 +181,8 @@ module _ (old new : Fields) (whole : IsWhole old) (rd : ℕ) (alone : LeavesAlon
 
 -- ---- all together
 
--- One realm may change, come or go, and if it is there it has its tables. The granules that are touched are sound, and
--- the other realms are left alone.
+-- One realm may be created, changed or destroyed, and if it exists it has its tables. The granules that are touched are
+-- sound, and the other realms are left alone.
 pub record Leaves (old new : Fields) (rd : ℕ) (touched : ℕ → Bool) : Type 0 where
   pub stays : Stays old new touched
   pub realm_places : length new.realms ≡ length old.realms
@@ -217,7 +217,7 @@ module _ (old new : Fields) (rd : ℕ) (touched : ℕ → Bool) (leaves : Leaves
         tables_stay old new whole g (leaves.alone g differs) realm (sym (leaves.realms g differs) ∙ at)
   ] refl
 
-  -- what always holds, holds still
+  -- the invariant holds afterwards
   pub whole_after : IsWhole new
   whole_after = record {
     backed = leaves.backed;
@@ -231,7 +231,7 @@ module _ (old new : Fields) (rd : ℕ) (touched : ℕ → Bool) (leaves : Leaves
     vmids_used = leaves.vmids_used;
   }
 
-  -- and the cells of other granules are the same
+  -- the cells of granules that are not touched are the same, but for the RD's
   pub cell_after : (g : ℕ) → touched g ≡ false → g ≢ rd → cell_of new g ≡ cell_of old g
   cell_after g e differs =
       cell_stays old new g (leaves.stays.granule g e) (leaves.stays.page g e)

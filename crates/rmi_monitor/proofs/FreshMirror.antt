@@ -1,4 +1,4 @@
--- An RMM that has just been built, beside the empty history.
+-- The proof that an RMM that has just been built agrees with the world of the empty history.
 use Rattle.std.proofs.Common.{◌≡◌, ℕ, zero, suc, true, ◌∷◌, map, replicate, refl, ap, Option, None}
 use Rattle.std.specs.Prelude.{is_none}
 use Rattle.realm_model.specs.Machine.{Limits}

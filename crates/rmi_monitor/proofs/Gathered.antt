@@ -1,4 +1,4 @@
--- Maps of the entries of a list: their values, and the map after one entry changes.
+-- The finite map of the entries at a range of indexes, and the map after one of the entries changes.
 use Rattle.std.proofs.Common.{◌≡◌, ◌≢◌, ℕ, zero, suc, ◌+◌, ◌-◌, ◌<◌, ◌≤◌, Bool, true, false, cond, Option, Some, None, refl, sym, ap, ◌∙◌, subst, ⊎_elim, arith}
 use Rattle.std.specs.Prelude.{is_some}
 use Rattle.std.specs.Cmp.{nat_cmp_total, unsigned_tied}
@@ -16,14 +16,14 @@ module _ {A : Type 0} where
   get-insert_other : (map : FinMap nat_cmp A) (key : ℕ) (a : A) (q : ℕ) → q ≢ key → get (insert map key a) q ≡ get map q
   get-insert_other map key a q ne = get-insert nat_cmp_total map key a q ∙ ap (λ t. cond t (Some a) (get map q)) (unsigned_tied q key ∙ ne_eqb q key ne)
 
-  -- and one that is taken out is not found
+  -- a number that is taken out is not found
   get-remove_same : (map : FinMap nat_cmp A) (key : ℕ) → get (remove map key) key ≡ None
   get-remove_same map key = get-remove nat_cmp_total map key key ∙ ap (λ t. cond t None (get map key)) (unsigned_tied key key ∙ eq-eqb key key refl)
 
   get-remove_other : (map : FinMap nat_cmp A) (key q : ℕ) → q ≢ key → get (remove map key) q ≡ get map q
   get-remove_other map key q ne = get-remove nat_cmp_total map key q ∙ ap (λ t. cond t None (get map q)) (unsigned_tied q key ∙ ne_eqb q key ne)
 
-  -- ---- how many there are
+  -- ---- the number of entries
 
   pub len-insert_new : (map : FinMap nat_cmp A) (key : ℕ) (a : A) → get map key ≡ None → len (insert map key a) ≡ len map + 1
   len-insert_new map key a none = len-insert nat_cmp_total map key a ∙ ap (λ o. cond (is_some o) (len map) (len map + 1)) none
@@ -46,7 +46,7 @@ module _ {A : Type 0} where
       by true = omega arith
       by false = omega arith
 
-  -- no more than there are places
+  -- there are no more entries than places
   pub len-gathered : (f : ℕ → Option (ℕ × A)) (n : ℕ) → len (gathered f n) ≤ n
   unfolding gathered
   len-gathered f zero = let none = len-empty nat_cmp A in omega (arith, none)
@@ -83,7 +83,7 @@ module _ {A : Type 0} where
   gathered-none f zero none = refl
   gathered-none f (suc n) none = ap (λ o. added o (gathered f n)) (none n (omega arith)) ∙ gathered-none f n (λ i lt. none i (omega arith))
 
-  -- a number that one place has alone is found as it stands there
+  -- a number that only one place has is found with the entry of that place
   pub get-gathered : (f : ℕ → Option (ℕ × A)) (n i key : ℕ) (a : A) → IsOnce f n → i < n → f i ≡ Some (key, a) → get (gathered f n) key ≡ Some a
   unfolding gathered
   get-gathered f zero i key a once lt there = absurd (omega arith)
@@ -96,7 +96,7 @@ module _ {A : Type 0} where
       apart : i ≢ n → (entry : ℕ × A) → f n ≡ Some entry → entry.0 ≢ key
       apart ne entry e same = ne (once i n key a entry.1 lt (omega arith) there (e ∙ ap (λ k. Some (k, entry.1)) same))
 
-  -- what is found stands at a place
+  -- an entry that is found is that of a place
   pub gathered-get : (f : ℕ → Option (ℕ × A)) (n key : ℕ) (a : A) → get (gathered f n) key ≡ Some a → (i : ℕ) × (i < n) × (f i ≡ Some (key, a))
   unfolding gathered
   gathered-get f zero key a is = absurd (none-some a (sym (get-empty nat_cmp key) ∙ is))
@@ -150,7 +150,7 @@ module _ {A : Type 0} where
   own_number : (o : Option (ℕ × A)) (key : ℕ) (a : A) (q : ℕ) → o ≡ Some (key, a) → q ≢ key → (entry : ℕ × A) → o ≡ Some entry → entry.0 ≢ q
   own_number o key a q there ne entry e same = ne (sym same ∙ ap (λ x. x.0) (same_Some _ _ (sym e ∙ there)))
 
-  -- an entry put at a place, where one of another number did not stand
+  -- an entry is put at a place that had no entry of another number
   pub gathered-put : (f g : ℕ → Option (ℕ × A)) (n i key : ℕ) (a : A) → IsOnce g n → i < n → g i ≡ Some (key, a) → ((old : ℕ × A) → f i ≡ Some old → old.0 ≡ key)
       → ((j : ℕ) → j < n → j ≢ i → g j ≡ f j) → gathered g n ≡ insert (gathered f n) key a
   gathered-put f g n i key a once lt there own others =
@@ -168,7 +168,7 @@ module _ {A : Type 0} where
           get-gathered_other f g n i q (λ old e same. ne (sym same ∙ own old e)) (own_number (g i) key a q there ne) others
           ∙ sym (get-insert_other (gathered f n) key a q ne)
 
-  -- an entry taken from a place
+  -- an entry is taken from a place
   pub gathered-drop : (f g : ℕ → Option (ℕ × A)) (n i key : ℕ) (a : A) → IsOnce f n → i < n → f i ≡ Some (key, a) → g i ≡ None
       → ((j : ℕ) → j < n → j ≢ i → g j ≡ f j) → gathered g n ≡ remove (gathered f n) key
   gathered-drop f g n i key a once lt there gone others =

@@ -1,4 +1,4 @@
--- The commands on single granules, over the fields of an RMM.
+-- The fields of an RMM after a command on a single granule.
 use Rattle.std.proofs.Common.{◌≡◌, ◌≢◌, ℕ, ◌<◌, Bool, true, false, List, [], ◌∷◌, length, set, Ok, None, refl, sym, ap, ◌∙◌, subst}
 use Rattle.std.proofs.lemmas.List.{set-get_or}
 use Rattle.page_arena.specs.Page.{page_at, is_free}
@@ -20,7 +20,7 @@ use Rattle.rmi_monitor.proofs.Machines.{length-machine_of, cell_at-machine_of}
 use Rattle.rmi_monitor.proofs.HostMoves.{moved, whole_moved, machine_of-moved, host_cell, cell_of-host}
 use Rattle.rmi_monitor.proofs.Checks.{undelegated_test, delegated_test, not_undelegated, not_delegated, undelegated_state, delegated_state}
 
--- a DELEGATED granule and an UNDELEGATED one are two
+-- a DELEGATED granule and an UNDELEGATED one are different
 pub states_apart : (granules : List Granule) (g h : ℕ) → is_delegated_at granules g ≡ true → is_undelegated_at granules h ≡ true → g ≢ h
 states_apart granules g h delegated undelegated same =
     let differ : Undelegated ≡ Delegated =
@@ -28,7 +28,7 @@ states_apart granules g h delegated undelegated same =
     ∙ delegated_state (granule_at granules g).state delegated in
     cc
 
--- the fields of a monitor
+-- the fields of an RMM
 pub record HasFields (monitor : MonitorView) (fields : Fields) : Type 0 where
   pub view_is : seen_as fields ≡ monitor
   pub whole : IsWhole fields
@@ -52,14 +52,14 @@ module _ (monitor : MonitorView) (fields : Fields) (view_is : seen_as fields ≡
   pub cell_is : (g : ℕ) → g < length monitor.machine → cell_at monitor.machine g ≡ cell_of fields g
   cell_is g h = ap (λ m. cell_at m g) (sym machine_is) ∙ cell_at-machine_of fields g (subst (λ n. g < n) as_many_granules h)
 
-  -- the monitor after a command, by the machine after it
+  -- the RMM after a command, by the machine after it
   pub after_by : (outcome : Outcome) (new : Fields) → new.vmids ≡ fields.vmids → new.aux ≡ fields.aux → new.free ≡ fields.free
       → machine_of new ≡ machine_after_command outcome monitor.machine → seen_as new ≡ after_command outcome monitor
   after_by outcome new vmids aux free made =
       (λ i. record { vmids = vmids i; aux = aux i; machine = made i; free = free i })
       ∙ ap (λ (m : MonitorView). record m { machine = machine_after_command outcome monitor.machine }) view_is
 
-  -- and by its updates
+  -- the RMM after a command, by its updates
   pub after_done : (new : Fields) (updates : List Update) (outcome : Outcome) → outcome ≡ Ok updates → new.vmids ≡ fields.vmids → new.aux ≡ fields.aux → new.free ≡ fields.free
       → machine_of new ≡ machine_after_all updates monitor.machine → seen_as new ≡ after_command outcome monitor
   after_done new updates outcome e vmids aux free made = after_by outcome new vmids aux free (made ∙ ap (λ o. machine_after_command o monitor.machine) (sym e))
@@ -106,14 +106,14 @@ module _ (monitor : MonitorView) (fields : Fields) (view_is : seen_as fields ≡
     pub undelegated_bytes : (granule_at fields.granules g).state ≡ Undelegated → page_at fields.pages g ≡ (seen_in monitor g).cell.bytes
     undelegated_bytes was = sym (ap (λ (c : Cell). c.bytes) (cell_is g taken.inside ∙ cell_of-host fields g (whole.each g) was refl refl))
 
-    -- ---- a granule is moved from one state of the host's to another
+    -- ---- a granule that is UNDELEGATED or DELEGATED, before and after
 
     module _ (state : GranuleState) (page : List ℕ) (was : is_host_state (granule_at fields.granules g).state ≡ true) (is : is_host_state state ≡ true)
         (zero : state ≡ Delegated → page ≡ zero_page) where
       pub whole_after : (new : Fields) → new ≡ moved fields g state page → IsWhole new
       whole_after new e = subst IsWhole (sym e) (whole_moved fields whole g in_granules not_free state page was is zero)
 
-      -- the monitor after a command whose check holds, and which puts that one granule
+      -- the RMM after a command whose check holds, and which puts that one granule
       pub moved_after : (new : Fields) → new ≡ moved fields g state page → (holds : Bool) (cell : Cell) → holds ≡ true → host_cell state page ≡ cell
           → seen_as new ≡ after_command (check holds error_input (Ok (Put g cell ∷ []))) monitor
       unfolding machine_after_all

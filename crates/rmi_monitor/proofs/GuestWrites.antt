@@ -1,4 +1,4 @@
--- A guest's write, over the fields of an RMM: its refusals, and its effect.
+-- The refusals of a guest's write, and the effect of the write on the fields of an RMM.
 use Rattle.std.proofs.Common.{◌≡◌, ℕ, Bool, true, false, List, [], ◌∷◌, Ok, Err, Some, None, refl, sym, ap, ◌∙◌, subst}
 use Rattle.std.specs.Prelude.{not}
 use Rattle.granule_addr.specs.Ipa.{is_protected_at}
@@ -31,7 +31,7 @@ module _ (monitor : MonitorView) (fields : Fields) (view_is : seen_as fields ≡
   abbrev command : Seen → ℕ → Outcome
   command seen number = guest_write seen number ipa offset value
 
-  -- what is written where the walk ends
+  -- the write to the page of the row at which the walk ends
   abbrev written_at : Row → Outcome
   written_at row = with_granule row (λ page. Ok (PutByte page offset value ∷ []))
 

@@ -1,4 +1,4 @@
--- The move of a granule of the host's: it is UNDELEGATED or DELEGATED before and after, and its page may change.
+-- The change of a granule that is UNDELEGATED or DELEGATED before and after, and whose page may change too.
 use Rattle.std.proofs.Common.{◌≡◌, ◌≢◌, ℕ, ◌<◌, Bool, true, false, List, [], length, set, None, refl, sym, ap, ◌∙◌, subst, arith}
 use Rattle.std.specs.Prelude.{◌==◌}
 use Rattle.std.proofs.lemmas.Bool.{eqb-true, eqb-false, ne_eqb}
@@ -29,7 +29,7 @@ moved fields g state page = record fields {
 abbrev pub host_cell : GranuleState → List ℕ → Cell
 host_cell state page = record { state = state; realm = None; bytes = page; descriptor = None }
 
--- a state of the host's is none of a realm's
+-- UNDELEGATED and DELEGATED are no states of a realm's granules
 not_in : (state wanted : GranuleState) → is_host_state wanted ≡ false → is_host_state state ≡ true → state ≡ wanted → ⊥
 not_in state wanted held own is = absurd (true_is_not_false (sym own ∙ ap is_host_state is ∙ held))
   where
@@ -41,7 +41,7 @@ not_rec Undelegated h = refl
 not_rec Delegated h = refl
 not_rec _ h = cc
 
--- the cell of a granule of the host's
+-- the cell of an UNDELEGATED or DELEGATED granule
 pub cell_of-host : (fields : Fields) (g : ℕ) → IsSoundAt fields g → {state : GranuleState} → (granule_at fields.granules g).state ≡ state → is_host_state state ≡ true
     → {page : List ℕ} → page_at fields.pages g ≡ page → cell_of fields g ≡ host_cell state page
 cell_of-host fields g sound {state} at is {page} page_is =

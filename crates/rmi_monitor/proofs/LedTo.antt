@@ -1,4 +1,4 @@
--- The granule that a TABLE or an ASSIGNED row of a realm leads to, which is one of the realm's.
+-- The proof that a TABLE or an ASSIGNED row of a realm leads to a granule of the same realm.
 use Rattle.std.proofs.Common.{◌≡◌, ℕ, ◌<◌, true, false, cond, List, Option, Some, None, refl, sym, ap, ◌∙◌}
 use Rattle.std.specs.Prelude.{option_and_then}
 use Rattle.granule_addr.specs.Ipa.{entry_index}
@@ -55,7 +55,7 @@ module _ (pages : List (List ℕ)) (granules : List Granule) (rd : ℕ) (root : 
       let said = table_said row.state row.ripas row.granule is (rows_said pages root level ipa row at) in
       (said.0, said.1, child_in pages granules rd root level ipa there.0 said.0 row tables inside high there.1 there.2 (table_of-table row is ∙ said.1))
 
-  -- and an ASSIGNED row to one of its pages of data
+  -- an ASSIGNED row leads to one of its pages of data
   pub page_led : is_assigned row ≡ true → (page : ℕ) × (row.granule ≡ Some page) × IsIn granules page InData (Some rd)
   page_led is =
       let there = entry_there in

@@ -1,14 +1,14 @@
--- lists and tests
+-- Lemmas on lists and tests
 pub mod Comparisons
 pub mod Protected
 pub mod Listed
 pub mod Starting
 pub mod Gathered
--- what a command answers and leaves
+-- the answer and the effect of a command
 pub mod Outcomes
 pub mod Refusals
 pub mod Checks
--- what a place says of a realm's RECs, and what these are
+-- the entries of granules among a realm's RECs, and the RECs
 pub mod RecEntries
 pub mod RealmRecs
 -- machines over the fields, and fields that stay

@@ -1,4 +1,4 @@
--- The tables and the IPA granule that a command goes on with, if the IPA granule is protected.
+-- The realm's tables and the IPA granule that a command uses, if the IPA granule is protected.
 use Rattle.std.proofs.Common.{◌≡◌, ℕ, ◌<◌, true, false, cond, Option, Some, None, refl, sym, ap, ◌∙◌, subst}
 use Rattle.std.specs.Prelude.{IfSome, IfNone}
 use Rattle.std.proofs.lemmas.Option.{none-some, same_Some}
@@ -19,7 +19,7 @@ use Rattle.rmi_monitor.proofs.Granules.{HasFields}
 use Rattle.rmi_monitor.proofs.Protected.{protected_inside}
 use Rattle.rmi_monitor.proofs.RealmFound.{row_of, realm_found, descriptor_there}
 
--- what code makes of an IPA granule, by the root that it reads of the realm
+-- the result of the code for an IPA granule, by the realm's root that the code reads
 module _ (realm : RealmAttributes) (ipa : ℕ) (root : Root) (read : root ≡ realm.root) where
   pub unprotected : None ≡ cond (is_protected_at ipa root.width) (Some ipa) None → is_protected_at ipa realm.root.width ≡ false
   unprotected tested = ap (λ (r : Root). is_protected_at ipa r.width) (sym read) ∙ test_failed (is_protected_at ipa root.width) ipa None tested refl
@@ -30,13 +30,13 @@ module _ (realm : RealmAttributes) (ipa : ℕ) (root : Root) (read : root ≡ re
       let held = test_held (is_protected_at ipa root.width) ipa given (Some given) tested refl in
       record { tables = tables; same = held.1; protected = ap (λ (r : Root). is_protected_at ipa r.width) (sym read) ∙ held.0 }
 
--- what is answered where there is none
+-- the answer if there is none
 pub none_located : (Found : Tables × ℕ → Type 0) {None_there : Type 0} (answer : Option (Tables × ℕ)) → answer ≡ None → None_there
     → record { some : IfSome answer Found; none : IfNone answer None_there }
 none_located Found {None_there} answer is there =
     subst (λ (o : Option (Tables × ℕ)). record { some : IfSome o Found; none : IfNone o None_there }) (sym is) (record { some = tt; none = there })
 
--- what a call on the tables asks
+-- the preconditions of a call on the tables
 module _ {realm : RealmAttributes} {rd ipa : ℕ} {at : Tables × ℕ} (there : IsLocated realm rd ipa at) where
   pub located_tables : {fields : Fields} → IsWhole fields → realm_at fields rd ≡ Some realm → HasTables fields.pages fields.granules at.0.rd at.0.root
   located_tables {fields} whole stands =
@@ -47,7 +47,7 @@ module _ {realm : RealmAttributes} {rd ipa : ℕ} {at : Tables × ℕ} (there : 
       subst (λ (t : Tables). at.1 < served_space t.root.width) (sym there.tables)
       (subst (λ n. n < served_space realm.root.width) (sym there.same) (protected_inside realm.root.width ipa there.protected))
 
--- ---- among the fields of a monitor
+-- ---- in the fields of an RMM
 
 -- the realm that a command goes on with
 pub record Stands (fields : Fields) (rd ipa : ℕ) (at : Tables × ℕ) : Type 0 where
@@ -71,7 +71,7 @@ module _ {monitor : MonitorView} {fields : Fields} (kept : HasFields monitor fie
           };
         }
 
-    -- what a call on the tables asks
+    -- the preconditions of a call on the tables
     pub its_tables : HasTables fields.pages fields.granules at.0.rd at.0.root
     its_tables = located_tables stands.located kept.whole stands.there
 

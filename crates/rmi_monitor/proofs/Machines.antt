@@ -1,4 +1,4 @@
--- The machine that fields represent, granule by granule.
+-- The machine that the fields of an RMM represent, granule by granule.
 use Rattle.std.proofs.Common.{◌≡◌, ℕ, ◌<◌, true, false, List, length, set, Option, Some, None, option_map, refl, sym, ap, ◌∙◌, subst, arith}
 use Rattle.std.specs.Prelude.{◌==◌}
 use Rattle.std.proofs.lemmas.Bool.{eqb-true, eqb-false}
@@ -29,7 +29,7 @@ same_machine m n as_many same = ext_get_or blank m n as_many same
 -- ---- fields before and after a command
 
 module _ (old new : Fields) (as_many : length new.granules ≡ length old.granules) where
-  -- a cell after, where it is found in another machine of the same length
+  -- a machine of the same length that has each cell of the new fields is theirs
   is_machine : (machine : Machine) → length machine ≡ length old.granules → ((g : ℕ) → g < length old.granules → cell_of new g ≡ cell_at machine g)
       → machine_of new ≡ machine
   is_machine machine long same =
@@ -79,7 +79,7 @@ module _ (old new : Fields) (as_many : length new.granules ≡ length old.granul
             ∙ sym (get_or-set_other (set (machine_of old) a x) b g y blank differs)
       ] refl)
 
--- a granule's cell stays where its state, its page and its realm do
+-- a granule's cell stays the same if its state, its page and its realm do
 module _ (old new : Fields) (g : ℕ) where
   pub cell_stays : granule_at new.granules g ≡ granule_at old.granules g
       → (((granule_at old.granules g).state ≡ InRtt → ⊥) → page_at new.pages g ≡ page_at old.pages g)
@@ -115,7 +115,7 @@ module _ (old new : Fields) (g : ℕ) where
       same (Some r) = refl
       same None = refl
 
--- the cell of a granule at which no realm stands
+-- the cell of a granule that is no realm's RD
 pub cell_plain : (fields : Fields) (g : ℕ) (granule : Granule) (page : List ℕ) → granule_at fields.granules g ≡ granule → page_at fields.pages g ≡ page → realm_at fields g ≡ None
     → cell_of fields g ≡ record { state = granule.state; realm = granule.realm; bytes = bytes_of granule.state page; descriptor = None }
 cell_plain fields g granule page at page_is none i = record {

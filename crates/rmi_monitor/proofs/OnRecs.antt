@@ -1,4 +1,4 @@
--- An operation on a REC, by whether the REC is there.
+-- An operation on a REC, in the cases that the REC exists and that it does not.
 use Rattle.std.proofs.Common.{◌≡◌, ℕ, true, Option, Some, None, Err, refl, sym, subst}
 use Rattle.std.specs.Prelude.{Result, is_some, option_map, option_and_then}
 use Rattle.std.specs.FinMap.{get}
@@ -43,7 +43,7 @@ nothing_there monitor rd (Exit number) kind ready = no_rec monitor rd number _ r
 nothing_there monitor rd (Poke number ipa offset value) kind ready = no_rec monitor rd number _ ready.is
 nothing_there monitor rd _ kind ready = cc
 
--- ---- it is there
+-- ---- there is such a REC
 
 is_rec_of : (monitor : MonitorView) (rd number granule : ℕ) (realm : RealmRow) (rec : Option RecRow) → (cell_at monitor.machine rd).descriptor ≡ Some realm
     → get realm.recs number ≡ rec → Some granule ≡ option_map (λ (r : RecRow). r.granule) rec → IsRec monitor.machine rd number granule
@@ -65,7 +65,7 @@ is_rec_there monitor rd number granule (Some realm) there is = is_rec_of monitor
 pub is_rec : (monitor : MonitorView) (rd number granule : ℕ) → Some granule ≡ rec_granule (realm_on monitor (Some rd)) number → IsRec monitor.machine rd number granule
 is_rec monitor rd number granule is = is_rec_there monitor rd number granule (cell_at monitor.machine rd).descriptor refl is
 
--- the command on a REC that an act stands for
+-- the command on a REC that performs an operation
 abbrev pub command_of : Act → Seen → ℕ → Outcome
 command_of (UnRec granule auxiliaries n) rd number = rec_destroy rd number
 command_of (Enter n) rd number = rec_enter rd number
@@ -73,7 +73,7 @@ command_of (Exit n) rd number = rec_exit rd number
 command_of (Poke n ipa offset value) rd number = guest_write rd number ipa offset value
 command_of _ rd number = Err error_input
 
--- what the command on the REC does is what comes of the act
+-- the outcome of the command on the REC is that of the operation
 done_on : (old new : MonitorView) (result : Result (Unit {0}) Rmi) (rd number granule : ℕ) (command : Seen → ℕ → Outcome)
     → Some granule ≡ rec_granule (realm_on old (Some rd)) number → IsOnRec command old granule result new → IsDone old (command (seen_in old rd) number) result new
 done_on old new result rd number granule command is on =

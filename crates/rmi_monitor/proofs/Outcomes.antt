@@ -8,7 +8,7 @@ use Rattle.realm_model.specs.Command.Check.{check, error_input, with_realm}
 use Rattle.realm_model.proofs.Outcomes.{check_false}
 use Rattle.rmi_monitor.specs.View.{MonitorView, Answers, after_command}
 
--- what the contract of a command says of its answer, and of the monitor after it
+-- the postcondition of a command: its answer, and the RMM after it
 abbrev pub Says : MonitorView → Outcome → Result (Unit {0}) Rmi → MonitorView → Type 0
 Says monitor outcome result new = record { answer : Answers result outcome; machine : new ≡ after_command outcome monitor }
 
@@ -18,7 +18,7 @@ answers_err A rmi outcome e = subst (λ (o : Outcome). Answers {A = A} (Err rmi)
 pub answers_ok : {A : Type 0} (value : A) (updates : List Update) (outcome : Outcome) → outcome ≡ Ok updates → Answers (Ok value) outcome
 answers_ok value updates outcome e = subst (λ (o : Outcome). Answers (Ok value) o) (sym e) tt
 
--- a refusal that comes of a call's
+-- a refusal whose error is that of a call
 pub answers_refused : {A : Type 0} (answer : Result A Rmi) (rmi : Rmi) (outcome : Outcome) → IsErrAnd answer (λ e. e ≡ rmi) → outcome ≡ Err rmi → Answers answer outcome
 answers_refused (Ok value) rmi outcome said e = absurd said
 answers_refused {A} (Err refusal) rmi outcome said e = answers_err A refusal outcome (e ∙ ap (λ (r : Rmi). Err r) (sym said))
@@ -35,7 +35,7 @@ module _ {monitor : MonitorView} {outcome : Outcome} where
   pub refusal : {rmi : Rmi} → outcome ≡ Err rmi → Says monitor outcome (Err rmi) monitor
   refusal {rmi} e = record { answer = answers_err (Unit {0}) rmi outcome e; machine = after_err monitor rmi outcome e }
 
-  -- also one that comes of a call's
+  -- a refusal whose error is that of a call changes nothing
   pub refusal_of : {rmi : Rmi} (answer : Result (Unit {0}) Rmi) → IsErrAnd answer (λ e. e ≡ rmi) → outcome ≡ Err rmi → Says monitor outcome answer monitor
   refusal_of {rmi} answer said e = record { answer = answers_refused answer rmi outcome said e; machine = after_err monitor rmi outcome e }
 

@@ -1,4 +1,4 @@
--- A page that is read.
+-- The proof that reading a page changes nothing.
 use Rattle.std.proofs.Common.{◌≡◌, ℕ, Bool, true, false, [], cond, Ok, Err, refl}
 use Rattle.realm_model.specs.Update.{machine_after_all}
 use Rattle.realm_model.specs.Command.Check.{check, error_input, is_undelegated}

@@ -1,4 +1,4 @@
--- A machine after many granules are put, one after another.
+-- A machine after several granules are written, one after another.
 use Rattle.std.proofs.Common.{◌≡◌, ◌≢◌, ℕ, ◌<◌, true, false, ◌||◌, List, [], ◌∷◌, ◌++◌, length, map, set, get_or, refl, sym, ap, ◌∙◌, subst}
 use Rattle.std.specs.Prelude.{◌==◌}
 use Rattle.std.proofs.lemmas.Bool.{eqb-true, eqb-false, ne_eqb}
@@ -26,7 +26,7 @@ module _ {X : Type 0} (y : X) where
       let parts = or_parts (k == p) (is_in k places) out in
       set_each_out places (set xs p y) k d parts.1 ∙ get_or-set_other xs p k y d (eqb-false k p parts.0)
 
-  -- those that are
+  -- the places that are set
   pub set_each_in : (places : List ℕ) (xs : List X) (k : ℕ) (d : X) → k < length xs → is_in k places ≡ true → get_or (set_each y places xs) k d ≡ y
   unfolding set_each
   set_each_in [] xs k d within there = cc
@@ -59,14 +59,14 @@ module _ {X : Type 0} (xs : List X) (g : ℕ) (others : List ℕ) (x y d : X) wh
       let parts = or_parts (h == g) (is_in h others) out in
       set_each_out y others (set xs g x) h d parts.1 ∙ get_or-set_other xs g h x d (eqb-false h g parts.0)
 
--- what puts of one cell make of a machine
+-- the machine after puts of one cell, and other updates after these
 pub after_puts : (places : List ℕ) (y : Cell) (updates : List Update) (machine : Machine)
     → machine_after_all (map (λ a. Put a y) places ++ updates) machine ≡ machine_after_all updates (set_each y places machine)
 unfolding machine_after_all set_each
 after_puts [] y updates machine = refl
 after_puts (p ∷ places) y updates machine = after_puts places y updates (set machine p y)
 
--- and where nothing comes after them
+-- the machine after puts of one cell alone
 pub after_each : (places : List ℕ) (y : Cell) (machine : Machine) → machine_after_all (map (λ a. Put a y) places) machine ≡ set_each y places machine
 unfolding machine_after_all set_each
 after_each [] y machine = refl

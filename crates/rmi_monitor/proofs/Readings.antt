@@ -1,4 +1,4 @@
--- Readings of a realm, over the fields of an RMM.
+-- The results of queries of a realm, derived from the fields of an RMM.
 use Rattle.std.proofs.Common.{◌≡◌, ℕ, ◌<◌, length, Option, Some, None, option_map, refl, sym, ap, ◌∙◌, subst}
 use Rattle.page_arena.specs.Page.{page_at}
 use Rattle.realm_model.specs.Machine.{Cell, RealmRow, cell_at}
@@ -13,7 +13,7 @@ use Rattle.rmi_monitor.proofs.Granules.{cell_is}
 use Rattle.rmi_monitor.proofs.RealmFound.{realm_found}
 
 module _ (monitor : MonitorView) (fields : Fields) (view_is : seen_as fields ≡ monitor) (whole : IsWhole fields) (rd : ℕ) (inside : rd < length monitor.machine) where
-  -- the attributes of the realm that stands there
+  -- the attributes of the realm with that RD
   pub attributes_there : realm_at fields rd ≡ option_map attributes_of (cell_at monitor.machine rd).descriptor
   attributes_there =
       same (realm_at fields rd)

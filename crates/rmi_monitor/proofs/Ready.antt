@@ -1,4 +1,4 @@
--- The conditions of an operation that is asked for, by which it can be performed.
+-- The proof that an operation that meets the requirements on its command can be performed.
 use Rattle.std.proofs.Common.{◌≡◌, ℕ, ◌<◌, Bool, List, [], ◌∷◌, length, Option, Some, None, refl, sym, ap, ◌∙◌, subst, arith}
 use Rattle.std.specs.Prelude.{option_map, slice_get}
 use Rattle.std.specs.List.{All}
@@ -29,7 +29,7 @@ use Rattle.rmi_monitor.proofs.OnRecs.{is_rec}
 use Rattle.rmi_monitor.proofs.Forward.{realm_seen}
 
 module _ (limits : Limits) (history : List Event) (world : World) (monitor : MonitorView) (mirror : IsMirror limits history world monitor) (build : ℕ) where
-  -- what a build leases is taken
+  -- a granule that a build leases is taken
   taken : (granule : ℕ) → slice_get world.leases granule ≡ Some (Some build) → IsTaken monitor granule
   taken granule lease =
       let sound = reachable_worlds limits history world mirror.world_is in
@@ -55,7 +55,7 @@ module _ (limits : Limits) (history : List Event) (world : World) (monitor : Mon
       ap (λ (o : Option RecRow). option_map (λ (rec : ℕ × List ℕ). (rec.0, InRec)) (option_map granules_of_rec o)) is.numbered ∙ (λ i. Some (is.is i, InRec)) in
       (sound.names rd is.realm there (AsRec number) granule InRec named_so).2
 
-  -- so it is taken
+  -- the granule of a REC of a leased realm is taken
   rec_taken : (realm : Option Seen) → IsHeld build world.leases realm → (number : ℕ) (rec : Option ℕ)
       → rec ≡ rec_granule (realm_on monitor (option_map (λ (rd : Seen). rd.number) realm)) number → IsTakenAt monitor rec
   rec_taken realm held number None is = tt
@@ -76,7 +76,7 @@ module _ (limits : Limits) (history : List Event) (world : World) (monitor : Mon
   pub realm_taken : IsTakenAt monitor (rd_of build world)
   realm_taken = realm_taken_at (realm_of build world) (IsHeld-realm_of build world)
 
-  -- RECs of a realm are no more than the events of its build
+  -- the number of a realm's next REC is at most that of its build's events
   next_number_at : length (acts_of build history) < 65535 → (realm : Option Seen) → realm_of build world ≡ realm → IsAt world.machine realm
       → HasNextNumber monitor (option_map (λ (rd : Seen). rd.number) realm)
   next_number_at few None is at = tt

@@ -1,4 +1,4 @@
--- A command on one realm that keeps it: the invariant of the others, and of it, still holds.
+-- The proof that a command that changes one realm preserves the invariant of all realms.
 use Rattle.std.proofs.Common.{◌≡◌, ◌≢◌, ℕ, ◌≤◌, Bool, true, false, cond, length, Some, option_map, refl, sym, ap, ◌∙◌, subst, arith}
 use Rattle.std.specs.Prelude.{◌==◌, is_some}
 use Rattle.std.specs.FinMap.{FinMap}
@@ -53,7 +53,7 @@ pub record Changes (old new : Fields) (rd : ℕ) (moved : ℕ → Bool) (realm n
   pub alone : LeavesOthers rd old.pages old.granules new.pages new.granules
   pub recs : LeavesRecs old new rd
 
--- a realm that was there is there still
+-- a realm that existed still exists
 pub still_there : (old new : Fields) (rd : ℕ) (realm now : RealmAttributes) → realm_at old rd ≡ Some realm → realm_at new rd ≡ Some now → Keeps realm now
     → ((g : ℕ) → g ≢ rd → realm_at new g ≡ realm_at old g)
     → (g : ℕ) (r : RealmAttributes) → realm_at old g ≡ Some r → (after : RealmAttributes) × (realm_at new g ≡ Some after) × (r.next ≤ after.next)

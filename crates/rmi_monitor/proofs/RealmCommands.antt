@@ -1,4 +1,4 @@
--- The RMM after a command on a realm, by the effect of its call.
+-- The RMM after a command on a realm, derived from the effect of the call on the realm's tables.
 use Rattle.std.proofs.Common.{◌≡◌, ℕ, ◌<◌, Bool, true, List, [], ◌∷◌, length, set, Option, Some, None, Result, Ok, Err, refl, sym, ap, ◌∙◌, subst, get_or}
 use Rattle.std.specs.Result.{IsErrAnd}
 use Rattle.rtt.specs.Granules.{granule_at, IsIn}
@@ -35,12 +35,12 @@ pub nothing_moved : (fields : Fields) (granules : List Granule) (pages : List (L
     → granules ≡ fields.granules → pages ≡ fields.pages → free ≡ fields.free → realms ≡ fields.realms → with_call fields granules pages free realms ≡ fields
 nothing_moved fields granules pages free realms a b c d i = with_call fields (a i) (b i) (c i) (d i)
 
--- what comes of a command that is done
+-- the RMM after a command that is done
 pub record Done (monitor : MonitorView) (outcome : Outcome) (new : Fields) : Type 0 where
   pub whole : IsWhole new
   pub says : Says monitor outcome (Ok (tt {0})) (seen_as new)
 
--- and of one whose call is refused, which leaves pages and granules as they were
+-- the RMM after a command whose call is refused, which leaves pages and granules as they were
 module _ {fields : Fields} {granules : List Granule} {pages : List (List ℕ)} {free : List Bool} where
   pub whole_refused : IsWhole fields → (pages ≡ fields.pages) × (granules ≡ fields.granules) → free ≡ fields.free → IsWhole (with_call fields granules pages free fields.realms)
   whole_refused whole same flags = subst IsWhole (sym (nothing_moved fields granules pages free fields.realms same.1 same.0 flags refl)) whole
@@ -53,7 +53,7 @@ module _ {fields : Fields} {granules : List Granule} {pages : List (List ℕ)} {
     machine = ap seen_as (nothing_moved fields granules pages free fields.realms same.1 same.0 flags refl) ∙ kept.view_is ∙ after_err monitor rmi outcome e;
   }
 
--- and of one that is refused after the realm's place is written as it was
+-- the RMM after a command that is refused after the realm's place is written unchanged
 module _ {monitor : MonitorView} {fields : Fields} (kept : HasFields monitor fields) (number : ℕ) {x y : Option RealmAttributes}
     (read : x ≡ get_or fields.realms number x) (is : x ≡ y) where
   back : record fields { realms = set fields.realms number y } ≡ fields
@@ -94,7 +94,7 @@ module _ (monitor : MonitorView) (fields : Fields) (view_is : seen_as fields ≡
           subst (λ (rs : List (Option RealmAttributes)). IsWhole (with_now rs)) (sym put)
           (whole_moved_to fields whole rd realm now there keeps granules pages free flags backed tables alone m inside state owner moved was is host zero page_stays)
 
-      -- the monitor after a command that puts that granule and the realm's row
+      -- the RMM after a command that puts that granule and the realm's row
       pub seen_after_move : (outcome : Outcome) (cell : Cell) (row : RealmRow)
           → record { state = state; realm = owner; bytes = bytes_of state (page_at pages m); descriptor = None } ≡ cell
           → realm_row now (recs_of fields.granules fields.recs rd) (rows pages realm.root) ≡ row
@@ -109,7 +109,7 @@ module _ (monitor : MonitorView) (fields : Fields) (view_is : seen_as fields ≡
 
 -- ---- a call that moves a granule to or from a realm
 
--- What it leaves: the granule is in that state, and but for its page and the realm's tables no page is changed.
+-- After the call the granule is in that state, and no page but its own and those of the realm's tables is changed.
 pub record Moves (fields : Fields) (rd : ℕ) (root : Root) (g : ℕ) (to : Granule) (granules : List Granule) (pages : List (List ℕ)) (free : List Bool) : Type 0 where
   pub inside : g < length fields.granules
   pub was : is_moved_state (granule_at fields.granules g).state ≡ true
@@ -120,7 +120,7 @@ pub record Moves (fields : Fields) (rd : ℕ) (root : Root) (g : ℕ) (to : Gran
   pub others : (h : ℕ) → (h ≡ g → ⊥) → (IsTableOf fields.pages root h → ⊥) → page_at pages h ≡ page_at fields.pages h
   pub keeps : KeepsTables rd root fields.pages fields.free fields.granules pages free granules
 
--- so where the granule leaves the realm
+-- the same if the granule leaves the realm
 pub left_by : {fields : Fields} {rd : ℕ} {root : Root} {g : ℕ} {state : GranuleState} {granules : List Granule} {pages : List (List ℕ)} {free : List Bool}
     → IsIn fields.granules g state (Some rd) → is_moved_state state ≡ true → granules ≡ set fields.granules g (record { state = Delegated; realm = None })
     → page_at pages g ≡ zero_page → ((h : ℕ) → (h ≡ g → ⊥) → (IsTableOf fields.pages root h → ⊥) → page_at pages h ≡ page_at fields.pages h)
@@ -160,7 +160,7 @@ module _ {monitor : MonitorView} {fields : Fields} (kept : HasFields monitor fie
     };
   }
 
-  -- and one that leaves the realm's attributes
+  -- a command that puts that granule, and leaves the realm's attributes
   pub rows_done : (outcome : Outcome) {cell : Cell} {translation : Rows}
       → record { state = to.state; realm = to.realm; bytes = bytes_of to.state (page_at pages g); descriptor = None } ≡ cell → rows pages realm.root ≡ translation
       → outcome ≡ Ok (Put g cell ∷ put_realm (seen_in monitor rd) (record (row_of fields rd realm) { rows = translation }) ∷ [])

@@ -1,4 +1,4 @@
--- RMI_REALM_CREATE over the fields of an RMM.
+-- The effect of RMI_REALM_CREATE on the fields of an RMM.
 use Rattle.std.proofs.Common.{◌≡◌, ◌≢◌, ℕ, ◌<◌, Bool, true, false, List, [], ◌∷◌, length, map, set, Some, None, is_some, option_map, refl, sym, ap, ◌∙◌, subst, arith}
 use Rattle.std.specs.Prelude.{◌==◌}
 use Rattle.std.specs.List.{All}
@@ -58,7 +58,7 @@ module _ (old : Fields) (whole : IsWhole old) (rd : ℕ) (root : Root) (rd_insid
   abbrev table_granule : Granule
   table_granule = record { state = InRtt; realm = Some rd }
 
-  -- the granules after the RD is one, and after the starting tables are
+  -- the granules after the RD is moved, and after the starting tables are
   abbrev with_rd : List Granule
   with_rd = set old.granules rd rd_granule
 
@@ -86,7 +86,7 @@ module _ (old : Fields) (whole : IsWhole old) (rd : ℕ) (root : Root) (rd_insid
   with_rd_other : (g : ℕ) → g ≢ rd → granule_at with_rd g ≡ granule_at old.granules g
   with_rd_other g differs = get_or-set_other old.granules rd g rd_granule undelegated differs
 
-  -- what opening the root asks for
+  -- the precondition of creating the starting tables
   pub tables_delegated : All (λ table. IsIn with_rd table Delegated None) tables
   tables_delegated = each_in (λ table. IsIn with_rd table Delegated None) tables (λ table e.
       let start = starts table e in
@@ -181,7 +181,7 @@ module _ (old : Fields) (whole : IsWhole old) (rd : ℕ) (root : Root) (rd_insid
       auxiliary = λ g at. granule_other g (not_delegated InRecAux refl g at);
     }
 
-    -- a realm that was there is another one
+    -- a realm that existed before is another one
     not_new : (g : ℕ) (r : RealmAttributes) → realm_at old g ≡ Some r → g ≢ rd
     not_new g r at e = let differ : None ≡ Some r = sym no_realm_rd ∙ ap (realm_at old) (sym e) ∙ at in cc
 

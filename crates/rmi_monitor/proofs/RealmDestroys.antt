@@ -1,4 +1,4 @@
--- RMI_REALM_DESTROY over the fields of an RMM.
+-- The effect of RMI_REALM_DESTROY on the fields of an RMM.
 use Rattle.std.proofs.Common.{◌≡◌, ◌≢◌, ℕ, ◌<◌, Bool, true, false, List, [], ◌∷◌, length, map, set, Some, None, is_some, refl, sym, ap, ◌∙◌, subst, arith}
 use Rattle.std.specs.Prelude.{◌==◌}
 use Rattle.std.proofs.lemmas.Bool.{eqb-true, eqb-false, ne_eqb}
@@ -119,7 +119,7 @@ module _ (old : Fields) (whole : IsWhole old) (rd : ℕ) (realm : RealmAttribute
       let parts = or_parts (g == rd) (is_in g tables) out in
       get_or-set_other pages_without_tables rd g zero_page [] (eqb-false g rd parts.0) ∙ set_each_out zero_page tables old.pages g [] parts.1
 
-  -- its VMID is not used any more
+  -- the realm's VMID is not used any more
   module _ (used : List Bool) (marked : IsMarked old.used used realm.vmid false) where
     abbrev new : Fields
     new = record old { granules = without_all; pages = pages_without; realms = set old.realms rd None; used = used }

@@ -1,4 +1,4 @@
--- The realm of an RD: as code reads it, and as the machine and a command have it.
+-- The proof that the fields of an RMM and the machine agree on the realm with a given RD.
 use Rattle.std.proofs.Common.{◌≡◌, ℕ, ◌<◌, List, length, set, get_or, Option, Some, None, option_map, Err, refl, sym, ap, ◌∙◌, subst, ⊎_elim}
 use Rattle.std.proofs.lemmas.Bool.{cases_lt}
 use Rattle.std.proofs.lemmas.List.{get_or_past}
@@ -23,20 +23,20 @@ abbrev pub row_of : Fields → ℕ → RealmAttributes → RealmRow
 row_of fields rd realm = realm_row realm (recs_of fields.granules fields.recs rd) (rows fields.pages realm.root)
 
 module _ (monitor : MonitorView) (fields : Fields) (view_is : seen_as fields ≡ monitor) (whole : IsWhole fields) (rd : ℕ) where
-  -- a realm that is there, in the machine
+  -- a realm of the fields is in the machine
   pub descriptor_there : (realm : RealmAttributes) → realm_at fields rd ≡ Some realm → (cell_at monitor.machine rd).descriptor ≡ Some (row_of fields rd realm)
   descriptor_there realm there =
       ap (λ (c : Cell). c.descriptor) (cell_is monitor fields view_is whole rd (in_machine monitor fields view_is whole rd (realm_inside fields whole rd realm there)))
       ∙ ap (option_map (row_of fields rd)) there
 
-  -- and one that the machine has is there
+  -- a realm of the machine is in the fields
   pub realm_found : (row : RealmRow) → (cell_at monitor.machine rd).descriptor ≡ Some row → (realm : RealmAttributes) × (realm_at fields rd ≡ Some realm) × (row_of fields rd realm ≡ row)
   realm_found row e = ⊎_elim
       (λ h. some_map (row_of fields rd) (realm_at fields rd) row (sym (ap (λ (c : Cell). c.descriptor) (cell_is monitor fields view_is whole rd h)) ∙ e))
       (λ h. absurd (none-some row (sym (ap (λ (c : Cell). c.descriptor) (get_or_past monitor.machine rd blank h)) ∙ e)))
       (cases_lt rd (length monitor.machine))
 
-  -- a command goes on with its row
+  -- a command goes on with the realm's row
   pub somewhere : (realm : RealmAttributes) → realm_at fields rd ≡ Some realm → (f : RealmRow → Outcome) → with_realm (seen_in monitor rd) f ≡ f (row_of fields rd realm)
   somewhere realm there f = realm_there (seen_in monitor rd) f (row_of fields rd realm) (descriptor_there realm there)
 
@@ -58,7 +58,7 @@ module _ {monitor : MonitorView} {fields : Fields} (kept : HasFields monitor fie
   pub realm_read : {x y : Option RealmAttributes} → x ≡ get_or fields.realms n x → x ≡ y → realm_at fields rd ≡ y
   realm_read {x} {y} read is = read_at fields.realms n rd None x y same rd_place read is
 
-  -- what stands there after the measurement is extended
+  -- the realm there after its measurement is extended
   pub measured_there : {x now : Option RealmAttributes} → x ≡ get_or fields.realms n x → (event : List ℕ) → now ≡ option_map (measured_by event) x
       → {realm : RealmAttributes} → realm_at fields rd ≡ Some realm → set fields.realms n now ≡ set fields.realms rd (Some (measured_by event realm))
   measured_there {x} read event made there =

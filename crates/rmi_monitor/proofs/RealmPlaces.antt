@@ -1,4 +1,4 @@
--- The index of a realm in the fields of an RMM.
+-- The granule of a realm's RD, which is inside the machine and in the state RD.
 use Rattle.std.proofs.Common.{◌≡◌, ◌≢◌, ℕ, ◌<◌, true, false, length, Some, None, is_some, refl, sym, ap, ◌∙◌, subst}
 use Rattle.rtt.specs.Granules.{granule_at}
 use Rattle.rtt.specs.declared.granule.Granule.{Granule}
@@ -22,10 +22,10 @@ module _ (fields : Fields) (whole : IsWhole fields) (rd : ℕ) (realm : RealmAtt
   pub in_rd : (granule_at fields.granules rd).state ≡ InRd
   in_rd = rd_state (granule_at fields.granules rd).state (sym (whole.each rd).rd ∙ ap is_some there)
 
-  -- a granule that is not in RTT is none of its tables
+  -- a granule that is not in state RTT is none of the realm's tables
   pub no_table : (g : ℕ) → (granule_at fields.granules g).state ≢ InRtt → IsTableOf fields.pages realm.root g → ⊥
   no_table g not_rtt of = not_rtt (ap (λ (x : Granule). x.state) ((whole.tables rd realm there).own.tables of.level of.ipa g of.inside of.at).is)
 
--- no realm stands at a granule that is not in RD
+-- a granule that is not in state RD is no realm's RD
 pub no_realm_there : (fields : Fields) (g : ℕ) → IsSoundAt fields g → is_rd_state (granule_at fields.granules g).state ≡ false → realm_at fields g ≡ None
 no_realm_there fields g sound h = none_from (realm_at fields g) (sound.rd ∙ h)

@@ -1,4 +1,4 @@
--- A realm's RECs, by the granules: the one of a number, and those of no realm.
+-- The RECs of a realm, collected from the granules: the REC with a given number, if any.
 use Rattle.std.proofs.Common.{◌≡◌, ℕ, ◌<◌, true, List, length, get_or, Option, Some, None, refl, sym, ap, ◌∙◌}
 use Rattle.std.specs.FinMap.{get, empty}
 use Rattle.std.proofs.lemmas.Option.{none-some}
@@ -10,7 +10,7 @@ use Rattle.rmi_monitor.proofs.Gathered.{gathered-none, get-gathered, gathered-ge
 use Rattle.rmi_monitor.proofs.RecEntries.{rec_of-none, rec_of-other, rec_of-some, of_other}
 
 module _ (granules : List Granule) (recs : List (Option RecAttributes)) (rd number granule : ℕ) where
-  -- the REC of that number, where no other granule has it
+  -- the REC of that number, if no other granule has it
   pub IsRecAt-there : (rec : RecAttributes) → IsNumbered granules recs rd → granule < length granules → is_of_realm granules rd granule ≡ true
       → get_or recs granule None ≡ Some rec → rec.number ≡ number → IsRecAt granules recs rd number granule
   unfolding recs_of
@@ -24,7 +24,7 @@ module _ (granules : List Granule) (recs : List (Option RecAttributes)) (rd numb
         found = get-gathered (rec_of granules recs rd) (length granules) granule number (rec_row granule rec) numbered inside at;
       }
 
--- and a number that no granule has is not found
+-- a number that no granule has is not found
 pub recs_of-without : (granules : List Granule) (recs : List (Option RecAttributes)) (rd number : ℕ)
     → ((granule : ℕ) → granule < length granules → (row : RecRow) → rec_of granules recs rd granule ≡ Some (number, row) → ⊥)
     → get (recs_of granules recs rd) number ≡ None
@@ -32,7 +32,7 @@ unfolding recs_of
 recs_of-without granules recs rd number out = gathered-get-none (rec_of granules recs rd) (length granules) number (λ granule row lt at. out granule lt row at)
 
 module _ (fields : Fields) (whole : IsWhole fields) (rd : ℕ) where
-  -- where there is no realm, it has no REC
+  -- if there is no such realm, it has no REC
   pub recs_of-none : realm_at fields rd ≡ None → recs_of fields.granules fields.recs rd ≡ empty
   unfolding recs_of
   recs_of-none none = gathered-none (rec_of fields.granules fields.recs rd) (length fields.granules) (λ g inside. at g)

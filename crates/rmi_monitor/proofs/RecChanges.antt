@@ -1,5 +1,4 @@
--- The change of a REC that keeps its number and its auxiliaries: the machine has another row of it, and nothing else
--- changes.
+-- The change of a REC that keeps its number and its auxiliaries: only the REC's row in the machine changes.
 use Rattle.std.proofs.Common.{◌≡◌, ◌≢◌, ℕ, ◌<◌, false, List, [], ◌∷◌, length, set, get_or, Ok, Option, Some, None, option_map, refl, sym, ap, ◌∙◌, subst, ⊎_elim}
 use Rattle.std.specs.Prelude.{is_some, slice_get, if◌then◌else◌}
 use Rattle.std.specs.FinMap.{insert, len}
@@ -40,7 +39,7 @@ module _ (old : Fields) (whole : IsWhole old) (granule : ℕ) (rec : RecAttribut
   elsewhere : (g : ℕ) → g ≢ granule → rec_at new g ≡ rec_at old g
   elsewhere g differs = get_or-set_other old.recs granule g (Some now) None differs
 
-  -- a REC that is there was there, with that number and those auxiliaries
+  -- a REC that exists existed before, with that number and those auxiliaries
   record Was (g : ℕ) (other : RecAttributes) : Type 0 where
     before : RecAttributes
     at : rec_at old g ≡ Some before
@@ -99,7 +98,7 @@ module _ (old : Fields) (whole : IsWhole old) (granule : ℕ) (rec : RecAttribut
   place_elsewhere : (of g : ℕ) → g ≢ granule → rec_of new.granules new.recs of g ≡ rec_of old.granules old.recs of g
   place_elsewhere of g ne = ap (λ o. if is_of_realm old.granules of g then option_map (λ r. (r.number, rec_row g r)) o else None) (elsewhere g ne)
 
-  -- the RECs of another realm stay
+  -- the RECs of another realm stay the same
   others_recs : (other : ℕ) → other ≢ rd → recs_of new.granules new.recs other ≡ recs_of old.granules old.recs other
   unfolding recs_of
   others_recs other differs =
@@ -114,7 +113,7 @@ module _ (old : Fields) (whole : IsWhole old) (granule : ℕ) (rec : RecAttribut
           let e : is_of_realm old.granules other g ≡ false = ap (is_of_realm old.granules other) s ∙ not_of in
           rec_of-other new.granules new.recs other g e ∙ sym (rec_of-other old.granules old.recs other g e)
 
-  -- those of its own have the other row
+  -- the RECs of the REC's own realm have the other row
   own_recs : recs_of new.granules new.recs rd ≡ insert (recs_of old.granules old.recs rd) rec.number (rec_row granule now)
   unfolding recs_of
   own_recs =
@@ -124,7 +123,7 @@ module _ (old : Fields) (whole : IsWhole old) (granule : ℕ) (rec : RecAttribut
       (λ before e. sym (rec_of-number old.granules old.recs rd granule rec before.0 before.1 kept.at e))
       (λ g lt ne. place_elsewhere rd g ne)
 
-  -- as many as before
+  -- each realm has as many RECs as before
   counts : (r : ℕ) → len (recs_of new.granules new.recs r) ≡ len (recs_of old.granules old.recs r)
   counts r = ⊎_elim
       (λ (s : r ≡ rd).
@@ -164,7 +163,7 @@ module _ (old : Fields) (whole : IsWhole old) (granule : ℕ) (rec : RecAttribut
           ap (option_map (λ (r : RealmAttributes). realm_row r (recs_of new.granules new.recs rd) (rows old.pages r.root))) kept.there
           ∙ ap (λ recs. Some (realm_row realm recs (rows old.pages realm.root))) own_recs
 
-  -- ---- the monitor
+  -- ---- the RMM
 
   module _ (recs : List (Option RecAttributes)) (made : recs ≡ set old.recs granule (Some now)) where
     pub whole_recs : IsWhole (with_recs old recs)
@@ -173,7 +172,7 @@ module _ (old : Fields) (whole : IsWhole old) (granule : ℕ) (rec : RecAttribut
     abbrev row : RealmRow
     row = row_of old rd realm
 
-    -- as after the command that puts the row
+    -- the RMM is as after the command that puts the row
     pub rec_put : (monitor : MonitorView) → seen_as old ≡ monitor → seen_as (with_recs old recs)
         ≡ after_command (Ok (put_rec (seen_in monitor rd) (row_of old rd realm) rec.number (rec_row granule now) ∷ [])) monitor
     unfolding machine_after_all
@@ -185,7 +184,7 @@ module _ (old : Fields) (whole : IsWhole old) (granule : ℕ) (rec : RecAttribut
         (sym (cell_is monitor old view_is whole rd (in_machine monitor old view_is whole rd (realm_inside old whole rd realm kept.there))))
         ∙ ap (λ m. set m rd (record (seen_in monitor rd).cell { descriptor = Some (record row { recs = insert row.recs rec.number (rec_row granule now) }) })) (machine_is monitor old view_is whole))
 
--- the REC's place is written as it was
+-- the REC's place is written unchanged
 pub whole_rec_unmoved : (fields : Fields) → IsWhole fields → (number : ℕ) (x y : Option RecAttributes) → x ≡ get_or fields.recs number x → x ≡ y
     → IsWhole (with_recs fields (set fields.recs number y))
 whole_rec_unmoved fields whole number x y read is =

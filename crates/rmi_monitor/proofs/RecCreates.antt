@@ -1,4 +1,4 @@
--- RMI_REC_CREATE over the fields of an RMM: its checks, and its effect.
+-- The checks of RMI_REC_CREATE, and the effect of the command on the fields of an RMM.
 use Rattle.std.proofs.Common.{◌≡◌, ℕ, suc, ◌+◌, ◌<◌, Bool, true, false, ◌&&◌, List, [], ◌∷◌, ◌++◌, length, map, set, get_or, All, Option, Some, None, Ok, Err, refl, sym, ap, ◌∙◌, subst}
 use Rattle.std.specs.Prelude.{◌==◌}
 use Rattle.std.specs.Prelude.{IsTrue}
@@ -61,7 +61,7 @@ module _ (monitor : MonitorView) where
   delegated_seen granules (x ∷ xs) same =
       λ i. same x (is_in_head x xs) i && delegated_seen granules xs (λ y e. same y (is_in_more y x xs e)) i
 
--- what the command is given: granules that are taken, and a number for the REC
+-- the preconditions of the command: the granules are taken, and there is a number for the REC
 abbrev pub AreGiven : MonitorView → ℕ → ℕ → List ℕ → Type 0
 AreGiven monitor rd g others = record {
   rd_taken : IsTaken monitor rd;
@@ -86,7 +86,7 @@ module _ {monitor : MonitorView} {fields : Fields} (has : HasFields monitor fiel
   pub inside_by : {list : List ℕ} → list ≡ others → All (λ h. h < length fields.granules) list
   inside_by {list} same = subst (λ l. All (λ h. h < length fields.granules) l) (sym same) others_inside
 
-  -- what a call answers of them
+  -- the answer of a call that checks the granules
   pub fit_by : {list : List ℕ} {answer wanted : Bool} → list ≡ others → answer ≡ are_fit_for_rec fields.granules g list fields.aux → answer ≡ wanted → fit ≡ wanted
   fit_by same e is = ap (λ l. are_fit_for_rec fields.granules g l fields.aux) (sym same) ∙ sym e ∙ is
 
@@ -213,7 +213,7 @@ more_by numbered raised events measured = measured ∙ (λ i. record (raised i) 
 abbrev fields_with : Fields → List Granule → List (Option RealmAttributes) → List ℕ → List (Option RecAttributes) → Fields
 fields_with fields granules realms rec_counts recs = record fields { granules = granules; realms = realms; rec_counts = rec_counts; recs = recs }
 
--- what comes of the command where it is done, with the number that it answers
+-- the RMM after a command that is done, and the number that it returns
 pub record Created (monitor : MonitorView) (rd g : ℕ) (others : List ℕ) (number : ℕ) (new : Fields) : Type 0 where
   pub whole : IsWhole new
   pub says : record {

@@ -1,4 +1,4 @@
--- RMI_REC_DESTROY over the fields of an RMM: its checks, and its effect.
+-- The checks of RMI_REC_DESTROY, and the effect of the command on the fields of an RMM.
 use Rattle.std.proofs.Common.{◌≡◌, ℕ, ◌-◌, ◌<◌, Bool, true, false, List, [], ◌∷◌, ◌++◌, map, set, get_or, All, IsTrue, Option, Some, None, Ok, Err, refl, sym, ap, ◌∙◌, subst}
 use Rattle.std.specs.FinMap.{remove}
 use Rattle.std.proofs.lemmas.List.{length-set, get_or-set_other}
@@ -39,7 +39,7 @@ module _ (fields : Fields) (whole : IsWhole fields) (g : ℕ) (rec : RecAttribut
   rec_kept : IsKept fields g rec rd realm
   rec_kept = kept_at fields whole g rec at
 
-  -- what calls that clear and move its granules require
+  -- the preconditions of the calls that clear and move the REC's granules
   pub rec_stands : IsInState fields.granules InRec g
   rec_stands = record { inside = rec_inside fields whole g rec at; is = in_rec fields g (whole.each g) rec at }
 

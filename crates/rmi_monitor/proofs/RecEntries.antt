@@ -1,4 +1,4 @@
--- The entry of one granule among a realm's RECs, and that no two have one number.
+-- The entry of one granule among a realm's RECs, and the proof that a realm's RECs have distinct numbers.
 use Rattle.std.proofs.Common.{◌≡◌, ◌≢◌, ℕ, true, false, List, get_or, Option, Some, None, option_map, refl, sym, ap, ◌∙◌, Bool, cond}
 use Rattle.std.specs.Prelude.{nat_eq}
 use Rattle.std.specs.Option.{option_eq}
@@ -32,7 +32,7 @@ pub is_of_realm-test : (granules : List Granule) (rd number granule : ℕ) (real
 is_of_realm-test granules rd number granule realm test answer same realm_is test_is is =
     ap (is_of_realm granules rd) (sym same) ∙ ap (λ r. option_eq nat_eq r (Some rd)) (sym realm_is) ∙ sym test_is ∙ is
 
--- the REC that an entry tells of
+-- the REC of an entry
 pub record IsEntry (granules : List Granule) (recs : List (Option RecAttributes)) (rd granule number : ℕ) (row : RecRow) : Type 0 where
   pub of : (granule_at granules granule).realm ≡ Some rd
   pub rec : RecAttributes
@@ -52,7 +52,7 @@ module _ (granules : List Granule) (rd granule : ℕ) where
       record { of = realm_of granules rd granule parts.0; rec = found.0; at = found.1; numbered = ap (λ x. x.0) found.2; is = ap (λ x. x.1) found.2 }
 
 module _ (granules : List Granule) (recs : List (Option RecAttributes)) (rd granule : ℕ) where
-  -- no REC
+  -- a granule without a REC
   pub rec_of-none : get_or recs granule None ≡ None → rec_of granules recs rd granule ≡ None
   rec_of-none none = rw none (neither (is_of_realm granules rd granule))
     where
@@ -60,16 +60,16 @@ module _ (granules : List Granule) (recs : List (Option RecAttributes)) (rd gran
       neither true = refl
       neither false = refl
 
-  -- none of the realm
+  -- a granule that is not the realm's
   pub rec_of-other : is_of_realm granules rd granule ≡ false → rec_of granules recs rd granule ≡ None
   rec_of-other other = rw other
 
-  -- one of the realm
+  -- a REC of the realm
   pub rec_of-some : (rec : RecAttributes) → is_of_realm granules rd granule ≡ true → get_or recs granule None ≡ Some rec
       → rec_of granules recs rd granule ≡ Some (rec.number, rec_row granule rec)
   rec_of-some rec of there = rw (of, there)
 
-  -- and its number
+  -- the number of a REC of the realm
   pub rec_of-number : (rec : RecAttributes) (number : ℕ) (row : RecRow) → get_or recs granule None ≡ Some rec
       → rec_of granules recs rd granule ≡ Some (number, row) → rec.number ≡ number
   rec_of-number rec number row there is =

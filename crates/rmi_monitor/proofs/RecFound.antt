@@ -1,4 +1,4 @@
--- The REC that a granule is: its realm and its number, in the fields of an RMM and in its machine.
+-- The REC in a granule: its realm and its number, in the fields of an RMM and in the machine.
 use Rattle.std.proofs.Common.{◌≡◌, ℕ, ◌<◌, length, Some, None, Result, Err, refl, sym, ap, ◌∙◌, subst}
 use Rattle.std.specs.FinMap.{get}
 use Rattle.std.proofs.lemmas.Option.{same_Some, none-some}
@@ -16,7 +16,7 @@ use Rattle.rmi_monitor.proofs.RealmFound.{row_of, descriptor_there, somewhere, r
 use Rattle.rmi_monitor.proofs.Listed.{some_inside}
 use Rattle.rmi_monitor.proofs.RecEntries.{rec_of-some, IsEntry, entry_at, numbered_recs, of_realm}
 
--- A granule is a REC, and belongs to a realm that is there.
+-- A granule is a REC, and belongs to a realm that exists.
 pub record IsKept (fields : Fields) (granule : ℕ) (rec : RecAttributes) (rd : ℕ) (realm : RealmAttributes) : Type 0 where
   pub at : rec_at fields granule ≡ Some rec
   pub of : (granule_at fields.granules granule).realm ≡ Some rd
@@ -28,11 +28,11 @@ module _ (fields : Fields) (whole : IsWhole fields) where
   pub rec_inside : (granule : ℕ) (rec : RecAttributes) → rec_at fields granule ≡ Some rec → granule < length fields.granules
   rec_inside granule rec e = subst (λ n. granule < n) whole.rec_places (some_inside fields.recs granule rec e)
 
-  -- a REC has a realm, which is there
+  -- a REC has a realm, which exists
   pub kept_at : (granule : ℕ) (rec : RecAttributes) (at : rec_at fields granule ≡ Some rec) → IsKept fields granule rec (whole.recs.of granule rec at).rd (whole.recs.of granule rec at).realm
   kept_at granule rec at = let is = whole.recs.of granule rec at in record { at = at; of = is.of; there = is.there }
 
-  -- and its realm has it by its number
+  -- a REC's realm has the REC, by its number
   pub row_found : (granule : ℕ) (rec : RecAttributes) (rd : ℕ) (realm : RealmAttributes) → IsKept fields granule rec rd realm
       → get (recs_of fields.granules fields.recs rd) rec.number ≡ Some (rec_row granule rec)
   unfolding recs_of
@@ -43,7 +43,7 @@ module _ (fields : Fields) (whole : IsWhole fields) where
 -- ---- the fields and the machine
 
 module _ (monitor : MonitorView) (fields : Fields) (view_is : seen_as fields ≡ monitor) (whole : IsWhole fields) where
-  -- What the machine has as a REC the fields have, with that number.
+  -- Each REC of the machine is in the fields, with that number.
   pub rec_found : (rd number granule : ℕ) → IsRec monitor.machine rd number granule → (rec : RecAttributes) × (realm : RealmAttributes) × IsKept fields granule rec rd realm × (rec.number ≡ number)
   unfolding recs_of
   rec_found rd number granule is =
@@ -61,17 +61,17 @@ module _ (monitor : MonitorView) (fields : Fields) (view_is : seen_as fields ≡
         place.numbered,
       )
 
-  -- what a command on a REC goes on with
+  -- a command on a REC goes on with the REC's row
   pub outcome_there : (granule : ℕ) (rec : RecAttributes) (rd : ℕ) (realm : RealmAttributes) → IsKept fields granule rec rd realm → (f : RealmRow → RecRow → Outcome)
       → with_realm (seen_in monitor rd) (λ row. with_rec row rec.number (f row)) ≡ f (row_of fields rd realm) (rec_row granule rec)
   outcome_there granule rec rd realm kept f =
       somewhere monitor fields view_is whole rd realm kept.there (λ row. with_rec row rec.number (f row))
       ∙ rec_there (row_of fields rd realm) rec.number (f (row_of fields rd realm)) (rec_row granule rec) (row_found fields whole granule rec rd realm kept)
 
-  -- ---- what comes of a command on a REC
+  -- ---- the outcome of a command on a REC
 
   module _ (command : Seen → ℕ → Outcome) (granule : ℕ) where
-    -- on a granule that is no REC
+    -- the outcome on a granule that is no REC
     pub on_none : {A : Type 0} (new : MonitorView) → rec_at fields granule ≡ None → new ≡ monitor → IsOnRec {A = A} command monitor granule (Err error_input) new
     on_none new gone same = record {
       answer = λ rd number is. absurd (not_there rd number is);
@@ -83,7 +83,7 @@ module _ (monitor : MonitorView) (fields : Fields) (view_is : seen_as fields ≡
         not_there rd number is = let found = rec_found rd number granule is in none-some found.0 (sym gone ∙ found.2.at)
 
     module _ (rec : RecAttributes) (rd : ℕ) (realm : RealmAttributes) (kept : IsKept fields granule rec rd realm) where
-      -- the one realm and the one number
+      -- a granule is the REC of one realm and one number only
       same_command : (other number : ℕ) → IsRec monitor.machine other number granule → command (seen_in monitor rd) rec.number ≡ command (seen_in monitor other) number
       same_command other number is =
           let found = rec_found other number granule is in

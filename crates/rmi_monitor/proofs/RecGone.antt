@@ -40,7 +40,7 @@ module _ (old : Fields) (whole : IsWhole old) (rd g : ℕ) (rec : RecAttributes)
   abbrev new : Fields
   new = gone old rd g others
 
-  -- ---- where they are before
+  -- ---- the REC's granules before the command
 
   pub aux_is : (h : ℕ) → is_in h others ≡ true → IsIn old.granules h InRecAux (granule_at old.granules g).realm
   aux_is h e = let found = index_of others h e in whole.recs.auxiliaries g rec found.0 h is.at found.1
@@ -54,7 +54,7 @@ module _ (old : Fields) (whole : IsWhole old) (rd g : ℕ) (rec : RecAttributes)
   pub not_own : (h : ℕ) → is_in h others ≡ true → h ≢ g
   not_own h e same = true_false _ (subst (λ k. is_in k others ≡ true) same e) own
 
-  -- what holds of the REC's granule and of its auxiliaries
+  -- a property of the REC's granule and of each auxiliary is one of all these granules
   both : (P : ℕ → Type 0) → P g → ((h : ℕ) → is_in h others ≡ true → P h) → (h : ℕ) → is_in h (g ∷ others) ≡ true → P h
   both P own_case aux_case h e = either (h == g) (is_in h others) e (λ same. subst P (sym (eqb-true h g same)) own_case) (aux_case h)
 
@@ -73,7 +73,7 @@ module _ (old : Fields) (whole : IsWhole old) (rd g : ℕ) (rec : RecAttributes)
       both (λ h. is_free old.free h ≡ false) (taken_as g InRec (rec_inside old whole g rec is.at) (in_rec old g (whole.each g) rec is.at) (λ e. cc))
       (λ h e. taken_as h InRecAux (aux_is h e).inside (aux_state h e) (λ k. cc))
 
-  -- ---- after
+  -- ---- the REC's granules after the command
 
   abbrev pub going : RecMove old
   going = record {

@@ -49,7 +49,7 @@ module _ (old : Fields) (whole : IsWhole old) (rd g : ℕ) (rec : RecAttributes)
   old_realm : (h : ℕ) (other : RecAttributes) → rec_at new h ≡ Some other → (granule_at new.granules h).realm ≡ (granule_at old.granules h).realm
   old_realm h other e = ap (λ (x : Granule). x.realm) (granule_out old whole move h (old_out h other e))
 
-  -- its auxiliaries are not those of the REC that is removed
+  -- the auxiliaries of a REC that is left are not those of the REC that is removed
   aux_out : (h : ℕ) (other : RecAttributes) (i a : ℕ) → rec_at new h ≡ Some other → slice_get other.auxiliaries i ≡ Some a → is_in a (g ∷ others) ≡ false
   aux_out h other i a e listed =
       let at = was_old h other e in
@@ -90,7 +90,7 @@ module _ (old : Fields) (whole : IsWhole old) (rd g : ℕ) (rec : RecAttributes)
       (rec_of-none new.granules new.recs rd g (rec_first old whole move))
       (λ h lt apart. rec_of_stays old whole move rd h apart)
 
-  -- and the other realms had none at its granule
+  -- the other realms had no REC at its granule
   elsewhere : (r : ℕ) → r ≢ rd → rec_of new.granules new.recs r g ≡ rec_of old.granules old.recs r g
   elsewhere r apart =
       rec_of-none new.granules new.recs r g (rec_first old whole move)

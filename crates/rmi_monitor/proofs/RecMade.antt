@@ -34,7 +34,7 @@ made old rd g others realm = record old {
   recs = set old.recs g (Some (new_rec realm.next others));
 }
 
--- what a command that makes a REC finds
+-- the conditions that a command has checked before it makes a REC
 pub record CanMake (old : Fields) (rd g : ℕ) (others : List ℕ) (realm : RealmAttributes) : Type 0 where
   pub inside : (h : ℕ) → is_in h (g ∷ others) ≡ true → h < length old.granules
   pub there : realm_at old rd ≡ Some realm
@@ -75,7 +75,7 @@ module _ (old : Fields) (whole : IsWhole old) (rd g : ℕ) (others : List ℕ) (
   abbrev new : Fields
   new = made old rd g others realm
 
-  -- a DELEGATED granule is no REC, and zero
+  -- a DELEGATED granule is no REC, and is zero
   pub was_none : (h : ℕ) → is_in h (g ∷ others) ≡ true → rec_at old h ≡ None
   was_none h e = none_from (rec_at old h) ((whole.each h).rec ∙ ap is_rec_state (can.delegated h e))
 

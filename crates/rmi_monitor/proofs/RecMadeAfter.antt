@@ -1,4 +1,4 @@
--- The state after a new REC: the RECs keep their invariant, and the machine is as the command says.
+-- The state after the creation of a REC: the RECs keep their invariant, and the machine is as the command says.
 use Rattle.std.proofs.Common.{◌≡◌, ◌≢◌, ℕ, ◌+◌, ◌<◌, true, false, List, [], ◌∷◌, ◌++◌, length, map, Some, None, refl, sym, ap, ◌∙◌, subst, arith}
 use Rattle.std.specs.Prelude.{◌==◌, slice_get}
 use Rattle.std.specs.FinMap.{get, insert, len}
@@ -129,7 +129,7 @@ module _ (old : Fields) (whole : IsWhole old) (rd g : ℕ) (others : List ℕ) (
   listed_new : (h : ℕ) (rec : RecAttributes) (i a : ℕ) → h ≡ g → rec_at new h ≡ Some rec → slice_get rec.auxiliaries i ≡ Some a → slice_get others i ≡ Some a
   listed_new h rec i a same e listed = subst (λ (x : RecAttributes). slice_get x.auxiliaries i ≡ Some a) (sym (is_new h rec same e)) listed
 
-  -- what is an auxiliary already is not moved
+  -- a granule that is an auxiliary already is not moved
   aux_out : (h : ℕ) (rec : RecAttributes) (i a : ℕ) → rec_at old h ≡ Some rec → slice_get rec.auxiliaries i ≡ Some a → is_in a (g ∷ others) ≡ false
   aux_out h rec i a at listed = false_from _ (λ there.
       let clash : Delegated ≡ InRecAux = sym (can.delegated a there) ∙ ap (λ (x : Granule). x.state) (whole.recs.auxiliaries h rec i a at listed).is in cc)
@@ -192,7 +192,7 @@ module _ (old : Fields) (whole : IsWhole old) (rd g : ℕ) (others : List ℕ) (
       (λ h lt differs. rec_of_stays old whole move rd h differs)
       ∙ ap (λ n. insert (gathered (rec_of old.granules old.recs rd) n) realm.next (rec_row g (new_rec realm.next others))) (granule_count old whole move)
 
-  -- and the other realms have none at its granule
+  -- the other realms have no REC at its granule
   elsewhere : (r : ℕ) → r ≢ rd → rec_of new.granules new.recs r g ≡ rec_of old.granules old.recs r g
   elsewhere r differs =
       rec_of-other new.granules new.recs r g (of_other new.granules r g rd g_realm (λ e. differs (sym e)))

@@ -1,4 +1,4 @@
--- The moves of a REC's granules at its creation or removal, with other attributes of the realm.
+-- The changes of a REC's granules and of the realm's attributes, when the REC is created or destroyed.
 use Rattle.std.proofs.Common.{◌≡◌, ◌≢◌, ℕ, ◌<◌, Bool, true, false, cond, List, ◌∷◌, length, set, get_or, Option, Some, None, option_map, refl, sym, ap, ◌∙◌, subst}
 use Rattle.std.specs.Prelude.{◌==◌, nat_eq}
 use Rattle.std.specs.Option.{option_eq}
@@ -28,7 +28,7 @@ use Rattle.rmi_monitor.proofs.RealmAfter.{Keeps, Changes}
 use Rattle.rmi_monitor.proofs.RealmPlaces.{realm_inside, in_rd}
 use Rattle.rmi_monitor.proofs.RecEntries.{rec_of-none}
 
--- the states of what is moved
+-- the states of the granules that are moved
 abbrev pub is_moved_state : GranuleState → Bool
 is_moved_state Delegated = true
 is_moved_state InRec = true
@@ -80,7 +80,7 @@ module _ (old : Fields) (whole : IsWhole old) (move : RecMove old) where
   abbrev moved : ℕ → Bool
   moved g = is_in g (move.granule ∷ move.auxiliaries)
 
-  -- ---- what stands at granules after
+  -- ---- the granules after the command
 
   pub granule_count : length new.granules ≡ length old.granules
   granule_count = length-put_all old.granules move.granule move.auxiliaries move.first move.rest undelegated
@@ -110,7 +110,7 @@ module _ (old : Fields) (whole : IsWhole old) (move : RecMove old) where
   pub count_out : (g : ℕ) → g ≢ rd → rec_count_at new g ≡ rec_count_at old g
   count_out g differs = get_or-set_other old.rec_counts rd g move.count 0 differs
 
-  -- ---- what is moved is no RD, and no auxiliary is a REC
+  -- ---- no granule that is moved is an RD, and no auxiliary is a REC
 
   not_rd : (g : ℕ) → moved g ≡ true → is_rd_state (granule_at old.granules g).state ≡ false
   not_rd g e = other (granule_at old.granules g).state (move.states g e)
@@ -135,7 +135,7 @@ module _ (old : Fields) (whole : IsWhole old) (move : RecMove old) where
 
   -- ---- the RECs of realms
 
-  -- what stands at another granule makes the same entry
+  -- another granule makes the same entry
   pub rec_of_stays : (r g : ℕ) → g ≢ move.granule → rec_of new.granules new.recs r g ≡ rec_of old.granules old.recs r g
   rec_of_stays r g differs = elim (is_in g move.auxiliaries) as (λ t. is_in g move.auxiliaries ≡ t → rec_of new.granules new.recs r g ≡ rec_of old.granules old.recs r g) [
     | true ↦ λ e.
@@ -149,7 +149,7 @@ module _ (old : Fields) (whole : IsWhole old) (move : RecMove old) where
       at_place : ℕ → ℕ → Granule → Option RecAttributes → Option (ℕ × RecRow)
       at_place r g x o = cond (option_eq nat_eq x.realm (Some r)) (option_map (λ rec. (rec.number, rec_row g rec)) o) None
 
-  -- a realm whose entry at the REC's granule stays has the same
+  -- a realm whose entry at the REC's granule stays has the same RECs
   pub recs_of_stays : (r : ℕ) → rec_of new.granules new.recs r move.granule ≡ rec_of old.granules old.recs r move.granule
       → recs_of new.granules new.recs r ≡ recs_of old.granules old.recs r
   unfolding recs_of
@@ -205,7 +205,7 @@ module _ (old : Fields) (whole : IsWhole old) (move : RecMove old) where
     recs = recs;
   }
 
--- a granule that has no realm at it and a page of zeros
+-- the cell of a granule that is no RD and has a page of zeros
 pub zero_cell : (fields : Fields) (g : ℕ) (granule : Granule) → granule_at fields.granules g ≡ granule → page_at fields.pages g ≡ zero_page → realm_at fields g ≡ None
     → cell_of fields g ≡ record { state = granule.state; realm = granule.realm; bytes = zero_page; descriptor = None }
 zero_cell fields g granule at page none =

@@ -1,4 +1,4 @@
--- The search of the machine for the REC that a granule is: its result is one, and without a result there is none.
+-- The proof that the search of the machine for the REC in a granule finds the REC exactly if there is one.
 use Rattle.std.proofs.Common.{◌≡◌, ℕ, ◌+◌, zero, suc, ◌<◌, ◌≤◌, Bool, true, false, cond, List, [], ◌∷◌, length, Option, Some, None, option_map, refl, sym, ap, ◌∙◌, arith, ◌⊎◌, inl, inr, ⊎_elim}
 use Rattle.std.specs.Prelude.{◌==◌, ◌||◌, is_some, option_and_then}
 use Rattle.std.specs.List.{find, list_any, range_with_len}
@@ -13,7 +13,7 @@ use Rattle.rmi_monitor.specs.View.{IsRec}
 use Rattle.rmi_monitor.specs.Named.{is_rec_at, numbers_in, number_in, rec_named}
 use Rattle.rmi_monitor.proofs.Comparisons.{some_map}
 
--- ---- what a search says
+-- ---- the result of a search
 
 true-false : true ≡ false → ⊥
 true-false e = cc
@@ -87,7 +87,7 @@ module _ (machine : Machine) (granule rd number : ℕ) where
   inside : IsRec machine rd number granule → rd < length machine
   inside is = ⊎_elim (λ h. h) (λ h. absurd (none-some is.realm (sym (ap (λ (c : Cell). c.descriptor) (get_or_past machine rd blank h)) ∙ is.there))) (cases_lt rd (length machine))
 
-  -- what is found is a REC
+  -- the result of the search is the granule's REC
   pub named_some : rec_named machine granule ≡ Some (rd, number) → IsRec machine rd number granule
   unfolding rec_named number_in
   named_some e = by (find (λ r. is_some (number_in machine granule r)) (range_with_len 0 (length machine))) e
@@ -100,7 +100,7 @@ module _ (machine : Machine) (granule rd number : ℕ) where
           tested (sym (λ i. is_rec_at machine granule (realm i) (same i)) ∙ find_some (is_rec_at machine granule r) (numbers_in machine r) found.0 found.1)
       by None is = cc
 
--- and a REC is found
+-- if the search finds none, the granule is no REC
 pub named_none : (machine : Machine) (granule : ℕ) → rec_named machine granule ≡ None → (rd number : ℕ) → ¬ (IsRec machine rd number granule)
 unfolding rec_named number_in
 named_none machine granule e rd number is =

@@ -1,4 +1,4 @@
--- The REC of a number in a realm: in the machine, and in the fields of an RMM.
+-- The proof that the machine and the fields of an RMM agree on a realm's REC with a given number.
 use Rattle.std.proofs.Common.{◌≡◌, ℕ, ◌<◌, true, List, length, get_or, Option, Some, None, option_map, refl, sym, ap, ◌∙◌, subst}
 use Rattle.std.specs.Prelude.{option_and_then, is_some}
 use Rattle.std.specs.FinMap.{get}
@@ -24,7 +24,7 @@ module _ (monitor : MonitorView) (fields : Fields) (view_is : seen_as fields ≡
       by None = refl
 
   module _ (granule : ℕ) where
-    -- and one that a granule has
+    -- a number that a granule has
     pub rec_in-some : (rec : RecAttributes) → IsRecAt fields.granules fields.recs rd number granule → rec_at fields granule ≡ Some rec
         → rec_in monitor.machine rd number ≡ Some (rec_row granule rec)
     rec_in-some rec is at =
@@ -35,7 +35,7 @@ module _ (monitor : MonitorView) (fields : Fields) (view_is : seen_as fields ≡
         ap (option_and_then (λ (realm : RealmRow). get realm.recs number)) (descriptor_there monitor fields view_is whole rd of.realm there)
         ∙ is.found ∙ ap (λ r. Some r) row_same
 
-    -- which is there as code reads it at its place
+    -- the REC with that number is the one that code reads at its place
     module _ (recs : List (Option RecAttributes)) (i : ℕ) (read : Option RecAttributes) (same : recs ≡ fields.recs)
         (is : IsRecAt fields.granules recs rd number granule) (place : i ≡ granule) (reads : read ≡ get_or fields.recs i read) where
       there : IsRecAt fields.granules fields.recs rd number granule
@@ -49,7 +49,7 @@ module _ (monitor : MonitorView) (fields : Fields) (view_is : seen_as fields ≡
           let entry : IsEntry fields.granules fields.recs rd granule number there.row = entry_at fields.granules rd granule fields.recs number there.row there.at in
           ap is_some (sym read_there ∙ entry.at)
 
-      -- and what is read is what the machine has, and has the number
+      -- the REC that is read is the machine's, and has the number
       module _ (rec : RecAttributes) (some : Some rec ≡ read) where
         pub rec_in-read : Some (rec_row granule rec) ≡ rec_in monitor.machine rd number
         rec_in-read = sym (rec_in-some rec there (read_there ∙ sym some))

@@ -1,4 +1,4 @@
--- The values that code reads at a granule's index: the REC that it is, its realm, and that these are there.
+-- The values that code reads at a granule's index: the REC in the granule, and the REC's realm, which exists.
 use Rattle.std.proofs.Common.{◌≡◌, ℕ, ◌+◌, ◌<◌, ◌≤◌, true, length, get_or, Option, Some, None, refl, sym, ap, ◌∙◌, subst, arith}
 use Rattle.std.specs.Prelude.{is_some}
 use Rattle.std.proofs.lemmas.Option.{same_Some}
@@ -27,7 +27,7 @@ module _ (fields : Fields) (whole : IsWhole fields) (granule : ℕ) (rec : RecAt
   some_rd is = ap is_some (is ∙ (whole.recs.of granule rec at).of)
 
   module _ (rd : ℕ) (of : (granule_at fields.granules granule).realm ≡ Some rd) where
-    -- its realm is there
+    -- the REC's realm exists
     pub its_realm : realm_at fields rd ≡ Some (whole.recs.of granule rec at).realm
     its_realm = let is = whole.recs.of granule rec at in ap (realm_at fields) (same_Some rd is.rd (sym of ∙ is.of)) ∙ is.there
 
@@ -64,14 +64,14 @@ few_recs fields whole rd =
     let few = len-gathered (rec_of fields.granules fields.recs rd) (length fields.granules) in
     omega (arith, counted, few)
 
--- so one more can be counted
+-- the count of RECs can be raised by one
 pub one_more_fits : {fields : Fields} (rd : ℕ) {count pages : ℕ} → IsWhole fields → count ≡ rec_count_at fields rd → length fields.pages ≡ pages → pages ≤ 4096 → count + 1 ≤ 65535
 one_more_fits {fields} rd whole counted sized most =
     let few = few_recs fields whole rd in
     let as_many = whole.backed.as_many in
     omega (arith, few, as_many)
 
--- and one that has a REC has some
+-- the count of a realm that has a REC is above 0
 pub some_recs : (fields : Fields) (whole : IsWhole fields) (granule : ℕ) (rec : RecAttributes) (rd : ℕ) (realm : RealmAttributes) → IsKept fields granule rec rd realm → 0 < rec_count_at fields rd
 some_recs fields whole granule rec rd realm kept =
     let counted = whole.counted rd in

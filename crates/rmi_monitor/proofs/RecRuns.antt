@@ -1,4 +1,4 @@
--- The commands by which a REC runs and stops, over the fields of an RMM.
+-- The refusals of the commands that enter and stop a REC, and their effects on the fields of an RMM.
 use Rattle.std.proofs.Common.{◌≡◌, ℕ, ◌<◌, Bool, true, false, List, [], ◌∷◌, length, set, get_or, Ok, Err, Option, Some, None, refl, sym, ap, ◌∙◌}
 use Rattle.std.specs.Prelude.{not}
 use Rattle.realm_model.specs.declared.rmi.Rmi.{Rmi}
@@ -18,7 +18,7 @@ use Rattle.rmi_monitor.proofs.RecChanges.{with_recs, rec_put}
 use Rattle.rmi_monitor.proofs.RealmFound.{row_of}
 use Rattle.rmi_monitor.proofs.Listed.{put_back}
 
--- a granule that is no REC: its place is written as it was
+-- a granule that is no REC: its place is written unchanged
 pub refused_none : {A : Type 0} {monitor : MonitorView} {fields : Fields} → HasFields monitor fields → {granule : ℕ} → granule < length monitor.machine → (command : Seen → ℕ → Outcome)
     → {i : ℕ} → i ≡ granule → {x : Option RecAttributes} → x ≡ get_or fields.recs i x → x ≡ None
     → IsOnRec {A = A} command monitor granule (Err error_input) (seen_as (with_recs fields (set fields.recs i x)))
@@ -45,7 +45,7 @@ module _ (monitor : MonitorView) (fields : Fields) (view_is : seen_as fields ≡
         on_rec monitor fields view_is whole command granule rec rd realm kept (Err rmi) (Err rmi) new comes refl
         (ap (λ rs. seen_as (with_recs fields rs)) (back ∙ put_back fields.recs granule None (Some rec) kept.at) ∙ view_is)
 
-    -- and one that is done puts the other row
+    -- a command that is done puts the other row
     done : (command : Seen → ℕ → Outcome) (now : RecAttributes) → now.number ≡ rec.number → now.auxiliaries ≡ rec.auxiliaries → recs ≡ set fields.recs granule (Some now)
         → command (seen_in monitor rd) rec.number ≡ Ok (put_rec (seen_in monitor rd) row rec.number (rec_row granule now) ∷ [])
         → IsOnRec command monitor granule (Ok (tt {0})) new
@@ -63,7 +63,7 @@ module _ (monitor : MonitorView) (fields : Fields) (view_is : seen_as fields ≡
     enter_is = outcome_there monitor fields view_is whole granule rec rd realm kept
         (λ r c. check (not (is_new r.state)) error_realm (check (is_ready c.state) error_rec (Ok (put_rec (seen_in monitor rd) r rec.number (record c { state = Running }) ∷ []))))
 
-    -- what code says of the realm's state
+    -- the answer of the code's test whether the realm is NEW
     abbrev SaysNew : Bool → Type 0
     SaysNew answer = answer ≡ is_new realm.state
 

@@ -1,4 +1,4 @@
--- The granule of a REC that is destroyed, which is the one that its operation names.
+-- The proof that an operation that destroys a REC names the granule of that REC.
 use Rattle.std.proofs.Common.{◌≡◌, ℕ, Bool, true, false, ◌&&◌, ◌==◌, Option, Some, None, refl, ap}
 use Rattle.std.specs.Prelude.{option_map, option_and_then}
 use Rattle.std.specs.FinMap.{get}

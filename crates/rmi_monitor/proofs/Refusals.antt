@@ -1,4 +1,4 @@
--- The row that a command goes on with, at a level and past a test.
+-- The row that a command requires at a level, and the test that the row has to pass.
 use Rattle.std.proofs.Common.{◌≡◌, ℕ, Bool, true, false, List, Option, Some, None, Ok, Err, refl, ◌∙◌}
 use Rattle.std.specs.Prelude.{◌==◌}
 use Rattle.std.proofs.lemmas.Bool.{eqb-true, eq-eqb}
@@ -9,13 +9,13 @@ use Rattle.realm_model.specs.declared.rmi.Rmi.{Rmi}
 use Rattle.realm_model.proofs.Walks.{walk_at}
 use Rattle.realm_model.proofs.Outcomes.{check_true, end_there}
 
--- what comes of a check that is done, and that the check held
+-- if a check is done, the check held, and the rest is done
 pub check_done : (t : Bool) (rmi : Rmi) (rest : Outcome) (updates : List Update) → check t rmi rest ≡ Ok updates → (t ≡ true) × (rest ≡ Ok updates)
 unfolding check
 check_done true rmi rest updates e = (refl, e)
 check_done false rmi rest updates e = cc
 
--- the row of the level where the walk ended, and it passes
+-- the row at the required level, where the walk ended and which passes the test
 pub record Passes (rows : Rows) (ipa level : ℕ) (passes : Row → Bool) : Type 0 where
   pub row : Row
   pub walked : walk rows ipa level ≡ Some (record { level = level; row = row })
@@ -48,7 +48,7 @@ module _ (rows : Rows) (ipa level : ℕ) (passes : Row → Bool) (rest : Row →
             passed.1,
           )
 
-  -- and each that finds it goes on with it
+  -- a command that finds such a row goes on with it
   pub row_passes : (found : Passes rows ipa level passes) → on_row ≡ rest found.row
   row_passes found =
       end_there rows ipa level (λ end. check (end.level == level) (error_rtt end.level) (check (passes end.row) (error_rtt level) (rest end.row))) _ found.walked

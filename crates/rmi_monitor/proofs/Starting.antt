@@ -1,4 +1,4 @@
--- Properties of all starting tables, and of the one of a number.
+-- Properties of all starting tables of a realm, and of the one with a given index.
 use Rattle.std.proofs.Common.{◌≡◌, ℕ, zero, suc, ◌+◌, ◌<◌, Bool, true, false, Some, refl, sym, ap, ◌∙◌, subst, arith}
 use Rattle.std.specs.List.{list_all, range_with_len}
 use Rattle.std.proofs.lemmas.Bool.{and_from}
@@ -34,7 +34,7 @@ pub one_does_not : (test : ℕ → Bool) (root : Root) (number : ℕ) → number
 one_does_not test root number few fails =
     false_from _ (λ all. true_false _ (all_in test (starting_tables root) (root.first + number) all (in_starts root number few)) fails)
 
--- each is that of a number
+-- each starting table is the one with a number
 pub number_of : (root : Root) (table : ℕ) → is_in table (starting_tables root) ≡ true → (number : ℕ) × (number < start_count root.width) × (root.first + number ≡ table)
 unfolding starting_tables
 number_of root table e =

@@ -1,4 +1,4 @@
--- Granules of a list, each moved in turn, and the rest of the list.
+-- Loops that change each granule of a list in turn: the granules that remain at each step.
 use Rattle.std.proofs.Common.{◌≡◌, ◌≢◌, ℕ, suc, ◌+◌, ◌<◌, ◌≤◌, Bool, true, false, List, [], ◌∷◌, length, set, get_or, drop, Some, All, IsTrue, sym, ap, ◌∙◌, subst, add-one, arith}
 use Rattle.std.proofs.Math.Seq.{drop-cons}
 use Rattle.std.proofs.lemmas.Bool.{and_parts}
@@ -19,11 +19,11 @@ apart_at granule others k d apart within same =
     true_false (is_in granule others) (is_in_at others k granule (slice_get-get_or others k d within ∙ ap Some same)) (not_true (is_in granule others) apart)
 
 module _ (all : List ℕ) (i x : ℕ) (within : i < length all) (is : x ≡ get_or all i x) where
-  -- the granule stands first in what is left
+  -- the granule is the first of those that are left
   first : drop i all ≡ x ∷ drop (i + 1) all
   first = drop-cons all i x within ∙ (λ j. sym is j ∷ drop (sym (add-one i) j) all)
 
-  -- a test of all, by that of what is left
+  -- a test of all granules, by the test of those that are left
   module _ (test : List ℕ → Bool) (was : test (drop i all) ≡ test all) where
     pub test_rest : test (x ∷ drop (i + 1) all) ≡ test (drop (i + 1) all) → test (drop (i + 1) all) ≡ test all
     test_rest passes = sym passes ∙ ap test (sym first) ∙ was
@@ -40,13 +40,13 @@ module _ (all : List ℕ) (i x : ℕ) (within : i < length all) (is : x ≡ get_
   pub rest_distinct : IsTrue (are_distinct (drop i all)) → IsTrue (are_distinct (drop (i + 1) all))
   rest_distinct distinct = (and_parts _ _ (subst (λ l. IsTrue (are_distinct l)) first distinct)).1
 
-  -- what is set in turn
+  -- the granules that are left are set in turn
   pub set_rest : {X : Type 0} (y : X) (now then : List X) (end : List X) → set_each y (drop i all) now ≡ end → then ≡ set now x y
       → set_each y (drop (i + 1) all) then ≡ end
   unfolding set_each
   set_rest y now then end was made = ap (set_each y (drop (i + 1) all)) made ∙ ap (λ l. set_each y l now) (sym first) ∙ was
 
-  -- the granules that are left stay as they are
+  -- the granules that are left keep their states
   pub rest_stand : (now then : List Granule) (state : GranuleState) (y : Granule) → All (IsInState now state) (drop i all) → IsTrue (are_distinct (drop i all))
       → then ≡ set now x y → All (IsInState then state) (drop (i + 1) all)
   rest_stand now then state y stand distinct made k d lt =
@@ -66,7 +66,7 @@ module _ (all : List ℕ) (i x : ℕ) (within : i < length all) (is : x ≡ get_
         taken = had.taken;
       })
 
--- nothing is left
+-- no granule is left
 pub test_ends : (test : List ℕ → Bool) (all : List ℕ) (i : ℕ) → length all ≤ i → test (drop i all) ≡ test all → test [] ≡ test all
 test_ends test all i past was = sym (ap test (drop_all i all past)) ∙ was
 

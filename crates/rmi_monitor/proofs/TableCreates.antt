@@ -1,4 +1,4 @@
--- RMI_RTT_CREATE over the fields of an RMM: a DELEGATED granule becomes a table of a realm.
+-- The effect of RMI_RTT_CREATE on the fields of an RMM: a DELEGATED granule becomes a table of a realm.
 use Rattle.std.proofs.Common.{◌≡◌, ℕ, ◌-◌, Bool, true, false, List, [], ◌∷◌, Some, Ok, Err, refl, sym, ap, ◌∙◌, subst}
 use Rattle.std.specs.Prelude.{◌&&◌, not}
 use Rattle.std.proofs.lemmas.Bool.{and_from, and_left, and_right}
@@ -28,7 +28,7 @@ use Rattle.rmi_monitor.proofs.Outcomes.{input_refused}
 use Rattle.rmi_monitor.proofs.RealmFound.{row_of, somewhere}
 use Rattle.rmi_monitor.proofs.RealmCommands.{with_call, Done, rows_done}
 
--- What the call says where it is not refused.
+-- The postcondition of the call if it is not refused.
 pub record CreateCall (at : Tables) (table : ℕ) (pages : List (List ℕ)) (free : List Bool) (granules : List Granule)
     (new_pages : List (List ℕ)) (new_free : List Bool) (new_granules : List Granule) (ipa level : ℕ) : Type 0 where
   pub answer : (row : Row) × ((f : Row → Outcome) → with_room_for_table (rows pages at.root) ipa level f ≡ f row)

@@ -1,4 +1,4 @@
--- RMI_RTT_DESTROY over the fields of an RMM: a table of a realm is removed.
+-- The effect of RMI_RTT_DESTROY on the fields of an RMM: a table of a realm is removed.
 use Rattle.std.proofs.Common.{◌≡◌, ℕ, ◌-◌, Bool, true, false, List, [], ◌∷◌, Some, None, Ok, Err, refl, sym, ◌∙◌, subst, arith}
 use Rattle.std.specs.Prelude.{◌&&◌}
 use Rattle.std.proofs.lemmas.Bool.{and_from, and_left, and_right}
@@ -31,7 +31,7 @@ use Rattle.rmi_monitor.proofs.Outcomes.{input_refused}
 use Rattle.rmi_monitor.proofs.RealmFound.{row_of, somewhere}
 use Rattle.rmi_monitor.proofs.RealmCommands.{with_call, Done, left_by, rows_done}
 
--- What the call says where it is not refused.
+-- The postcondition of the call if it is not refused.
 pub record DestroyCall (at : Tables) (pages : List (List ℕ)) (free : List Bool) (granules : List Granule) (new_pages : List (List ℕ)) (new_free : List Bool) (new_granules : List Granule)
     (ipa level : ℕ) : Type 0 where
   pub answer : (row : Row) × ((f : Row → Outcome) → with_unused_table (rows pages at.root) ipa level f ≡ f row)

@@ -1,4 +1,4 @@
--- A call on a realm's tables, which moves at most one granule to or from the realm, with other attributes of the realm.
+-- The fields of an RMM after a call on a realm's tables that moves at most one granule to or from the realm.
 use Rattle.std.proofs.Common.{◌≡◌, ◌≢◌, ℕ, ◌<◌, ◌≤◌, Bool, true, false, List, length, set, Option, Some, None, refl, sym, ap, ◌∙◌, subst}
 use Rattle.std.specs.Prelude.{◌==◌, is_some}
 use Rattle.std.proofs.lemmas.Bool.{eqb-true, eqb-false, ne_eqb}
@@ -60,7 +60,7 @@ module _ (old : Fields) (whole : IsWhole old) (rd : ℕ) (realm now : RealmAttri
   page_count : length granules ≡ length old.granules → length pages ≡ length old.pages
   page_count same = sym backed.as_many ∙ same ∙ whole.backed.as_many
 
-  -- a realm that was there is there still
+  -- a realm that existed still exists
   survives : (g r : ℕ) (rec : RecAttributes) (a : RealmAttributes) → rec_at old g ≡ Some rec → (granule_at old.granules g).realm ≡ Some r → realm_at old r ≡ Some a
       → (after : RealmAttributes) × (realm_at new r ≡ Some after) × (a.next ≤ after.next)
   survives g r rec a at of is = still_there old new rd realm now there realm_is keeps realm_other r a is

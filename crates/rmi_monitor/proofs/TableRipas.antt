@@ -1,4 +1,4 @@
--- RMI_RTT_INIT_RIPAS over the fields of an RMM: pages of a NEW realm become RAM.
+-- The effect of RMI_RTT_INIT_RIPAS on the fields of an RMM: pages of a NEW realm become RAM.
 use Rattle.std.proofs.Common.{◌≡◌, ℕ, Bool, true, false, List, [], ◌∷◌, set, get_or, cond, Option, option_map, Some, None, Ok, Err, refl, sym, ap, ◌∙◌, subst, arith}
 use Rattle.std.specs.Prelude.{◌&&◌}
 use Rattle.std.proofs.lemmas.Bool.{and_from, and_parts}
@@ -29,7 +29,7 @@ use Rattle.rmi_monitor.proofs.RealmAfter.{Keeps as KeepsRealm}
 use Rattle.rmi_monitor.proofs.RealmFound.{row_of, nowhere, somewhere, measured_there}
 use Rattle.rmi_monitor.proofs.RealmCommands.{with_call, Done, after_put}
 
--- What the call says where it is not refused.
+-- The postcondition of the call if it is not refused.
 pub record RipasCall (at : Tables) (pages : List (List ℕ)) (free : List Bool) (granules : List Granule) (new_pages : List (List ℕ)) (new_free : List Bool) (ipa count : ℕ) : Type 0 where
   pub answer : (row : Row) × ((f : Row → Outcome) → with_free_pages (rows pages at.root) ipa count f ≡ f row)
   pub gains : rows new_pages at.root ≡ with_ram (rows pages at.root) ipa count
@@ -40,7 +40,7 @@ pub record RipasCall (at : Tables) (pages : List (List ℕ)) (free : List Bool) 
 abbrev pub is_run : ℕ → ℕ → ℕ → Bool
 is_run ipa count width = is_page_run ipa count && is_protected_at ipa width
 
--- what code makes of them, by the root that it reads of the realm
+-- the result of the code for the pages, by the realm's root that the code reads
 module _ (realm : RealmAttributes) (ipa count : ℕ) (root : Root) (read : root ≡ realm.root) where
   pub no_run : None ≡ cond (is_run ipa count root.width) (Some ipa) None → is_run ipa count realm.root.width ≡ false
   no_run tested = ap (λ (r : Root). is_run ipa count r.width) (sym read) ∙ test_failed (is_run ipa count root.width) ipa None tested refl
@@ -152,7 +152,7 @@ module _ {monitor : MonitorView} {fields : Fields} (has : HasFields monitor fiel
             };
           }
 
-  -- ---- where the pages are is found
+  -- ---- the operands pass the checks
 
   module _ {at : Tables × ℕ} (place : LocatesNew monitor.machine rd ipa at × (is_page_run ipa count ≡ true)) where
     it : Stands fields rd ipa at

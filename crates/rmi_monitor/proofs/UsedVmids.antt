@@ -23,7 +23,7 @@ list_any-same : {A : Type 0} (p q : A → Bool) (xs : List A) → ((x : A) → p
 list_any-same p q [] same = refl
 list_any-same p q (x ∷ xs) same = ap (λ t. t || list_any p xs) (same x) ∙ ap (λ t. q x || t) (list_any-same p q xs same)
 
--- what an option of each gives
+-- the test of an option's value, if there is one
 abbrev tests : {B : Type 0} → (B → Bool) → Option B → Bool
 tests p o = elim o [ Some y ↦ p y | None ↦ false ]
 
@@ -38,7 +38,7 @@ list_any-filter_map p f (x ∷ xs) = one_more p (f x) (filter_map f xs) (list_an
 eqb-swap : (n m : ℕ) → (n == m) ≡ (m == n)
 eqb-swap n m = ⊎_elim (λ (same : n ≡ m). eq-eqb n m same ∙ sym (eq-eqb m n (sym same))) (λ (ne : n ≢ m). ne_eqb n m ne ∙ sym (ne_eqb m n (λ e. ne (sym e)))) (cases_eq n m)
 
--- a list is what stands at its places
+-- a list has the elements at its places
 at_places : {A : Type 0} (xs : List A) (d : A) → map (λ i. get_or xs i d) (range_with_len 0 (length xs)) ≡ xs
 at_places xs d =
     let long = length-map-range_with_len (λ i. get_or xs i d) 0 (length xs) in
@@ -51,7 +51,7 @@ module _ {A : Type 0} (p : A → Bool) where
   count_more : (x : A) (xs : List A) → count_by p (x ∷ xs) ≡ cond (p x) 1 0 + count_by p xs
   count_more x xs = sum_by-cons (λ y. cond (p y) 1 0) x xs
 
-  -- where one alone passes, or none
+  -- if one element alone passes, or none
   any-count : (xs : List A) (one : Bool) → count_by p xs ≡ cond one 1 0 → list_any p xs ≡ one
   any-count [] true e = absurd (omega (arith, e))
   any-count [] false e = refl
@@ -65,7 +65,7 @@ module _ {A : Type 0} (p : A → Bool) where
           some false h = absurd (omega (arith, h))
       by false h rest = rest (omega (arith, h))
 
-  -- none passes
+  -- no element passes
   count-none : (n : ℕ) (x : A) → p x ≡ false → count_by p (replicate n x) ≡ 0
   count-none zero x e = refl
   count-none (suc n) x e = count_more x (replicate n x) ∙ (λ i. cond (e i) 1 0 + count-none n x e i)
@@ -84,7 +84,7 @@ module _ {A : Type 0} (p : A → Bool) where
   count-set : (xs : List A) (i : ℕ) (y d : A) → i < length xs → count_by p (set xs i y) + cond (p (get_or xs i d)) 1 0 ≡ count_by p xs + cond (p y) 1 0
   count-set xs i y d inside = sum_by-set (λ x. cond (p x) 1 0) xs i y d inside
 
--- ---- the VMIDs of a monitor
+-- ---- the VMIDs of an RMM
 
 -- as many realms have each VMID as its flag says
 abbrev pub AreUsed : List (Option RealmAttributes) → List Bool → Type 0
@@ -116,7 +116,7 @@ module _ (realms : List (Option RealmAttributes)) (old new : List Bool) (was : A
   has_not : (vmid : ℕ) → vmid ≢ realm.vmid → is_realm_with vmid (Some realm) ≡ false
   has_not vmid other = ne_eqb realm.vmid vmid (λ e. other (sym e))
 
-  -- a realm comes, whose VMID was not used
+  -- a realm is created, whose VMID was not used
   pub used-create : get_or realms rd None ≡ None → is_used old realm.vmid ≡ false → IsMarked old new realm.vmid true → AreUsed (set realms rd (Some realm)) new
   used-create none unused marked vmid = ⊎_elim
       (λ (s : vmid ≡ realm.vmid).
@@ -138,7 +138,7 @@ module _ (realms : List (Option RealmAttributes)) (old new : List Bool) (was : A
           ap (λ o. count_by (is_realm_with vmid) (set realms rd (Some realm)) + cond (is_realm_with vmid o) 1 0) (sym none)
           ∙ count-set (is_realm_with vmid) realms rd (Some realm) None inside
 
-  -- a realm goes
+  -- a realm is destroyed
   pub used-destroy : get_or realms rd None ≡ Some realm → IsMarked old new realm.vmid false → AreUsed (set realms rd None) new
   used-destroy there marked vmid = ⊎_elim
       (λ (s : vmid ≡ realm.vmid).
@@ -183,7 +183,7 @@ module _ (fields : Fields) (whole : IsWhole fields) (vmid : ℕ) where
       by (Some r) = eqb-swap vmid r.vmid
       by None = refl
 
-  -- a VMID is one of those in use where its flag says so
+  -- a VMID is one of those in use exactly if its flag says so
   pub any_used : list_any (λ v. vmid == v) (used_vmids (machine_of fields)) ≡ is_used fields.used vmid
   unfolding machine_of
   any_used =

@@ -1,4 +1,4 @@
--- The end of the walk of an IPA granule, over the fields of an RMM.
+-- The end of an RTT walk for an IPA granule, derived from the fields of an RMM.
 use Rattle.std.proofs.Common.{◌≡◌, ℕ, ◌<◌, ◌≤◌, ◌&&◌, true, cond, length, Some, None, option_map, refl, sym, ap, ◌∙◌, subst}
 use Rattle.std.specs.Prelude.{option_and_then}
 use Rattle.std.proofs.lemmas.Bool.{and_from, and_parts, le-leb, ltb-true}
@@ -19,12 +19,12 @@ use Rattle.rmi_monitor.proofs.Comparisons.{test_held, test_failed}
 use Rattle.rmi_monitor.proofs.Granules.{HasFields, cell_is}
 use Rattle.rmi_monitor.proofs.RealmFound.{row_of, descriptor_there}
 
--- an address space of such a width has the IPA granules that its starting tables serve
+-- an address space of such a width has only IPA granules that its starting tables serve
 space_served : (width ipa : ℕ) → is_width width ≡ true → is_in_space ipa width ≡ true → ipa < served_space width
 space_served width ipa wide inside = subst (λ n. ipa < n) (sym (served_is width wide)) (ltb-true ipa _ inside)
 
 module _ {monitor : MonitorView} {fields : Fields} (kept : HasFields monitor fields) (rd ipa level : ℕ) where
-  -- at a granule that is no RD
+  -- there is no walk at a granule that is no RD
   pub no_walk : rd < length monitor.machine → realm_at fields rd ≡ None → walk_in monitor.machine rd ipa level ≡ None
   no_walk inside none =
       ap (option_and_then (λ (r : RealmRow). walk_of r ipa level))
@@ -65,7 +65,7 @@ module _ {monitor : MonitorView} {fields : Fields} (kept : HasFields monitor fie
           subst (λ (t : Tables). given < served_space t.root.width) (sym at_is)
           (subst (λ n. given < served_space n) width_is (subst (λ n. n < served_space number) (sym held.1) (space_served number ipa wide inside)))
 
-      -- what a walk asks, and where it ends
+      -- the preconditions of a walk, and the entry at which it ends
       pub walk_asks : HasTables fields.pages fields.granules at.rd at.root × (given < served_space at.root.width)
       walk_asks = (tables, space)
 

@@ -1,4 +1,4 @@
--- The code of an RMM's view.
+-- The encoding of the view that contracts have of an RMM.
 use Rattle.std.specs.Prelude.{ℕ, Bool, List, refl}
 use Rattle.std.specs.Coded.{Coded, code_by, coded×, coded_ℕ, coded_bool, coded_list}
 use Rattle.realm_model.specs.Machine.{Machine}

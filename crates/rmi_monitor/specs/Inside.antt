@@ -142,8 +142,8 @@ pub record HasRecs (fields : Fields) : Type 0 where
       → slice_get rec.auxiliaries i ≡ Some auxiliary → slice_get other.auxiliaries j ≡ Some auxiliary → (g ≡ h) × (i ≡ j)
 
 pub record IsWhole (fields : Fields) : Type 0 where
-  -- There is a page, a place for a realm, a count and a place for a REC for each granule. What is not UNDELEGATED is
-  -- taken.
+  -- There is a page, a place for a realm, a count and a place for a REC for each granule. A granule that is not
+  -- UNDELEGATED is taken.
   pub backed : IsBacked fields.pages fields.free fields.granules
   pub realm_places : length fields.realms ≡ length fields.granules
   pub count_places : length fields.rec_counts ≡ length fields.granules

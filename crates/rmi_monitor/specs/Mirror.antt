@@ -1,4 +1,4 @@
--- An RMM beside the world of a history: the requirements of an operation, and its effect on both.
+-- The agreement of an RMM with the world of a history, before and after an operation.
 use Rattle.std.specs.Prelude.{◌≡◌, ◌<◌, ℕ, List, [], ◌∷◌, ◌++◌, map, true, false, Some, None, is_none, slice_get, length, Result, Ok, Err}
 use Rattle.std.specs.List.{All, last_or}
 use Rattle.realm_model.specs.declared.act.Act.{Act}

@@ -1,4 +1,4 @@
--- The outcome of an operation on an RMM, and the conditions on which it can be performed.
+-- The outcome of an operation on an RMM, and the conditions under which the operation can be performed.
 use Rattle.std.specs.Prelude.{◌≡◌, ◌<◌, ℕ, Bool, true, false, Option, Some, None, option_map, map, Result}
 use Rattle.std.specs.List.{All}
 use Rattle.realm_model.specs.declared.rmi.Rmi.{Rmi}

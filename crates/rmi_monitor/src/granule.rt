@@ -12,7 +12,7 @@ use realm_model::{GranuleState, Rmi};
 impl<S: PageStore> Monitor<S> {
     /// Delegates an UNDELEGATED granule, which becomes DELEGATED and zero.
     ///
-    /// RMM 1.0, RMI_GRANULE_DELEGATE. RMI_ERROR_INPUT comes if it is not UNDELEGATED.
+    /// RMM 1.0, RMI_GRANULE_DELEGATE. The error is RMI_ERROR_INPUT if the granule is not UNDELEGATED.
     pub fn granule_delegate(&mut self, granule: Gran) -> Result<(), Rmi>
         requires { IsTaken self.old granule }
         ensures answer { Answers result (command.granule_delegate (seen_in self.old granule)) }
@@ -33,7 +33,7 @@ impl<S: PageStore> Monitor<S> {
 
     /// Makes a DELEGATED granule UNDELEGATED.
     ///
-    /// RMM 1.0, RMI_GRANULE_UNDELEGATE. RMI_ERROR_INPUT comes if it is not DELEGATED.
+    /// RMM 1.0, RMI_GRANULE_UNDELEGATE. The error is RMI_ERROR_INPUT if the granule is not DELEGATED.
     pub fn granule_undelegate(&mut self, granule: Gran) -> Result<(), Rmi>
         requires { IsTaken self.old granule }
         ensures answer { Answers result (command.granule_undelegate (seen_in self.old granule)) }
@@ -50,9 +50,9 @@ impl<S: PageStore> Monitor<S> {
         Ok(())
     }
 
-    /// Writes a value to each byte of an UNDELEGATED granule. This profile's own.
+    /// Writes a value to each byte of an UNDELEGATED granule. The call is this profile's own.
     ///
-    /// RMI_ERROR_INPUT comes if it is not UNDELEGATED.
+    /// The error is RMI_ERROR_INPUT if the granule is not UNDELEGATED.
     pub fn host_fill(&mut self, granule: Gran, value: u8) -> Result<(), Rmi>
         requires { IsTaken self.old granule }
         ensures answer { Answers result (command.host_fill (seen_in self.old granule) value) }
@@ -67,9 +67,9 @@ impl<S: PageStore> Monitor<S> {
         }
     }
 
-    /// Reads a byte of an UNDELEGATED granule. This profile's own.
+    /// Reads a byte of an UNDELEGATED granule. The call is this profile's own.
     ///
-    /// RMI_ERROR_INPUT comes if it is not UNDELEGATED.
+    /// The error is RMI_ERROR_INPUT if the granule is not UNDELEGATED.
     pub fn host_peek(&self, granule: Gran, offset: PageOff) -> Result<u8, Rmi>
         requires { IsTaken self.now granule }
         ensures answer { Answers result (command.host_peek (seen_in self.now granule)) }

@@ -169,7 +169,7 @@ impl<S: PageStore> Monitor<S> {
         &self.store
     }
 
-    /// Returns the sum of a granule's bytes; 0 for a table.
+    /// Returns the sum of a granule's bytes, or 0 for a table.
     pub fn byte_sum(&self, granule: Gran) -> u32
         requires { granule < length self.now.machine }
         ensures { result ≡ sum (cell_at self.now.machine granule).bytes }

@@ -40,9 +40,9 @@ impl<S: PageStore> Monitor<S> {
     /// Creates a REC of a NEW realm from DELEGATED granules. One granule is for the REC, and the others are auxiliary.
     /// Returns the REC's number.
     ///
-    /// RMM 1.0, RMI_REC_CREATE. RMI_ERROR_INPUT comes if the first granule is no RD, one of the others is not
-    /// DELEGATED, or two of these are the same. It also comes if there are not as many auxiliaries as each REC has.
-    /// RMI_ERROR_REALM comes if the realm is not NEW.
+    /// RMM 1.0, RMI_REC_CREATE. The error is RMI_ERROR_INPUT if `rd` is no RD, one of the other granules is not
+    /// DELEGATED, or two of these are the same. The error is the same if there are not as many auxiliaries as each REC
+    /// has. The error is RMI_ERROR_REALM if the realm is not NEW.
     pub fn rec_create(
         &mut self,
         rd: Gran,
@@ -86,7 +86,8 @@ impl<S: PageStore> Monitor<S> {
     /// Destroys a READY REC. Its granule and its auxiliary granules are cleared and become DELEGATED. The number of the
     /// REC is not used again.
     ///
-    /// RMM 1.0, RMI_REC_DESTROY. RMI_ERROR_INPUT comes if the granule is no REC, RMI_ERROR_REC if it is not READY.
+    /// RMM 1.0, RMI_REC_DESTROY. The error is RMI_ERROR_INPUT if the granule is no REC, and RMI_ERROR_REC if the REC is
+    /// not READY.
     pub fn rec_destroy(&mut self, rec: Gran) -> Result<(), Rmi>
         requires { IsTaken self.old rec }
         ensures { IsOnRec command.rec_destroy self.old rec result self.new }

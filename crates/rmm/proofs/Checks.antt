@@ -1,4 +1,4 @@
--- Lists of checks, one after another.
+-- Proofs that the first failing list among concatenated lists of checks decides the refusal.
 use Rattle.std.proofs.Common.{◌≡◌, Bool, true, false, cond, List, [], ◌∷◌, ◌++◌, Option, Some, None, refl, ◌∙◌}
 use Rattle.rmm_model.specs.declared.answer.FailedCondition.{FailedCondition}
 use Rattle.rmm_model.specs.Check.{Check, first_failing}

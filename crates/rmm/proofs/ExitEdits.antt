@@ -1,4 +1,4 @@
--- Edits of RECs at exits.
+-- A proof that the edit of a REC at an exit gives the REC's attributes after that exit.
 use Rattle.std.proofs.Common.{◌≡◌, refl}
 use Rattle.rmm_model.specs.declared.rec.RmmRec.{RmmRec}
 use Rattle.rmm_model.specs.declared.step.GuestStep.{GuestStep}

@@ -1,4 +1,4 @@
--- Runs of guests, one step at a time.
+-- Proofs that the outcome of each guest step continues or ends the run of a REC, which has at most 16 steps.
 use Rattle.std.proofs.Common.{◌≡◌, ℕ, suc, ◌+◌, ◌-◌, ◌<◌, ◌==◌, true, refl, sym, ap, ◌∙◌, arith}
 use Rattle.rmi_abi.specs.declared.rec_run.ExitReason.TheVariants.{Irq}
 use Rattle.rmi_abi.specs.RecRun.{only_reason}

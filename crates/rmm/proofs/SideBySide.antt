@@ -1,4 +1,4 @@
--- Bytes that are written into a page side by side, and words that are.
+-- Proofs that writing adjacent words into a page equals writing their bytes at once.
 use Rattle.std.proofs.Common.{◌≡◌, ℕ, zero, suc, ◌+◌, ◌*◌, ◌≤◌, List, length, replicate, sym, ap, ◌∙◌, add-one, arith}
 use Rattle.std.specs.Int.{to_le_bytes, w64}
 use Rattle.std.proofs.lemmas.List.{length-replicate, replicate-append-replicate}

@@ -1,4 +1,4 @@
--- Granules of two states are two granules.
+-- A proof that a DELEGATED granule and an UNDELEGATED granule are never the same granule.
 use Rattle.std.proofs.Common.{◌≡◌, ◌≢◌, ℕ, true, ap, sym, ◌∙◌}
 use Rattle.rmm_model.specs.declared.granule.RmmGranuleState.{RmmGranuleState}
 use Rattle.rmm_model.specs.declared.granule.RmmGranuleState.TheVariants.{Undelegated}

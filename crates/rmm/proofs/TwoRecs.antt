@@ -1,4 +1,4 @@
--- RECs at two addresses are two granules.
+-- A proof that the calling REC and the target REC of RMI_PSCI_COMPLETE are different granules if their checks pass.
 use Rattle.std.proofs.Common.{◌≡◌, ◌≢◌, ℕ, ◌-◌, ◌/◌, ◌%◌, ◌≤◌, ◌==◌, Bool, true, false, nat_le, nat_lt, not, cond, length, [], ◌∷◌, Option, Some, None, refl, arith}
 use Rattle.std.proofs.lemmas.Bool.{and_parts, leb-true, eqb-true, eqb-false, not-false}
 use Rattle.rmm_model.specs.declared.answer.FailedCondition.{FailedCondition}

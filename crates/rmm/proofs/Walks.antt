@@ -1,4 +1,4 @@
--- The ends of walks of realms.
+-- A proof that a value computed from a walk's end and the entry there agrees with the model's walk of the same realm.
 use Rattle.std.proofs.Common.{◌≡◌, ℕ, ap, ◌∙◌}
 use Rattle.rmm_model.specs.declared.entry.RmmRttEntry.{RmmRttEntry}
 use Rattle.rmm_model.specs.declared.realm.RmmRealm.{RmmRealm}

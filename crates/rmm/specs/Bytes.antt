@@ -1,4 +1,4 @@
--- Memory of the host by bytes: loads and stores within one granule. This RMM's own: they are no calls.
+-- The host's loads and stores of bytes within one granule. These accesses are this RMM's own, and no RMI calls.
 use Rattle.std.specs.Prelude.{ℕ, ◌+◌, ◌-◌, ◌%◌, ◌&&◌, Bool, nat_le, List, length, slice_range, Option, Some, None, if◌then◌else◌}
 use Rattle.page_arena.specs.Word.{with_bytes}
 use Rattle.rmm_model.specs.Host.{is_host_page}

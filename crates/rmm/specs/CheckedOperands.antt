@@ -1,4 +1,4 @@
--- The operands of a command that passes, as found in a machine.
+-- The conditions on the granules, realms and walks that a command's operands name after its checks have passed.
 use Rattle.std.specs.Prelude.{◌≡◌, ◌≢◌, ℕ, ◌-◌, ◌^◌, ◌<◌, ◌≤◌, Some}
 use Rattle.rmm_model.specs.Entry.{descriptor_of}
 use Rattle.rmm_model.specs.Machine.{Machine, granule_count, number_of}

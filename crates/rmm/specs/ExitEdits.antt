@@ -1,4 +1,4 @@
--- Edits of RECs at exits.
+-- The edit of a REC's attributes at a guest step that causes an exit.
 use Rattle.std.specs.Prelude.{◌%◌, ◌==◌, false}
 use Rattle.rmm_model.specs.declared.rec.PsciRequest.TheVariants.{CpuOn as CpuOnRequest, AffinityInfo as AffinityInfoRequest, Complete}
 use Rattle.rmm_model.specs.declared.step.GuestStep.{GuestStep}

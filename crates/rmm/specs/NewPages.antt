@@ -1,4 +1,4 @@
--- Parts of RMI_DATA_CREATE.
+-- The check of RMI_DATA_CREATE's flags, and the machine after the command has mapped the page of data.
 use Rattle.std.specs.Prelude.{ℕ, not, List, [], ◌∷◌}
 use Rattle.rmi_abi.specs.declared.settings.RmmSettings.{RmmSettings}
 use Rattle.rmm_model.specs.declared.condition.Condition.TheVariants.{FlagsValid}

@@ -1,4 +1,4 @@
--- Readings of a machine that a host cannot make. This RMM's own.
+-- A reading of one word of a granule in any state, which no host can make. This RMM's own.
 use Rattle.std.specs.Prelude.{ℕ, ◌&&◌, nat_lt, Option, Some, None, if◌then◌else◌}
 use Rattle.page_arena.specs.Word.{word_of_page}
 use Rattle.rmm_model.specs.Machine.{Machine, page_in, is_aligned, is_inside, number_of}

@@ -36,8 +36,8 @@ use rmm_granules::Granules;
 use rmm_model::{Queued, RmmGranuleState, StepWords};
 use std::marker::Model;
 
-/// The simulated RMM of a platform, with the platform's memory. The platform's memory is in a store of pages. An RMM is
-/// seen as its machine.
+/// The simulated RMM of a platform, with the platform's memory in a store of pages. Contracts see an RMM as its
+/// machine.
 #[derive(Drop)]
 pub struct Rmm<S: PageStore> {
     granules: Granules<S>,
@@ -69,8 +69,8 @@ impl<S: PageStore> Rmm<S> {
         self.granules.settings()
     }
 
-    /// Returns a reference to the granules of the RMM's platform. Their attributes and pages include those that no call
-    /// shows to a host.
+    /// Returns a reference to the granules of the RMM's platform, with attributes and pages that no call shows to a
+    /// host.
     pub fn granules(&self) -> &Granules<S>
         ensures { result.now ≡ self.now }
     {
@@ -84,7 +84,8 @@ impl<S: PageStore> Rmm<S> {
         self.granules
     }
 
-    /// Loads the eight bytes at an address; `None` if the host faults. A host has UNDELEGATED granules alone.
+    /// Loads the eight bytes at an address, or returns `None` if the host faults. A host can access UNDELEGATED
+    /// granules alone.
     pub fn load(&self, address: u64) -> Option<u64>
         ensures { result ≡ loaded self.now address }
     {
@@ -100,16 +101,16 @@ impl<S: PageStore> Rmm<S> {
         load_bytes(&self.granules, address, count)
     }
 
-    /// The state of the granule that begins at an address; `None` if no granule begins there. The state includes the
-    /// attributes of a realm or REC. No host sees it.
+    /// Returns the state of the granule that begins at an address, or `None` if no granule begins there. The state
+    /// includes the attributes of a realm or REC. No host sees this state.
     pub fn state(&self, address: u64) -> Option<RmmGranuleState>
         ensures { result ≡ state_shown self.now address }
     {
         state(&self.granules, address)
     }
 
-    /// Word `index` of the granule that begins at an address; `None` if there is no such word. The granule may be in
-    /// any state. No host sees the word.
+    /// Returns word `index` of the granule that begins at an address, or `None` if there is no such word. The granule
+    /// may be in any state. No host sees the word.
     pub fn word(&self, address: u64, index: u16) -> Option<u64>
         ensures { result ≡ word_shown self.now address index }
     {

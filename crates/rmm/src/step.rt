@@ -1,4 +1,4 @@
-//! Steps of guests: accesses to memory, and calls.
+//! The outcomes of a simulated guest's steps: memory accesses, RSI and PSCI calls, waits, and system register writes.
 ghost use Rattle.std.specs.Prelude.{◌≡◌, ◌<◌, ◌≤◌, ◌^◌, IfOk};
 ghost use Rattle.rmm_model.specs.Entry.{descriptor_of};
 ghost use Rattle.rmm_model.specs.Machine.{granule_count};

@@ -1,4 +1,4 @@
--- The number of words of an answer.
+-- A proof that an answer in a trace gets exactly one word longer when a word is appended, with or without a comma.
 use Rattle.std.proofs.Common.{◌≡◌, suc, ◌+◌, Bool, true, false, List, [], ◌∷◌, ◌++◌, length, refl, ap, ◌∙◌, length-append}
 use Rattle.rmm_trace.specs.declared.word.TraceWord.{TraceWord}
 use Rattle.rmm_trace.specs.Answers.{with_comma, listed}

@@ -1,4 +1,5 @@
--- Rows of tables.
+-- Lemmas on lookups in lists, by index or by linear search: rows of tables, offsets of page fields, and registers of a
+-- raw answer.
 use Rattle.std.proofs.Common.{◌≡◌, ℕ, zero, suc, ◌+◌, ◌<◌, ◌≤◌, List, [], ◌∷◌, length, get_or, drop, Bool, true, cond, Some, None, refl, sym, ap, ◌∙◌, arith, drop-cons, ◌==◌, if◌then◌else◌}
 use Rattle.std.proofs.Math.ListN.{drop_of_length-le}
 use Rattle.std.specs.List.{position_from}
@@ -7,7 +8,7 @@ use Rattle.rmm_trace.specs.Compare.{atom_number}
 use Rattle.rmm_answers.specs.Naming.{written_number}
 use Rattle.rmm_answers.specs.Page.{offset_in}
 
--- a row that there is does not depend on what comes if there is none
+-- a row that exists does not depend on the default
 pub row_here : {X : Type 0} (rows : List X) (i : ℕ) (d e : X) → i < length rows → get_or rows i d ≡ get_or rows i e
 row_here [] i d e within = absurd (omega arith)
 row_here (x ∷ rows) zero d e within = refl

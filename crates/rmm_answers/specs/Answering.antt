@@ -1,4 +1,4 @@
--- The answer to each question, and the machine after it.
+-- The answer that the RMM model gives to each question of a trace, and the state of the machine afterwards.
 use Rattle.std.specs.Prelude.{ℕ, ◌-◌, ◌==◌, nat_lt, Bool, ◌&&◌, ◌||◌, not, if◌then◌else◌, List, [], Option, Some, None}
 use Rattle.rmm_checks.specs.declared.evaluated.EvaluatedCheck.{EvaluatedCheck}
 use Rattle.rmm_model.specs.Host.{can_access, can_fill, loaded, state_shown, after_store}

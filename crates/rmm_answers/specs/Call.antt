@@ -1,4 +1,4 @@
--- Answers to calls.
+-- The answer to an RMI call in a trace: the status, the outputs, the REC exit, and the check that decided a refusal.
 use Rattle.std.specs.Prelude.{ℕ, ◌+◌, ◌==◌, Bool, not, ◌&&◌, if◌then◌else◌, List, [], Option, Some, None, option_map, option_and_then}
 use Rattle.rmi_abi.specs.declared.registers.Registers.{Registers}
 use Rattle.rmi_abi.specs.Call.{call_in}

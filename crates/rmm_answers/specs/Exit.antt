@@ -1,4 +1,5 @@
--- Exits of RECs, as the host reads them in a run page. RMM 1.0, RmiRecExit: its fields are from 0x800 on.
+-- The words in a trace's answer for a REC exit, as the host reads the exit in the run page. RMM 1.0, RmiRecExit, whose
+-- fields begin at offset 0x800 of the run page.
 use Rattle.std.specs.Prelude.{ℕ, ◌+◌, ◌%◌, ◌^◌, ◌==◌, Bool, not, ◌||◌, if◌then◌else◌, List, unwrap_or}
 use Rattle.rmm_model.specs.Host.{loaded}
 use Rattle.rmm_model.specs.Machine.{Machine}

@@ -1,4 +1,4 @@
--- Guests: their steps, the end of their runs, and the results of their steps.
+-- The answers to a trace's questions about guests: queued steps, interrupts of running RECs, and the results of steps.
 use Rattle.std.specs.Prelude.{ℕ, zero, suc, ◌+◌, ◌*◌, ◌%◌, ◌==◌, nat_le, nat_lt, Bool, ◌&&◌, ◌||◌, if◌then◌else◌, List, [], ◌∷◌, length, Option, Some, None, option_and_then, unwrap_or}
 use Rattle.std.specs.List.{position_from}
 use Rattle.rmi_abi.specs.declared.word.Word.{Word}

@@ -1,4 +1,5 @@
--- The verdict on an answer that is written. RMM 1.0, failure conditions of RMI commands: their ordering is partial.
+-- The verdict on an answer written in a trace: it is the model's answer, an allowed refusal by another check, or wrong.
+-- RMM 1.0, failure conditions of RMI commands, whose ordering is partial.
 use Rattle.std.specs.Prelude.{ℕ, ◌+◌, ◌-◌, ◌*◌, ◌%◌, ◌==◌, nat_le, nat_lt, Bool, false, not, ◌&&◌, ◌||◌, if◌then◌else◌, List, [], ◌∷◌, Option, Some, None, option_and_then}
 use Rattle.std.specs.List.{list_any, slice_split}
 use Rattle.rmi_abi.specs.declared.word.Word.{Word}
@@ -34,11 +35,11 @@ is_word_of x0 None = false
 abbrev pub is_ours : List EvaluatedCheck → ℕ → Bool
 is_ours rows x0 = is_word_of x0 (evaluated.first_failed rows)
 
--- X0 is a word that the checks allow, other than ours
+-- X0 is a word that the checks allow, other than that of the deciding check
 abbrev pub allows_number : List EvaluatedCheck → ℕ → Bool
 allows_number rows x0 = allows rows (word_of x0) && not (is_ours rows x0)
 
--- the check was made and failed, and its word has this status and is not ours
+-- the check was made and failed, and its word has this status and is not that of the deciding check
 abbrev pub has_status : List EvaluatedCheck → ℕ → CheckOutcome → Bool
 has_status rows status (Failed answer) = number answer.word % 256 == status && not (is_ours rows (number answer.word))
 has_status rows status _ = false
@@ -67,7 +68,7 @@ allows_first rows (Name place) ws = allows_name rows place ws
 allows_first rows (Decimal x0) ws = not (x0 == 0) && allows_number rows x0
 allows_first rows (Hexadecimal x0) ws = not (x0 == 0) && allows_number rows x0
 
--- A written answer refuses by a word that the checks allow, and that is not ours.
+-- A written answer refuses by a word that the checks allow, and that is not the deciding check's.
 abbrev pub is_refusal_allowed : List TraceWord → List EvaluatedCheck → Bool
 is_refusal_allowed [] rows = false
 is_refusal_allowed (w ∷ ws) rows = allows_first rows w.value ws
@@ -82,7 +83,7 @@ abbrev pub is_text_allowed : List ℕ → Option (List EvaluatedCheck) → Bool
 is_text_allowed written (Some rows) = are_words_allowed (words_in 64 (slice_split (λ b. b == 32) written)) rows
 is_text_allowed written None = false
 
--- The verdict on a written answer: ours, a refusal by another check of the refused call, or wrong.
+-- The verdict on a written answer: the model's answer, a refusal by another check of the refused call, or wrong.
 unfoldable pub judged : Option Machine → List TraceWord → List ℕ → TraceReply → Verdict
 judged m question written reply =
     if is_written question written reply then Same

@@ -1,4 +1,4 @@
--- Answers to loads and stores of the host.
+-- The words that answer the host's loads and stores in a trace: `done`, `fault`, or the loaded value.
 use Rattle.std.specs.Prelude.{ℕ, Bool, if◌then◌else◌, Option, Some, None}
 use Rattle.rmm_trace.specs.declared.word.Atom.{Atom}
 use Rattle.rmm_trace.specs.declared.word.Atom.TheVariants.{Name, Hexadecimal}

@@ -1,4 +1,4 @@
--- Raw calls and their answers by names.
+-- Raw SMC calls and their answers in a trace, rewritten with the names of commands and outputs.
 use Rattle.std.specs.Prelude.{ℕ, zero, suc, ◌==◌, nat_lt, if◌then◌else◌, List, [], ◌∷◌, slice_index, slice_index_or, Option, Some, None}
 use Rattle.rmm_trace.specs.declared.place.TheConstants.{PLATFORM, PSCI_DENIED, PSCI_SUCCESS}
 use Rattle.rmm_trace.specs.declared.word.Atom.{Atom}

@@ -1,4 +1,5 @@
--- The outputs of commands by name. RMM 1.0, RMI commands: outputs.
+-- The outputs that each RMI command returns with each status, and the words that show them in a trace's answer.
+-- RMM 1.0, RMI commands: outputs.
 use Rattle.std.specs.Prelude.{ℕ, ◌%◌, ◌==◌, Bool, false, ◌&&◌, ◌||◌, if◌then◌else◌, List, slice_index, slice_index_or, Option, Some, None, unwrap_or}
 use Rattle.std.specs.List.{position_from}
 use Rattle.rmi_abi.specs.declared.registers.Registers.{Registers}

@@ -1,4 +1,5 @@
--- Parameter pages, written by their fields. RMM 1.0, RmiRealmParams, RmiRecParams and RmiRecEnter.
+-- The machine after the host has written the fields of a parameter page, as a trace requests. RMM 1.0, RmiRealmParams,
+-- RmiRecParams and RmiRecEnter.
 use Rattle.std.specs.Prelude.{ℕ, ◌+◌, ◌%◌, ◌^◌, ◌==◌, if◌then◌else◌, List, [], ◌∷◌, length}
 use Rattle.rmm_model.specs.Host.{can_fill, after_fill, after_store}
 use Rattle.rmm_model.specs.Machine.{Machine}

@@ -1,4 +1,5 @@
--- The places of names that answers have, each with its name, and the tables of operands, outputs, fields and steps by name.
+-- The conditions that the name constants of answers, and the tables of operands, outputs, page fields and guest steps,
+-- have the right names.
 use Rattle.std.specs.Prelude.{ℕ, ◌+◌, ◌==◌, Bool, true, false, not, ◌&&◌, ◌||◌, List, [], ◌∷◌, codes, slice_index_or}
 use Rattle.std.specs.List.{list_all}
 use Rattle.std.specs.Str.{bytes_eq}

@@ -1,4 +1,4 @@
--- Platforms: the settings read from their words, and their fresh machines.
+-- The settings that a `platform` line of a trace gives, and the fresh machine that the line opens.
 use Rattle.std.specs.Prelude.{ℕ, ◌+◌, ◌%◌, ◌&&◌, nat_le, Bool, false, if◌then◌else◌, List, [], ◌∷◌, replicate, Option, Some, None}
 use Rattle.granule_addr.specs.Page.{zero_page}
 use Rattle.rmi_abi.specs.declared.settings.Layout.TheVariants.{Rel0, Eac5}

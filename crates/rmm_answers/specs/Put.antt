@@ -1,4 +1,4 @@
--- Words of an answer, put after one another.
+-- Operations that append words, flags and named values to an answer in a trace.
 use Rattle.std.specs.Prelude.{ℕ, List, [], ◌∷◌, ◌++◌}
 use Rattle.rmm_trace.specs.declared.word.Atom.{Atom}
 use Rattle.rmm_trace.specs.declared.word.Atom.TheVariants.{Name}

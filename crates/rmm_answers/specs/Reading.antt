@@ -1,4 +1,4 @@
--- Answers to readings of the machine's state, which no host can make.
+-- The answers in a trace to readings of the states of granules, realms and RECs, which no firmware offers to a host.
 use Rattle.std.specs.Prelude.{ℕ, ◌+◌, ◌*◌, ◌%◌, ◌^◌, Bool, true, false, not, ◌||◌, if◌then◌else◌, List, [], take, Option, Some, None, option_and_then, unwrap_or}
 use Rattle.std.specs.List.{sum}
 use Rattle.rmi_abi.specs.declared.hash.HashAlgorithm.{HashAlgorithm}

@@ -1,4 +1,5 @@
--- The registers of a raw answer that is written, compared with ours. RMM 1.0, RMI commands: outputs.
+-- The comparison of the registers in a trace's raw answer with the registers of the model's answer. RMM 1.0, RMI
+-- commands: outputs.
 use Rattle.std.specs.Prelude.{ℕ, Bool, true, ◌&&◌, if◌then◌else◌, List, [], ◌∷◌}
 use Rattle.rmm_trace.specs.declared.word.TraceWord.{TraceWord}
 use Rattle.rmm_trace.specs.Access.{operand_at}
@@ -18,13 +19,13 @@ names_after (name ∷ names) = names
 abbrev pub is_same_output : Bool → TraceWord → TraceWord → Bool
 is_same_output is_output written ours = if is_output then is_same_register written ours else is_register written
 
--- the written registers from X1 on agree with ours wherever the command returns an output
+-- the written registers from X1 on agree with the model's, if the command returns an output in them
 abbrev pub are_outputs_same : ℕ → ℕ → List ℕ → List TraceWord → List TraceWord → Bool
 are_outputs_same place x0 names [] ours = true
 are_outputs_same place x0 names (w ∷ ws) ours =
     is_same_output (is_returned place x0 (first_name names)) w (first_of ours) && are_outputs_same place x0 (names_after names) ws (rest_of ours)
 
--- The written registers of a command's answer agree with ours: X0, and the outputs returned with our X0.
+-- The written registers of a command's answer agree with the model's: X0, and the outputs returned with its X0.
 abbrev pub registers_agree : ℕ → List TraceWord → List TraceWord → Bool
 registers_agree place [] ours = true
 registers_agree place (w ∷ ws) ours =

@@ -1,4 +1,4 @@
--- Answers to questions.
+-- The model's reply to a question of a trace, and the comparison of a written answer with the reply.
 use Rattle.std.specs.Prelude.{ℕ, ◌&&◌, Bool, true, false, if◌then◌else◌, List, [], ◌∷◌, Option, Some, None, ◌==◌}
 use Rattle.std.specs.Str.{bytes_eq}
 use Rattle.std.specs.List.{slice_split}
@@ -56,7 +56,7 @@ is_unanswered reply = is_none_left reply.words.items && is_absent reply.rim
 abbrev pub reply_text : TraceReply → List ℕ
 reply_text reply = text_by reply.rim reply.words.items
 
--- A written answer to a question agrees with ours. Answers to raw calls are compared by registers.
+-- A written answer to a question agrees with the model's. Answers to raw calls are compared by registers.
 abbrev pub is_same_answer : List TraceWord → List TraceWord → List TraceWord → Bool
 is_same_answer question written ours =
     if first_place question == SMC then registers_agree (command_place (operand_at (rest_of question) 0 0)) written ours
@@ -66,7 +66,7 @@ abbrev pub are_same : List TraceWord → Option (List TraceWord) → List TraceW
 are_same question (Some written) ours = is_same_answer question written ours
 are_same question None ours = false
 
--- the text, read as words, agrees with our answer
+-- the text, read as words, agrees with the model's answer
 abbrev pub are_words : List TraceWord → List ℕ → List TraceWord → Bool
 are_words question written ours = are_same question (words_in 64 (slice_split (λ b. b == 32) written)) ours
 

@@ -1,4 +1,4 @@
--- Rounds of calls and of fills: a question is repeated up to the first round that is refused.
+-- The rounds of a repeated call or page fill in a trace, up to the first round that does not succeed.
 use Rattle.std.specs.Prelude.{ℕ, zero, suc, ◌+◌, ◌%◌, ◌==◌, Bool, if◌then◌else◌, List, slice_index, Option, Some, None}
 use Rattle.rmi_abi.specs.declared.registers.Registers.{Registers}
 use Rattle.rmm_model.specs.Call.{rmi}

@@ -1,4 +1,4 @@
--- The words of a question.
+-- The name with which a question of a trace begins, as an index into the table of names.
 use Rattle.std.specs.Prelude.{ℕ, List}
 use Rattle.rmm_trace.specs.declared.word.TraceWord.{TraceWord}
 use Rattle.rmm_trace.specs.Compare.{first_of, place_of}

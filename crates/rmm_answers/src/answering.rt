@@ -1,4 +1,4 @@
-//! Functions that answer the questions of a trace by an RMM.
+//! Functions by which an RMM answers the questions of a trace.
 ghost use Rattle.std.specs.Prelude.{◌≡◌, ◌-◌, []};
 ghost use Rattle.rmm_trace.specs.Access.{operand_at};
 ghost use Rattle.rmm_trace.specs.Compare.{rest_of};
@@ -158,7 +158,8 @@ fn answer_repeat<S: PageStore>(reply: &mut TraceReply, rmm: &mut Rmm<S>, words: 
     answer_rounds(reply, rmm, rest(words), more);
 }
 
-/// Performs a trace's question on an RMM, and writes the answer to `reply`. A `platform` question is no command here.
+/// Performs a trace's question on an RMM, and writes the answer to `reply`. A `platform` question gets the answer
+/// `no command`.
 #[tactic(auto, unfolding(crate::specs::Answering::answered_on))]
 pub fn answer_on<S: PageStore>(rmm: &mut Rmm<S>, question: &[TraceWord], reply: &mut TraceReply)
     ensures { (reply.new, rmm.new) ≡ specs.answered_on question.now rmm.old }

@@ -1,5 +1,4 @@
-//! Functions that append the exit from a REC to a trace's answer. An exit is read in the run page, as the host reads
-//! it.
+//! Functions that append a REC exit to a trace's answer. The exit is read in the run page, as the host reads it.
 ghost use Rattle.std.specs.Prelude.{◌≡◌, ◌+◌, ◌<◌, ◌≤◌, length};
 ghost use Rattle.rmm_answers.specs.Exit as exits;
 

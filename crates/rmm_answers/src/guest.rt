@@ -89,8 +89,8 @@ fn step_words(name: usize, operands: &[TraceWord]) -> StepWords
     }
 }
 
-// The step that the words of a question encode, if they encode one. A guest here has no call of the host with more than
-// three registers.
+// The step that the words of a question encode, if they encode one. A host call of a guest here has at most three
+// registers.
 fn step_in(words: &[TraceWord]) -> Option<StepWords>
     ensures { result ≡ guests.step_in words.now }
 {

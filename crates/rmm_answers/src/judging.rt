@@ -104,8 +104,9 @@ fn allows_name(checks: &EvaluatedChecks, place: usize, rest: &[TraceWord]) -> bo
     allows_written(checks, (place - RMI_SUCCESS) as u64, rest)
 }
 
-/// Whether an answer in a trace is an allowed refusal other than the model's. The evaluated checks allow its word, and
-/// the deciding check has a different word. The word is written as the name of its status with an index, or as X0.
+/// Whether an answer in a trace is an allowed refusal other than the model's. Such a refusal has a word that the
+/// evaluated checks allow, and that is not the deciding check's word. The word is written as the name of its status
+/// with an index, or as X0.
 pub fn is_allowed(written: &[TraceWord], checks: &EvaluatedChecks) -> bool
     ensures { result ≡ judging.is_refusal_allowed written.now checks.now }
 {
@@ -135,9 +136,10 @@ fn is_text_allowed(checks: Option<EvaluatedChecks>, written: &[u8]) -> bool
 /// Compares an answer written in a trace with the model's reply, and returns the verdict. `reply` is the model's reply,
 /// and `machine` is the machine after `reply`.
 ///
-/// Both refuse the call if the answer is allowed, so both machines are those before it. A right word with another check
-/// or another output is wrong. Checks are evaluated only if the answer is not ours. The words of the answer are read
-/// into `words`, which a caller keeps: a sentence that is made for each answer costs more than the comparison.
+/// If the answer is allowed, both answers refuse the call, so both machines are those before it. A right word with
+/// another check or another output is wrong. Checks are evaluated only if the answer is not the model's. The words of
+/// the answer are read into `words`, which the caller reuses: to make a sentence for each answer costs more than the
+/// comparison.
 #[tactic(auto, unfolding(crate::specs::Judging::judged))]
 pub fn judge(
     machine: &TraceMachine,

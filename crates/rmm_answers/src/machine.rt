@@ -16,7 +16,7 @@ use rmm_trace::TraceWord;
 use std::alloc::{AllocError, Global};
 use std::marker::Model;
 
-/// The RMM that answers a trace. There is none before the first valid `platform` line.
+/// The RMM that answers a trace. Before the first valid `platform` line there is no RMM.
 #[derive(Drop)]
 pub struct TraceMachine {
     rmm: Option<Rmm<PlainStore>>,
@@ -36,7 +36,7 @@ impl Model for TraceMachine {
 }
 
 impl TraceMachine {
-    /// Creates a `TraceMachine` that has no RMM yet. It is the machine before the first `platform` question.
+    /// Creates a `TraceMachine` without an RMM, as before the first `platform` question.
     pub fn new() -> TraceMachine
         ensures { result ≡ None }
     {
@@ -73,9 +73,9 @@ impl TraceMachine {
         }
     }
 
-    /// Performs what a question of a trace asks of the machine, and writes the answer to `reply`. A platform opens a
-    /// fresh machine, or is no command, and it alone takes memory: an error leaves the machine as it is. Before the
-    /// first platform that is opened any other question is no command.
+    /// Performs a question of a trace on the machine, and writes the answer to `reply`. A `platform` question opens a
+    /// fresh machine, or gets the answer `no command`. No other question takes memory, and an error leaves the machine
+    /// unchanged. Before the first platform that is opened, any other question gets the answer `no command`.
     #[tactic(auto, unfolding(crate::specs::Answering::answered))]
     pub fn answer(
         &mut self,

@@ -14,8 +14,7 @@ use rmm_trace::place::{
 };
 use rmm_trace::{Atom, TraceWord, after_name, operand};
 
-/// The name index and the byte offset of each field of RmiRealmParams. The index is that in the table of names, and the
-/// offset is that in the page.
+/// The fields of RmiRealmParams, each with the index of its name in the table of names and its byte offset in the page.
 pub const REALM_FIELDS: [(usize, u64); 12] = [
     (FLAGS, 0x0),
     (S2SZ, 0x8),
@@ -31,8 +30,8 @@ pub const REALM_FIELDS: [(usize, u64); 12] = [
     (RTT_NUM_START, 0x818),
 ];
 
-/// The name index and the byte offset of each RmiRecParams field except NUM_AUX. The index is that in the table of
-/// names, and the offset is that in the page. NUM_AUX is the number of values of `aux`.
+/// The fields of RmiRecParams except NUM_AUX, each with the index of its name in the table of names and its byte offset
+/// in the page. NUM_AUX is the number of values of `aux`.
 pub const REC_FIELDS: [(usize, u64); 5] = [
     (FLAGS, 0x0),
     (MPIDR, 0x100),
@@ -41,8 +40,7 @@ pub const REC_FIELDS: [(usize, u64); 5] = [
     (AUX, 0x808),
 ];
 
-/// The name index and the byte offset of each field of RmiRecEnter. The index is that in the table of names, and the
-/// offset is that in the page.
+/// The fields of RmiRecEnter, each with the index of its name in the table of names and its byte offset in the page.
 pub const RUN_FIELDS: [(usize, u64); 4] = [
     (FLAGS, 0x0),
     (GPRS, 0x200),

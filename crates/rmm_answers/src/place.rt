@@ -1,5 +1,5 @@
 //! Constants for names that occur in a trace's answers, as indices into the table of names. The theorem
-//! `answer_places_are_of_their_names` says which name is at each place.
+//! `answer_places_are_of_their_names` says which name is at each index.
 pub const DONE: usize = 116;
 
 pub const FAULT: usize = 117;

@@ -115,16 +115,16 @@ fn open(alloc: Global, words: &[TraceWord]) -> Result<Option<Rmm<PlainStore>>, A
     }
 }
 
-/// Whether a question in a trace begins with the word `platform`. Such a question opens a fresh machine, if this RMM
-/// has such a platform.
+/// Whether a question in a trace begins with the word `platform`. Such a question opens a fresh machine, if the number
+/// of granules and each setting are in range.
 pub fn is_platform(question: &[TraceWord]) -> bool
     ensures { result ≡ (first_place question.now == PLATFORM) }
 {
     first_place(question) == PLATFORM
 }
 
-/// Opens a new RMM with the settings in a trace's `platform` line. None comes if this RMM has no such platform. A
-/// platform has 1 to 4,096 granules below 2^47.
+/// Opens a new RMM with the settings in a trace's `platform` line. Returns `None` if the number of granules or a
+/// setting is out of range. A platform has 1 to 4,096 granules below 2^47.
 pub fn open_platform(
     alloc: Global,
     question: &[TraceWord],

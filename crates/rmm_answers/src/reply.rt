@@ -20,7 +20,7 @@ pub enum Digest {
 }
 
 /// The reply to a question in a trace: words, or a measurement. The reply to a `platform` question that opens a machine
-/// is neither.
+/// has neither.
 #[derive(Drop)]
 pub struct TraceReply {
     pub words: Sentence,
@@ -41,7 +41,7 @@ impl Digest {
         }
     }
 
-    /// Appends the hexadecimal digits of a digest to a text. After an Err none of them is there.
+    /// Appends the hexadecimal digits of a digest to a text. An `Err` leaves the text unchanged.
     pub fn push_digits(&self, text: &mut Vec<u8>) -> Result<(), AllocError>
         ensures ok { OnOk result (text.new.items ≡ text.old.items ++ replies.digest_text self.now) }
         ensures err { OnErr result (text.new.items ≡ text.old.items) }
@@ -82,7 +82,7 @@ fn are_words(
 }
 
 impl TraceReply {
-    /// Creates an empty reply. It is the answer to a `platform` question.
+    /// Creates an empty reply, the reply to a `platform` question that opens a machine.
     pub fn new() -> TraceReply
         ensures { result ≡ replies.no_answer }
     {
@@ -102,7 +102,7 @@ impl TraceReply {
         self.refused = None;
     }
 
-    /// Sets the reply to the words `no command`. It is the reply to a line that is not a command.
+    /// Sets the reply to the words `no command`, the reply to a line that is not a command.
     #[tactic(auto, unfolding(crate::specs::Replies::no_command))]
     pub fn no_command(&mut self)
         ensures { self.new ≡ replies.no_command }

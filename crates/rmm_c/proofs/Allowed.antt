@@ -1,4 +1,4 @@
--- The words that evaluated checks allow, by their rows.
+-- Proofs that X0 is an allowed answer exactly if it is the word of a failed check, or RMI_SUCCESS if no check failed.
 use Rattle.std.proofs.Common.{ℕ, ◌≡◌, ◌==◌, ◌||◌, Bool, true, false, List, [], ◌∷◌, refl, ap, sym, ◌∙◌}
 use Rattle.std.specs.List.{list_any}
 use Rattle.rmi_abi.specs.declared.word.Word.{Word}
@@ -45,12 +45,12 @@ or_nothing : (b : Bool) → (b || false) ≡ b
 or_nothing true = refl
 or_nothing false = refl
 
--- if a check failed, the words are those of the checks that did
+-- if a check failed, the allowed words are those of the failed checks
 pub failed_any : (rows : List EvaluatedCheck) (x0 : ℕ) → list_any (λ row. is_failure row.outcome) rows ≡ true
     → list_any (λ row. refuses_with x0 row.outcome) rows ≡ is_among_words x0 (or_success (failed_words rows))
 failed_any rows x0 h = sym (ap (λ (words : List Word). is_among_words x0 words) (some_words rows h) ∙ words_any x0 rows)
 
--- and else it is RMI_SUCCESS
+-- if no check failed, the only allowed word is RMI_SUCCESS
 pub passed_any : (rows : List EvaluatedCheck) (x0 : ℕ) → list_any (λ row. is_failure row.outcome) rows ≡ false
     → (x0 == 0) ≡ is_among_words x0 (or_success (failed_words rows))
 passed_any rows x0 h = sym (ap (λ (words : List Word). is_among_words x0 (or_success words)) (no_words rows h) ∙ or_nothing (x0 == 0))

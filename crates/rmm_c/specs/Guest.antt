@@ -1,4 +1,4 @@
--- Guests of RECs on a handle: their steps, the end of their run, and their results.
+-- The C interface to the guests of RECs: queued steps, interrupts of running RECs, and the results of steps.
 use Rattle.std.specs.Prelude.{ℕ, ◌+◌, ◌*◌, ◌&&◌, nat_lt, Option, Some, None, option_map, option_and_then, if◌then◌else◌}
 use Rattle.rmi_abi.specs.Word.{number}
 use Rattle.rmm_model.specs.declared.rec.RmmRec.{RmmRec}

@@ -1,5 +1,5 @@
--- Judgements of calls by registers: the check that decides, and the words that an RMM may answer. RMM 1.0, failure
--- conditions of RMI commands and their ordering.
+-- The check that decides an RMI call given by its registers, and the result words that an RMM may answer. RMM 1.0,
+-- failure conditions of RMI commands and their ordering.
 use Rattle.std.specs.Prelude.{ℕ, ◌==◌, ◌-◌, ◌^◌, Bool, false, List, Option, Some, None}
 use Rattle.std.specs.List.{list_any}
 use Rattle.rmi_abi.specs.declared.call.Call.{Call}

@@ -1,4 +1,4 @@
--- Lines of a trace on a handle.
+-- The effect of a trace line on the RMM of a C handle, and the answer text in the caller's buffer.
 use Rattle.std.specs.Prelude.{◌≡◌, ◌⊎◌, ℕ, List, [], ◌∷◌, ◌++◌, length, take, drop, Option}
 use Rattle.rmm_model.specs.Machine.{Machine}
 use Rattle.rmm_trace.specs.declared.line.LineKind.{LineKind}
@@ -16,11 +16,11 @@ answered_by Remark q m = (no_answer, m)
 answered_by Question q m = answered q m
 answered_by Neither q m = (no_command, m)
 
--- our answer to a line, and the new machine; a remark has no answer and changes nothing
+-- the model's answer to a line, and the new machine; a remark has no answer and changes nothing
 abbrev pub line_answered : RmmTraceLine → Option Machine → TraceReply × Option Machine
 line_answered line m = answered_by line.kind line.words.items m
 
--- our answer to a line given by its bytes, and the new machine
+-- the model's answer to a line given by its bytes, and the new machine
 abbrev pub on_line : List ℕ → Option Machine → TraceReply × Option Machine
 on_line bytes m = line_answered (line_in GROUPS START bytes) m
 
@@ -35,7 +35,7 @@ pub record IsLineAnswered (bytes old : List ℕ) (before : Option Machine) (retu
   pub text : new ≡ put_text (reply_text (on_line bytes before).0) old
   pub machine : after ≡ (on_line bytes before).1
 
--- A line is not answered for want of memory: the buffer is as it was, and the line was performed or nothing has changed.
+-- A line is not answered if allocation failed: the buffer is unchanged, and the line was performed or nothing changed.
 pub record IsLineLost (bytes old : List ℕ) (before : Option Machine) (new : List ℕ) (after : Option Machine) : Type 0 where
   pub text : new ≡ old
   pub machine : (after ≡ before) ⊎ (after ≡ (on_line bytes before).1)

@@ -1,4 +1,4 @@
--- Loads and stores of the host on a handle, by bytes within one granule. A closed handle has no memory.
+-- The host's loads and stores of bytes within one granule, through a C handle. A closed handle has no memory.
 use Rattle.std.specs.Prelude.{ℕ, Bool, false, List, length, Option, unwrap_or, option_map}
 use Rattle.rmm.specs.Bytes.{can_access_bytes, after_store_bytes}
 use Rattle.rmm_model.specs.Machine.{Machine}

@@ -1,4 +1,5 @@
--- Readings of a machine as C has them. The numbers of states are this library's, but for those of RmiRipas and RmiHashAlgorithm.
+-- The states of granules, realms and RECs as the C interface reports them. The numbers of states are this library's
+-- own, but those of RmiRipas and RmiHashAlgorithm are from RMM 1.0.
 use Rattle.std.specs.Prelude.{◌≡◌, ℕ, ◌+◌, ◌*◌, ◌%◌, ◌^◌, Bool, if◌then◌else◌, Option, is_some, unwrap_or, option_map, option_and_then}
 use Rattle.rmi_abi.specs.declared.hash.HashAlgorithm.{HashAlgorithm}
 use Rattle.rmi_abi.specs.declared.hash.HashAlgorithm.TheVariants.{Sha256, Sha512}

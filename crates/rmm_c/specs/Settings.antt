@@ -1,4 +1,4 @@
--- Settings as C has them, and the machine of a handle that is opened.
+-- The platform settings of the C interface: their valid ranges, and the machine of a handle opened with them.
 use Rattle.std.specs.Prelude.{◌==◌, ◌&&◌, Bool, nat_le, replicate, Option, Some, None, if◌then◌else◌}
 use Rattle.granule_addr.specs.Page.{zero_page}
 use Rattle.rmi_abi.specs.declared.settings.Layout.TheVariants.{Rel0, Eac5}

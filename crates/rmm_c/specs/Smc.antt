@@ -1,4 +1,4 @@
--- Calls by registers on a handle.
+-- The effect of an SMC call on the RMM of a C handle: the registers and the machine after the call.
 use Rattle.std.specs.Prelude.{Option, Some, None}
 use Rattle.rmi_abi.specs.declared.registers.Registers.{Registers}
 use Rattle.rmi_abi.specs.Answer.{not_supported}

@@ -27,8 +27,9 @@ pub struct RealmAttributes {
 
 /// The attributes of a REC, as a C struct. RMM 1.0, REC attributes.
 ///
-/// `state` is 0 for READY and 1 for RUNNING. `ripas_base`, `ripas_top` and `ripas_value` are what is left of the change
-/// of RIPAS that it asked for. What is a fact is 1 if it holds, and 0 if not: C may not have written it before.
+/// `state` is 0 for READY and 1 for RUNNING. `ripas_base`, `ripas_top` and `ripas_value` are what is left of the RIPAS
+/// change that the REC has requested. A flag is a number, 1 if it holds and 0 if not, because C may not have
+/// initialized it.
 #[repr(C)]
 #[derive(Drop)]
 pub struct RecAttributes {

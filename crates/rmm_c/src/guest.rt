@@ -1,4 +1,4 @@
-//! Functions that give steps to RECs' guests, end their runs, and read their results.
+//! Functions that queue steps for the guests of RECs, end the guests' runs, and read the results of steps.
 ghost use Rattle.std.specs.Prelude.{◌≡◌, option_map};
 ghost use Rattle.rmm_c.specs.Guest.{words_of, queued_code, on_guest, result_shown, interrupt_word, after_interrupt};
 ghost use Rattle.rmm_c.specs.Reading.{Reads};
@@ -19,7 +19,7 @@ pub struct RawStep {
     pub d: u64,
 }
 
-/// The result of a guest's step: its kind, and its value. The value of a result without one is 0.
+/// The result of a guest's step: a kind, and a value that is 0 if the kind has none.
 #[repr(C)]
 #[derive(Drop)]
 pub struct GuestStepResult {
@@ -56,8 +56,8 @@ fn code(queued: Queued) -> u64
     }
 }
 
-/// Queues a step for the guest of a REC. Returns 0; or 1 if the guest has 16 steps, and 2 if no REC is at the address,
-/// and then nothing changes.
+/// Queues a step for the guest of a REC. Returns 0 on success, 1 if the guest has 16 steps already, and 2 if no REC is
+/// at the address. Unless 0 is returned, nothing changes.
 #[unsafe(no_mangle)]
 pub extern "C" fn rmm_guest(alloc: Global, handle: &mut RmmHandle, rec: u64, step: &RawStep) -> u64
     ensures { (result, handle.new.held.machine) ≡ on_guest rec step.now handle.old.held.machine }

@@ -1,4 +1,4 @@
-//! Handles through which a C program keeps an RMM.
+//! The handle through which a C program owns an RMM.
 ghost use Rattle.std.specs.Prelude.{◌≡◌, Some, None, IfSome, IfNone, is_some};
 
 use crate::{HeldRmm, PlainRmm};
@@ -6,7 +6,7 @@ use box_parts::BoxParts;
 use std::alloc::Global;
 use std::mem::replace;
 
-/// A handle through which a C program keeps an RMM. A closed handle has no RMM. A handle whose bytes are all 0 is
+/// A handle through which a C program owns an RMM. A closed handle has no RMM. A handle whose bytes are all 0 is
 /// closed.
 #[repr(C)]
 #[derive(Drop)]
@@ -34,7 +34,7 @@ impl RmmHandle {
         Some(held.into_parts(alloc).into_box())
     }
 
-    // Puts an RMM into a closed handle. The RMM of an open one would never be given back.
+    // Puts an RMM into a closed handle. The RMM of an open handle would never be freed.
     pub(crate) fn give(&mut self, rmm: Box<PlainRmm>)
         requires closed { self.old.held.machine ≡ None }
         ensures { self.new.held.machine ≡ Some rmm.value }

@@ -1,4 +1,4 @@
-//! A heap-allocated RMM that a C program keeps. No other file knows its pointer.
+//! The pointer to a heap-allocated RMM that a handle of a C program owns. No other file has access to the pointer.
 ghost use Rattle.std.specs.Prelude.{◌≡◌, true, Option, Some, None, is_some};
 ghost use Rattle.std.specs.Coded.{coded_option};
 ghost use Rattle.rmm_model.specs.Codes.{machine_code};

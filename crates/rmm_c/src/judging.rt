@@ -81,8 +81,8 @@ fn is_allowed(plain: &PlainRmm, registers: Registers, x0: u64) -> bool
     }
 }
 
-/// Returns the number of the failure condition for which the RMM would refuse a call. The call has these registers, and
-/// the machine is in its current state. The call is not performed.
+/// Returns the number of the failure condition for which a handle's RMM would now refuse the call with the given
+/// registers. The call is not performed.
 ///
 /// The number is 0 if no check fails, for a function that is no command, and on a closed handle. The numbers are those
 /// of the failure conditions in `rmm_model::Condition`, from 1 on.
@@ -104,8 +104,8 @@ pub extern "C" fn rmm_deciding_check(
     check
 }
 
-/// Whether an RMM may answer a call with `x0` as the value of X0. The call has these registers, and the machine is in
-/// its current state. The call is not performed.
+/// Whether an RMM in the handle's current state may return `x0` in X0 for the call with the given registers. The call
+/// is not performed.
 ///
 /// X0 may be the word of each check that is made and fails, and RMI_SUCCESS if none does. For a function that is no
 /// command, and on a closed handle, it is NOT_SUPPORTED alone. RMM 1.0, failure conditions and their ordering.

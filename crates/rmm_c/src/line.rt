@@ -133,10 +133,10 @@ fn put_text(text: &[u8], buffer: &mut [u8])
 /// Performs a line of a trace on an RMM, and writes the answer to `answer`. The answer is the text that
 /// `rmitrace answer` puts after ` = `.
 ///
-/// A zero ends the text, and a text without enough room is cut before it. Returns the length of the whole text, which
-/// is 0 for a comment and for a platform. A platform gives the handle a fresh RMM, also a closed one.
+/// A zero ends the text, and a text that does not fit is cut before it. Returns the length of the whole text, which is
+/// 0 for a comment and for a platform. A platform gives the handle a fresh RMM, also a closed one.
 ///
-/// 2^64 - 1 comes if allocation failed: then nothing is written, and the line was performed or nothing has changed.
+/// Returns 2^64 - 1 if allocation failed. Then nothing is written, and the line was performed or nothing has changed.
 #[unsafe(no_mangle)]
 pub extern "C" fn rmm_line(
     alloc: Global,

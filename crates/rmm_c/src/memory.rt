@@ -20,8 +20,8 @@ fn load_bytes(plain: &PlainRmm, address: u64, bytes: &mut [u8]) -> bool
     }
 }
 
-/// Loads bytes within one granule. Returns false, and writes nothing, if the host faults, for bytes of more than one
-/// granule, and on a closed handle.
+/// Loads bytes within one granule. Returns false, and writes nothing, if the host faults, if the bytes are of more than
+/// one granule, or if the handle is closed.
 #[unsafe(no_mangle)]
 pub extern "C" fn rmm_load(
     alloc: Global,
@@ -41,8 +41,8 @@ pub extern "C" fn rmm_load(
     is_loaded
 }
 
-/// Stores bytes within one granule. Returns false, and changes nothing, if the host faults, for bytes of more than one
-/// granule, and on a closed handle.
+/// Stores bytes within one granule. Returns false, and changes nothing, if the host faults, if the bytes are of more
+/// than one granule, or if the handle is closed.
 #[unsafe(no_mangle)]
 pub extern "C" fn rmm_store(
     alloc: Global,

@@ -1,4 +1,4 @@
-//! Functions that open and close a C program's handle of an RMM.
+//! Functions that open and close a C program's handle to an RMM.
 ghost use Rattle.std.specs.Prelude.{◌≡◌, ◌≢◌, ◌≤◌, ◌↔◌, true, false, None, Some, is_some};
 ghost use Rattle.rmm_c.specs.Settings.{is_machine, opened_machine};
 
@@ -14,11 +14,11 @@ const NO_MEMORY: u64 = 2;
 
 const ALREADY_OPEN: u64 = 3;
 
-/// Opens a closed handle with a fresh RMM. The RMM has these settings. Each granule is UNDELEGATED, and its bytes are
+/// Opens a closed handle with a fresh RMM that has the given settings. Each granule is UNDELEGATED, and its bytes are
 /// 0.
 ///
-/// Returns 0 if the handle is open now; else nothing changes. 3 comes exactly if it was open, and 2 if allocation
-/// failed. 1 comes exactly if it was closed and no machine has these settings.
+/// Returns 0 if the handle is opened; otherwise nothing changes. The result is 3 exactly if the handle was open, and 2
+/// if allocation failed. The result is 1 exactly if the handle was closed and no machine has these settings.
 #[unsafe(no_mangle)]
 pub extern "C" fn rmm_open(
     alloc: Global,
@@ -52,7 +52,7 @@ pub extern "C" fn rmm_open(
     OPENED
 }
 
-/// Closes a handle, and frees the memory of its RMM. A closed one stays closed.
+/// Closes a handle, and frees the memory of its RMM. A handle that is already closed stays closed.
 #[unsafe(no_mangle)]
 pub extern "C" fn rmm_close(alloc: Global, handle: &mut RmmHandle)
     ensures { handle.new.held.machine ≡ None }

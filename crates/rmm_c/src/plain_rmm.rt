@@ -10,7 +10,7 @@ use rmm_granules::Granules;
 use std::alloc::Global;
 use std::marker::Model;
 
-/// An RMM that keeps the pages of its granules in a `PlainStore`. It is seen as its machine.
+/// An RMM that keeps the pages of its granules in a `PlainStore`. The logical view of the RMM is its machine.
 #[derive(Drop)]
 pub struct PlainRmm {
     pub(crate) rmm: Rmm<PlainStore>,
@@ -28,7 +28,7 @@ impl Model for PlainRmm {
 }
 
 impl PlainRmm {
-    /// Creates an RMM with `count` UNDELEGATED granules. Their bytes are 0. `None` comes if there is no memory, or if
+    /// Creates an RMM with `count` UNDELEGATED granules, whose bytes are 0. Returns `None` if allocation fails, or if
     /// `count` is out of range.
     pub(crate) fn open(alloc: Global, platform: Platform, count: u16) -> Option<PlainRmm>
         ensures { IfSome result (λ plain.

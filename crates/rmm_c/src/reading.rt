@@ -55,7 +55,8 @@ fn rec_of(plain: &PlainRmm, rec: u64) -> Option<RecAttributes>
     Some(rec_attributes(&attributes))
 }
 
-/// Writes the state of the granule at an address to `state`. Returns false, and writes nothing, if there is none.
+/// Writes the state of the granule at an address to `state`. Returns false, and writes nothing, if there is no such
+/// granule.
 #[unsafe(no_mangle)]
 pub extern "C" fn rmm_read_state(
     alloc: Global,
@@ -75,7 +76,7 @@ pub extern "C" fn rmm_read_state(
 }
 
 /// Writes word `index` of the granule at an address to `word`. A word is eight bytes, little endian. Returns false, and
-/// writes nothing, if there is no such granule, for an index above 511, and on a closed handle.
+/// writes nothing, if there is no such granule, if the index is above 511, or if the handle is closed.
 #[unsafe(no_mangle)]
 pub extern "C" fn rmm_read_word(
     alloc: Global,
@@ -95,8 +96,8 @@ pub extern "C" fn rmm_read_word(
     report(found, word)
 }
 
-/// Writes the attributes of a realm to `realm`. The RD of the realm is at address `rd`. Returns false, and writes
-/// nothing, if no RD is there.
+/// Writes the attributes of the realm whose RD is at address `rd` to `realm`. Returns false, and writes nothing, if no
+/// RD is there.
 #[unsafe(no_mangle)]
 pub extern "C" fn rmm_read_realm(
     alloc: Global,

@@ -4,8 +4,8 @@ ghost use Rattle.rmm_c.specs.Settings as settings;
 
 use rmi_abi::{Layout, Platform, RmmSettings};
 
-/// The settings of a platform, as a C struct. They are the number of its granules, and the settings of its RMM.
-/// `layout` is 0 for that of RMM 1.0-rel0, and 1 for that of 1.0-eac5.
+/// The settings of a platform as a C struct: the number of granules, and the settings of the RMM. `layout` is 0 for
+/// that of RMM 1.0-rel0, and 1 for that of 1.0-eac5.
 #[repr(C)]
 #[derive(Drop)]
 pub struct PlatformSettings {

@@ -1,4 +1,4 @@
--- The first check that was made and failed, one row at a time.
+-- Lemmas on the search for the first failed check in a list of evaluated checks, one check at a time.
 use Rattle.std.proofs.Common.{◌≡◌, ℕ, ◌+◌, ◌<◌, ◌≤◌, List, None, Some, Option, length, get_or, drop, refl, sym, ap, add-one, drop-cons}
 use Rattle.std.proofs.lemmas.List.{drop_all}
 use Rattle.rmm_model.specs.declared.answer.FailedCondition.{FailedCondition}
@@ -18,7 +18,7 @@ pub failed_end : (rows : List EvaluatedCheck) (i : ℕ) → length rows ≤ i �
 unfolding first_failed
 failed_end rows i past = ap first_failed (drop_all i rows past)
 
--- a row that is no refusal is passed, and one that is decides
+-- a row that is no refusal is skipped, and one that is a refusal decides
 pub none_here : (r : EvaluatedCheck) (outcome : CheckOutcome) (rest : Option FailedCondition) → None ≡ refusal_or r outcome None → refusal_or r outcome rest ≡ rest
 none_here r NotMade rest h = refl
 none_here r Passed rest h = refl

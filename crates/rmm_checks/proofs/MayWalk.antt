@@ -1,4 +1,4 @@
--- Walks that can be made where the checks before them were made and passed.
+-- Proofs that a walk of a realm's translation tables can be made if the checks before the walk were made and passed.
 use Rattle.std.proofs.Common.{◌≡◌, ℕ, ◌+◌, ◌-◌, ◌^◌, ◌&&◌, ◌||◌, Bool, true, false, not, nat_le, nat_lt, List, [], ◌∷◌, Option, Some, None, is_none, is_some, refl, sym, ◌∙◌, arith}
 use Rattle.std.specs.List.{list_all}
 use Rattle.std.proofs.lemmas.Bool.{and_parts, and_from, not-false, leb-true, le-leb, ltb-true, lt-ltb}
@@ -19,15 +19,15 @@ use Rattle.rmm_granules.proofs.Widths.{half_fits}
 abbrev pub before_walk : List Condition
 before_walk = RdState ∷ IpaAlign ∷ IpaBound ∷ []
 
--- and that of a walk in a NEW realm
+-- the checks that the check of a walk in a NEW realm comes after
 abbrev pub before_new_walk : List Condition
 before_new_walk = RdState ∷ IpaAlign ∷ IpaBound ∷ RealmState ∷ []
 
--- a check that is sure to pass does not fail, where it is the one of its condition
+-- a check that is sure to pass does not fail, if it is the only one of its condition
 pub known : (n : ℕ) (cs : List Check) (x : Condition) (fails rest : Bool) → sure n cs x ≡ true → sure n cs x ≡ ((not fails && rest) || false) → (fails ≡ false) × (rest ≡ true)
 known n cs x fails rest passes is = sure_parts fails rest (sym is ∙ passes)
 
--- and those of walks to the start of a range
+-- the checks that the check of a walk to the start of a range comes after
 abbrev pub before_range : List Condition
 before_range = Size ∷ RdState ∷ BaseBound ∷ TopBound ∷ RealmState ∷ []
 

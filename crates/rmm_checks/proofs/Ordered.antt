@@ -1,4 +1,4 @@
--- The checks of each command come after ones that are before them in its list.
+-- A proof that the checks on which a check of an RMI command depends are earlier in the command's list.
 use Rattle.std.proofs.Common.{◌≡◌, true, [], refl}
 use Rattle.rmi_abi.specs.declared.call.Call.{Call}
 use Rattle.rmi_abi.specs.declared.call.Call.TheVariants.{Version, Features, GranuleDelegate, GranuleUndelegate, RealmCreate, RealmActivate, RealmDestroy, RecAuxCount, RecCreate, RecDestroy, RecEnter, RttCreate, RttDestroy, RttFold, RttReadEntry, RttMapUnprotected, RttUnmapUnprotected, DataCreate, DataCreateUnknown, DataDestroy, RttInitRipas, RttSetRipas, PsciComplete}

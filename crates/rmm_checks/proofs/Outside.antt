@@ -1,4 +1,4 @@
--- Granules outside the machine.
+-- A proof that the model gives a granule outside the machine the state UNDELEGATED and no owner.
 use Rattle.std.proofs.Common.{◌≡◌, ℕ, ◌≤◌}
 use Rattle.std.proofs.lemmas.List.{get_or_past}
 use Rattle.rmm_model.specs.declared.granule.RmmGranuleState.TheVariants.{Undelegated}

@@ -1,4 +1,5 @@
--- The first check that was made and failed, and the words of all that were.
+-- Proofs that the first failed check of a call, and the words of all failed checks, agree with the command's
+-- definition.
 use Rattle.std.specs.Prelude.{if◌then◌else◌}
 use Rattle.std.proofs.Common.{◌≡◌, ◌==◌, ◌&&◌, ◌||◌, Bool, true, false, cond, List, [], ◌∷◌, ◌++◌, Option, Some, None, ⊎_elim, refl, ap, sym, ◌∙◌, append_assoc}
 use Rattle.std.specs.List.{list_all}

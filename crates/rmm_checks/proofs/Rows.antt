@@ -1,4 +1,4 @@
--- Evaluated checks, one list after another.
+-- Lemmas on the evaluation of checks: one list after another, and with a test or an answer replaced by an equal one.
 use Rattle.std.proofs.Common.{◌≡◌, Bool, true, false, not, List, [], ◌∷◌, ◌++◌, Option, Some, None, is_none, is_some, refl, ap, subst, ◌∙◌}
 use Rattle.rmi_abi.specs.declared.registers.SmcResult.{SmcResult}
 use Rattle.rmm_model.specs.declared.condition.Condition.{Condition}
@@ -20,7 +20,7 @@ pub told : {r s : List EvaluatedCheck} {condition : Condition} {after : List Con
     → Adds r (check condition after test answer ∷ []) s → Adds r (check condition after fails answer ∷ []) s
 told {r} {s} {condition} {after} {test} {fails} {answer} same added = subst (λ (b : Bool). Adds r (check condition after b answer ∷ []) s) same added
 
--- and by the answer of its definition
+-- a check is evaluated by the answer of its definition
 pub told_answer : {r s : List EvaluatedCheck} {condition : Condition} {after : List Condition} {fails : Bool} {given answer : SmcResult} → given ≡ answer
     → Adds r (check condition after fails given ∷ []) s → Adds r (check condition after fails answer ∷ []) s
 told_answer {r} {s} {condition} {after} {fails} {given} {answer} same added = subst (λ (a : SmcResult). Adds r (check condition after fails a ∷ []) s) same added

@@ -1,4 +1,4 @@
--- Checks that were made and passed: they do not fail, and neither do the checks that they come after.
+-- Proofs that a check evaluated as passed does not fail by its definition, nor does any check on which it depends.
 use Rattle.std.specs.Prelude.{if◌then◌else◌}
 use Rattle.std.proofs.Common.{◌≡◌, ℕ, zero, suc, ◌==◌, ◌&&◌, ◌||◌, Bool, true, false, not, List, [], ◌∷◌, ◌++◌, ⊎_elim, refl, ap, sym, ◌∙◌}
 use Rattle.std.specs.List.{list_all, list_any}
@@ -100,7 +100,7 @@ pub made-sure : (cs : List Check) (after : List Condition) (n : ℕ) → is_made
 unfolding is_made
 made-sure cs after n h = list_all_more (is_passed (evaluated_after [] cs)) (sure n cs) (λ x passed. passed-sure cs x n passed) after h
 
--- a check is not made where one that it comes after fails
+-- a check is not made if one that it comes after fails
 pub unmade : (cs : List Check) (after : List Condition) (n : ℕ) → list_all (sure n cs) after ≡ false → is_made (evaluated_after [] cs) after ≡ false
 unmade cs after n fails =
     ⊎_elim

@@ -1,4 +1,4 @@
--- Checks whose tests are known only where they are made.
+-- Lemmas on checks whose test and answer are known to match the command's definition only if the check is made.
 use Rattle.std.specs.Prelude.{if◌then◌else◌}
 use Rattle.std.proofs.Common.{◌≡◌, ℕ, ◌==◌, ◌&&◌, ◌||◌, Bool, true, false, not, List, [], ◌∷◌, ◌++◌, ⊎_elim, refl, ap, sym, ◌∙◌}
 use Rattle.std.specs.List.{list_all}
@@ -25,7 +25,7 @@ same_outcome false test fails given answer same = refl
 abbrev row : Condition → CheckOutcome → EvaluatedCheck
 row condition outcome = record { condition = condition; outcome = outcome }
 
--- a check is evaluated by the test and the answer of its definition, which it has where it is made
+-- a check is evaluated by the test and the answer of its definition, which it has if it is made
 pub told_where : {r s : List EvaluatedCheck} {condition : Condition} {after : List Condition} {test fails : Bool} {given answer : SmcResult}
     → (is_made r after ≡ true → (test ≡ fails) × (given ≡ answer))
     → Adds r (check condition after test given ∷ []) s → Adds r (check condition after fails answer ∷ []) s
@@ -65,7 +65,7 @@ absent_on {r} {s} {y} {after} {test} {answer} x none other added =
     ∙ ap (λ (b : Bool). b || (condition_number y == condition_number x && is_pass (row_after r c).outcome)) none
     ∙ ap (λ (b : Bool). b && is_pass (row_after r c).outcome) other
 
--- and where it was made before a check of another condition
+-- a condition that passed after a check of another condition passed before that check
 pub made_before : {r s : List EvaluatedCheck} {y : Condition} {after : List Condition} {test : Bool} {answer : SmcResult} (x : Condition)
     → (condition_number y == condition_number x) ≡ false → Adds r (check y after test answer ∷ []) s → is_made s (x ∷ []) ≡ true → is_made r (x ∷ []) ≡ true
 unfolding evaluated_after is_made

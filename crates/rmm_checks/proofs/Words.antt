@@ -1,4 +1,4 @@
--- The words that a monitor may answer, by the rows of evaluated checks.
+-- Proofs that an RMM may answer exactly with the words of the failed checks, or with RMI_SUCCESS if no check failed.
 use Rattle.std.proofs.Common.{◌≡◌, ◌==◌, ◌||◌, Bool, true, false, List, [], ◌∷◌, refl, ap, sym, ◌∙◌}
 use Rattle.std.specs.List.{list_any}
 use Rattle.rmi_abi.specs.declared.word.Word.{Word}
@@ -46,14 +46,14 @@ or_nothing : (b : Bool) → (b || false) ≡ b
 or_nothing true = refl
 or_nothing false = refl
 
--- where a check failed, the words are those of the checks that did
+-- if a check failed, the allowed words are those of the failed checks
 pub allowed_failed : (rows : List EvaluatedCheck) (word : Word) → list_any (λ row. is_failure row.outcome) rows ≡ true → list_any (λ row. has_word word row.outcome) rows ≡ is_allowed rows word
 unfolding is_allowed
 allowed_failed rows word h =
     let same = ap (λ (words : List Word). list_any (λ allowed. number word == number allowed) words) (some_words rows h) ∙ words_any word rows in
     sym same
 
--- and else it is RMI_SUCCESS
+-- if no check failed, the only allowed word is RMI_SUCCESS
 pub allowed_success : (rows : List EvaluatedCheck) (word : Word) → list_any (λ row. is_failure row.outcome) rows ≡ false → (number word == 0) ≡ is_allowed rows word
 unfolding is_allowed
 allowed_success rows word h =

@@ -1,4 +1,5 @@
--- Walks that can be made, and the tables that their entries lead to.
+-- The condition under which a walk of translation tables can be made, and the page of the table to which an entry
+-- points.
 use Rattle.std.specs.Prelude.{ℕ, ◌&&◌, Bool, nat_le, List, is_some, unwrap_or}
 use Rattle.rmm_model.specs.declared.entry.RmmRttEntry.{RmmRttEntry}
 use Rattle.rmm_model.specs.Granule.{realm_of}

@@ -1,4 +1,5 @@
--- Evaluated checks. A check is made where each check that it comes after was made and passed.
+-- The checks of an RMI call, each with its outcome: not made, passed or failed. A check is made if each check that it
+-- comes after was made and passed.
 use Rattle.std.specs.Prelude.{◌≡◌, ◌==◌, ◌&&◌, Bool, true, false, List, [], ◌∷◌, ◌++◌, Option, Some, None, if◌then◌else◌}
 use Rattle.std.specs.List.{list_all, list_any}
 use Rattle.rmi_abi.specs.declared.word.Word.{Word}
@@ -79,6 +80,6 @@ abbrev pub has_word : Word → CheckOutcome → Bool
 has_word word (Failed answer) = number word == number answer.word
 has_word word _ = false
 
--- An RMM may answer with a word: that of a check that was made and failed, or RMI_SUCCESS where there is none.
+-- An RMM may answer with a word: that of a check that was made and failed, or RMI_SUCCESS if there is none.
 unfoldable pub is_allowed : List EvaluatedCheck → Word → Bool
 is_allowed rows word = list_any (λ allowed. number word == number allowed) (or_success (failed_words rows))

@@ -1,4 +1,4 @@
--- The names of failure conditions, as traces write them. Most are those of RMM 1.0.
+-- The names of failure conditions, as traces write them. Most of the names are from RMM 1.0.
 use Rattle.std.specs.Prelude.{cond, List, [], ◌∷◌, ℕ, Option, Some, None, codes}
 use Rattle.std.specs.Str.{bytes_eq}
 use Rattle.rmm_model.specs.declared.condition.Condition.{Condition}

@@ -1,4 +1,4 @@
--- Facts of the parameters of a REC, as the checks of RMI_REC_CREATE ask for them.
+-- The facts about a REC's parameters that RMI_REC_CREATE checks, and the checks of these facts.
 use Rattle.std.specs.Prelude.{ℕ, ◌^◌, ◌==◌, Bool, not, nat_lt, List, [], ◌∷◌}
 use Rattle.rmi_abi.specs.declared.settings.RmmSettings.{RmmSettings}
 use Rattle.rmi_abi.specs.Mpidr.{is_mpidr, rec_number}

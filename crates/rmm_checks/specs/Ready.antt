@@ -1,4 +1,4 @@
--- RECs that can be entered.
+-- The checks of RMI_REC_ENTER that the realm is ACTIVE, and that the REC is READY and runnable.
 use Rattle.std.specs.Prelude.{not, List, [], ◌∷◌}
 use Rattle.rmi_abi.specs.declared.word.Word.TheVariants.{ErrorRealm}
 use Rattle.rmi_abi.specs.Answer.{only}

@@ -25,11 +25,11 @@ use page_arena::PageStore;
 use rmi_abi::Call;
 use rmm_granules::Granules;
 
-/// Evaluates the checks of an RMI call on a machine. Each check comes with its outcome, in the order of the command's
-/// definition.
+/// Evaluates the checks of an RMI call on a machine. The result has each check with its outcome, in the sequence of the
+/// command's definition.
 ///
-/// The first that was made and failed is the one that decides. An RMM may answer with the word of each that was made
-/// and failed; where there is none, with RMI_SUCCESS alone.
+/// The first check that was made and failed decides. An RMM may answer with the word of each check that was made and
+/// failed; if there is none, with RMI_SUCCESS alone.
 pub fn checks_of<S: PageStore>(granules: &Granules<S>, call: Call) -> EvaluatedChecks
     ensures rows { result ≡ evaluated (command_of call granules.now).checks }
     ensures deciding { first_failed result ≡ first_failing (command_of call granules.now).checks }

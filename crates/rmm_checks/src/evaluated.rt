@@ -40,7 +40,7 @@ impl Default for EvaluatedCheck {
     }
 }
 
-/// The checks of an RMI call, each with its outcome. They are in the order of the checks in the command's definition.
+/// The checks of an RMI call, each with its outcome, in the sequence of the command's definition.
 #[derive(Drop)]
 pub struct EvaluatedChecks {
     rows: ArrayVec<EvaluatedCheck, 18>,
@@ -97,7 +97,7 @@ impl EvaluatedChecks {
         }
     }
 
-    /// Returns the checks as a slice. They are in the order in which they were added.
+    /// Returns the checks as a slice, in the sequence in which they were added.
     pub fn rows(&self) -> &[EvaluatedCheck]
         ensures { result.now ≡ self.now }
     {

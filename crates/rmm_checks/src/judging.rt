@@ -74,7 +74,7 @@ fn has_word(rows: &[EvaluatedCheck], word: Word) -> bool
 }
 
 impl EvaluatedChecks {
-    /// Returns the failure condition and the answer of the first failed check, if any. That check decides.
+    /// Returns the failure condition and the answer of the deciding check, which is the first failed one, if any.
     pub fn deciding(&self) -> Option<FailedCondition>
         ensures { result ≡ specs.first_failed self.now }
     {

@@ -84,7 +84,7 @@ const CONDITIONS: [Condition; 76] = [
     Condition::Status,
 ];
 
-/// Returns the name of a failure condition, as traces write it. CHECKS.md says which are those of RMM 1.0.
+/// Returns the name of a failure condition, as traces write it. CHECKS.md says which names are from RMM 1.0.
 pub fn condition_name(condition: Condition) -> &'static str
     ensures { result.now ≡ names.name_of condition }
 {

@@ -95,7 +95,7 @@ fn add_params(checks: &mut EvaluatedChecks, settings: &RmmSettings, p: &RealmPar
     checks.input(Condition::Alias, &[Condition::RttNumLevel], alias);
 }
 
-// ---- what the realm takes
+// ---- the granules and the VMID of the realm
 
 // Adds the checks that a realm's starting tables can be used, and that its VMID is valid and free.
 fn add_free<S: PageStore>(checks: &mut EvaluatedChecks, granules: &Granules<S>, p: &RealmParams)

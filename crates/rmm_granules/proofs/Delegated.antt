@@ -1,4 +1,4 @@
--- Granules that are all DELEGATED, one at a time.
+-- Proofs on the test that adjacent granules are all DELEGATED, one granule at a time.
 use Rattle.std.proofs.Common.{◌≡◌, ℕ, suc, ◌+◌, ◌-◌, ◌<◌, ◌≤◌, ◌&&◌, Bool, true, false, ap, ◌∙◌, arith}
 use Rattle.rmm_model.specs.Granule.{is_delegated}
 use Rattle.rmm_model.specs.Machine.{Machine, granule_at}

@@ -1,4 +1,4 @@
--- Tables with live entries, one at a time.
+-- Proofs on the test that some table among adjacent tables has a live entry, one table at a time.
 use Rattle.std.proofs.Common.{◌≡◌, ℕ, suc, ◌+◌, ◌-◌, ◌<◌, ◌≤◌, ◌||◌, Bool, true, false, ap, ◌∙◌, arith}
 use Rattle.rmm_model.specs.Machine.{Machine, page_in}
 use Rattle.rmm_model.specs.Table.{has_live}

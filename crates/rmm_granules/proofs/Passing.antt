@@ -1,4 +1,4 @@
--- Numbers that all pass a test, one at a time.
+-- Proofs on the condition that consecutive numbers all pass a test, one number at a time.
 use Rattle.std.proofs.Common.{◌≡◌, ℕ, suc, ◌+◌, ◌-◌, ◌<◌, ◌≤◌, ◌&&◌, Bool, true, false, ap, ◌∙◌, arith}
 use Rattle.rmm_model.specs.Command.RecCreate.{all_from}
 

@@ -1,4 +1,4 @@
--- Edits of RECs.
+-- The attributes of a REC after an edit of the REC.
 use Rattle.std.specs.Prelude.{◌+◌, ◌-◌, ◌%◌}
 use Rattle.rmm_model.specs.declared.rec.LastExit.TheVariants.{Other}
 use Rattle.rmm_model.specs.declared.rec.RmmRec.{RmmRec}

@@ -1,4 +1,4 @@
--- The records of granules.
+-- The granule state that a record represents, by its kind and its attributes.
 use Rattle.rmm_model.specs.declared.granule.RmmGranuleState.{RmmGranuleState}
 use Rattle.rmm_model.specs.declared.granule.RmmGranuleState.TheVariants as state
 use Rattle.rmm_model.specs.declared.realm.RmmRealm.{RmmRealm}

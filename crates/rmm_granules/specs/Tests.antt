@@ -1,4 +1,4 @@
--- Tests of the addresses of auxiliary granules.
+-- The tests that RMI_REC_CREATE applies to the addresses of auxiliary granules.
 use Rattle.std.specs.Prelude.{ℕ, ◌==◌, Bool, not, List}
 use Rattle.rmi_abi.specs.RecParams.{aux_in}
 use Rattle.rmm_model.specs.Machine.{Machine, is_aligned, is_inside}

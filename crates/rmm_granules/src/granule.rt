@@ -11,7 +11,7 @@ use granule_addr::Gran;
 use page_arena::PageStore;
 use rmm_model::RmmRealm;
 
-/// Returns the granule that is `k` granules after `first`. Its number is `k` above that of `first`.
+/// Returns the granule whose number is `k` above that of `first`.
 pub fn granule_after(first: Gran, k: u16) -> Gran
     requires { first + k < 4096 }
     ensures { result ≡ first + k }
@@ -32,8 +32,8 @@ pub fn granule_named<S: PageStore>(granules: &Granules<S>, address: u64) -> Opti
     }
 }
 
-/// Returns the attributes of the realm whose RD is granule `rd`, if any. A number that is no granule of the machine has
-/// none.
+/// Returns the attributes of the realm whose RD is granule `rd`, or `None` if `rd` is no RD or no granule of the
+/// machine.
 pub fn realm_in<S: PageStore>(granules: &Granules<S>, rd: Gran) -> Option<RmmRealm>
     ensures value { result ≡ realm_of (granule_at granules.now rd).state }
     ensures inside { IfSome result (λ _. rd < granule_count granules.now) }

@@ -28,8 +28,7 @@ use std::marker::Model;
 // The number of 16-bit VMIDs.
 const VMIDS: u32 = 0x1_0000;
 
-/// The granules of a platform, with their attributes, their pages and the used VMIDs. Each has attributes and a page of
-/// a store. The set of VMIDs that realms have is kept too.
+/// The granules of a platform, with their attributes, their pages in a store, and the set of VMIDs that realms use.
 #[derive(Drop)]
 pub struct Granules<S: PageStore> {
     platform: Platform,
@@ -85,8 +84,8 @@ fn rows(
 }
 
 impl<S: PageStore> Granules<S> {
-    /// Creates the granules of a platform, with their pages in a store. All are UNDELEGATED, and there are as many as
-    /// the store has pages. An error returns the store as it was.
+    /// Creates the granules of a platform, one for each page of a store. All granules are UNDELEGATED. An error returns
+    /// the store as it was.
     pub fn open(
         alloc: Global,
         platform: Platform,
@@ -117,7 +116,7 @@ impl<S: PageStore> Granules<S> {
         self.platform.settings()
     }
 
-    /// The platform that the granules belong to. Its settings are in range.
+    /// The platform that the granules belong to, with settings that are in range.
     pub fn platform(&self) -> &Platform
         ensures { result.now ≡ self.now.settings }
     {
@@ -235,7 +234,7 @@ impl<S: PageStore> Granules<S> {
         }
     }
 
-    /// Edits the attributes of a REC in place. A granule that is none becomes one, with the attributes of a new REC.
+    /// Edits the attributes of a REC in place. A granule that is no REC becomes one, with the attributes of a new REC.
     #[inline(always)]
     pub fn edit_rec(&mut self, granule: Gran, edit: RecEdit)
         requires { granule < granule_count self.old }

@@ -1,8 +1,8 @@
 //! The failure conditions on operands that are addresses of granules.
 use rmm_model::Condition;
 
-/// The failure conditions on an operand that is a granule's address. They are misalignment, an address out of bounds,
-/// and a wrong state or physical address space of the granule.
+/// The failure conditions on an operand that is a granule's address: misalignment, an address out of bounds, and a
+/// wrong state or physical address space.
 #[derive(Clone, Copy)]
 pub struct OperandConditions {
     pub align: Condition,
@@ -25,8 +25,7 @@ impl OperandConditions {
         state: Condition::RdState,
     };
 
-    /// The failure conditions on the address of the host's page of parameters. The parameters are those of a realm or a
-    /// REC.
+    /// The failure conditions on the address of the host's page with the parameters of a new realm or REC.
     pub const PARAMS: OperandConditions = OperandConditions {
         align: Condition::ParamsAlign,
         bound: Condition::ParamsBound,
@@ -75,15 +74,15 @@ impl OperandConditions {
         state: Condition::RunPas,
     };
 
-    /// The failure conditions on the calling REC of RMI_PSCI_COMPLETE. The command completes the request of this REC.
+    /// The failure conditions on the calling REC of RMI_PSCI_COMPLETE, whose PSCI request the command completes.
     pub const CALLING: OperandConditions = OperandConditions {
         align: Condition::CallingAlign,
         bound: Condition::CallingBound,
         state: Condition::CallingState,
     };
 
-    /// The failure conditions on the target REC of RMI_PSCI_COMPLETE. This REC is the target of the request that the
-    /// command completes.
+    /// The failure conditions on the target REC of RMI_PSCI_COMPLETE, which is the target of the completed PSCI
+    /// request.
     pub const TARGET: OperandConditions = OperandConditions {
         align: Condition::TargetAlign,
         bound: Condition::TargetBound,

@@ -1,4 +1,4 @@
-//! Edits of realm attributes, made in place. Commands and guests' steps make them.
+//! Edits of realm attributes that commands and guests' steps make in place.
 ghost use Rattle.std.specs.Prelude.{◌≡◌};
 ghost use Rattle.rmm_granules.specs.RealmEdits.{edited_realm};
 

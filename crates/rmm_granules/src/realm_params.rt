@@ -1,4 +1,4 @@
-//! Checks of a new realm's parameters. The granules and the VMID that the realm takes are checked too. RMM 1.0,
+//! Checks of a new realm's parameters, and of the granules and the VMID that the realm takes. RMM 1.0,
 //! RMI_REALM_CREATE.
 ghost use Rattle.std.specs.Prelude.{◌≡◌, ◌+◌, ◌≤◌, true};
 ghost use Rattle.rmm_model.specs.Machine.{granule_count, number_of};
@@ -20,8 +20,8 @@ fn fits_features(settings: &RmmSettings, p: &RealmParams) -> bool
     p.num_bps <= settings.bps && p.num_wps <= settings.wps && p.sve_vl == 0
 }
 
-/// Whether the RMM supports the parameters of a realm. They set no flag, and have an IPA width that the RMM supports.
-/// If settings say so, breakpoints, watchpoints and vectors are within feature register 0 too.
+/// Whether the RMM supports the parameters of a realm. Supported parameters set no flag, and have an IPA width that the
+/// RMM supports. If settings say so, breakpoints, watchpoints and vectors are within feature register 0 too.
 pub fn is_supported(settings: &RmmSettings, p: &RealmParams) -> bool
     ensures { result ≡ command.is_supported settings.now p.now }
 {
@@ -31,7 +31,7 @@ pub fn is_supported(settings: &RmmSettings, p: &RealmParams) -> bool
         && (!settings.checks_params || fits_features(settings, p))
 }
 
-/// Whether a realm can have `count` starting tables at a level. Its address space has `s2sz` bits.
+/// Whether a realm with an address space of `s2sz` bits can have `count` starting tables at a level.
 #[tactic(auto, unfolding(rmm_model::specs::Realm::is_start))]
 pub fn is_start(s2sz: u8, level: u64, count: u32) -> bool
     requires { s2sz ≤ 48 }

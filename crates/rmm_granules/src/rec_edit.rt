@@ -1,4 +1,4 @@
-//! Edits of REC attributes, made in place. Commands and guests' steps make them.
+//! Edits of REC attributes that commands and guests' steps make in place.
 ghost use Rattle.std.specs.Prelude.{◌≡◌};
 ghost use Rattle.rmm_granules.specs.RecEdits.{edited};
 
@@ -7,7 +7,7 @@ use rmm_model::{LastExit, PsciRequest, RipasRequest, RmmRec, RmmRecState};
 /// An edit of the attributes of a REC.
 #[derive(Clone, Copy)]
 pub enum RecEdit {
-    /// Sets the REC to RUNNING. Its run page is at this address, and it has no exit to answer and no results.
+    /// Sets the REC to RUNNING, with its run page at this address, no exit to answer and no results.
     Enter(u64),
     /// Sets the REC to READY after an exit.
     Leave(LastExit),

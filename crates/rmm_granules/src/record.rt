@@ -25,7 +25,7 @@ pub(crate) enum GranuleKind {
     Rtt,
 }
 
-/// The record that `Granules` keeps of a granule. It is seen as the granule's attributes.
+/// The record that `Granules` keeps of a granule, which contracts see as the granule's attributes.
 ///
 /// It has attributes of a REC and of a realm beside the kind of the state. Those that the kind does not have are left
 /// as they are. So a state without attributes is set by writing its kind and the owner. RMI_REC_ENTER reads the kind and
@@ -156,7 +156,7 @@ impl GranuleRecord {
         }
     }
 
-    /// Edits the realm of an RD in place. A granule that is none stays as it is.
+    /// Edits the realm of an RD in place. A granule that is no RD stays as it is.
     #[inline(always)]
     pub(crate) fn edit_realm(&mut self, edit: RealmEdit)
         ensures { self.new ≡ edited_rd edit self.old (realm_of self.old.state) }
@@ -167,7 +167,7 @@ impl GranuleRecord {
         }
     }
 
-    /// Edits the attributes of a REC in place. A granule that is none becomes one, with the attributes of a new REC.
+    /// Edits the attributes of a REC in place. A granule that is no REC becomes one, with the attributes of a new REC.
     #[inline(always)]
     pub(crate) fn edit_rec(&mut self, edit: RecEdit)
         ensures { self.new

@@ -6,8 +6,8 @@ ghost use Rattle.rmm_model.specs.Command.RttSetRipas as setting;
 use rmi_abi::RmmSettings;
 use rmm_model::{Changeable, RipasRequest};
 
-/// Returns which RTT entries RMI_RTT_INIT_RIPAS changes. They are all UNASSIGNED entries; if `stops_at_destroyed` is
-/// set, only those whose RIPAS is not DESTROYED.
+/// Returns the kinds of RTT entries that RMI_RTT_INIT_RIPAS changes: UNASSIGNED entries, without those of RIPAS
+/// DESTROYED if `stops_at_destroyed` is set.
 pub fn init_changeable(settings: &RmmSettings) -> Changeable
     ensures { result ≡ making.init_changeable settings.now }
 {
@@ -17,7 +17,7 @@ pub fn init_changeable(settings: &RmmSettings) -> Changeable
     }
 }
 
-/// Returns which RTT entries RMI_RTT_SET_RIPAS changes for a REC's request.
+/// Returns the kinds of RTT entries that RMI_RTT_SET_RIPAS changes for a REC's request.
 pub fn set_changeable(request: &RipasRequest) -> Changeable
     ensures { result ≡ setting.set_changeable request.now }
 {

@@ -28,8 +28,7 @@ fn are_lrs(num_lrs: u8, page: &[u8]) -> bool
     true
 }
 
-/// Whether the RMM refuses the GIC fields of a run page. It does if settings require their check, and one of them has a
-/// value that a host may not set.
+/// Whether the settings require a check of a run page's GIC fields, and one field has a value that a host may not set.
 #[tactic(auto, unfolding(rmm_model::specs::Command::RecEnter::is_gic_wrong))]
 pub fn refuses_gic(settings: &RmmSettings, page: &[u8]) -> bool
     requires { length page.now ≡ 4096 }

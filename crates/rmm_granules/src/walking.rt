@@ -13,7 +13,7 @@ use rmm_model::{
     first_live, start_table_index,
 };
 
-/// Returns the translation table entry that covers an IPA. It is in the table at which a walk ended.
+/// Returns the entry that covers an IPA, in the translation table at which a walk ended.
 #[tactic(auto, unfolding(rmm_model::specs::Walk::entry_at, rmm_model::specs::Table::entry_in_page))]
 pub fn entry_at<S: PageStore>(granules: &Granules<S>, found: &RttWalk, ipa: u64) -> RmmRttEntry
     requires { found.now.table < granule_count granules.now }
@@ -89,8 +89,8 @@ pub fn walk<S: PageStore>(granules: &Granules<S>, realm: &RmmRealm, ipa: u64, to
     RttWalk { table, level }
 }
 
-/// Returns the address of the first live entry of a table from `ipa` on. The table is that at which a walk ended. RMM
-/// 1.0, RttSkipNonLiveEntries.
+/// Returns the address of the first live entry, from `ipa` on, in the table at which a walk ended. RMM 1.0,
+/// RttSkipNonLiveEntries.
 ///
 /// The result is the end of the table if there is none. If the entry of the address is live itself, the result is the
 /// address, or where that entry begins, as settings say.

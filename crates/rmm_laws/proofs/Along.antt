@@ -1,4 +1,4 @@
--- Walks of an address on two machines.
+-- A proof by induction that relates the ends of the walks of one address in two machines.
 use Rattle.std.proofs.Common.{◌≡◌, ℕ, zero, suc, ◌+◌, ◌-◌, ◌^◌, ◌<◌, ◌⊎◌, Option, Some, None, refl, sym, ap, subst, ⊎_elim, arith}
 use Rattle.std.specs.Option.{option_map_or}
 use Rattle.rmm_model.specs.declared.granule.RmmGranuleState.TheVariants.{Rd}

@@ -1,4 +1,4 @@
--- Answers of commands, and the words that are allowed beside them.
+-- Proofs on a command's allowed words: RMI_SUCCESS alone if the command is not refused, and refusals if it is.
 use Rattle.std.proofs.Common.{◌≡◌, inl, ◌&&◌, Bool, true, false, List, [], ◌∷◌, Option, Some, None, refl, sym, ap, subst, ◌∙◌, ⊎_elim}
 use Rattle.std.specs.List.{list_all}
 use Rattle.std.proofs.lemmas.Bool.{cases_Bool, and_parts, both_ways, cond-true, cond-false}

@@ -1,4 +1,4 @@
--- What the REC that is entered asks for of RIPAS: nothing at first, and then what a step of its guest says.
+-- Proofs on the RIPAS request of an entered REC: an entry clears or keeps it, and a guest step keeps or replaces it.
 use Rattle.std.proofs.Common.{◌≡◌, ◌≢◌, ℕ, ◌+◌, ◌-◌, ◌*◌, ◌%◌, ◌<◌, ◌≤◌, ◌==◌, ◌⊎◌, inl, inr, Bool, true, false, length, Option, Some, None, Result, Ok, Err, unwrap_or, refl, sym, ap, subst, ◌∙◌, ⊎_elim}
 use Rattle.std.specs.Prelude.{if◌then◌else◌}
 use Rattle.std.proofs.lemmas.Bool.{cases_lt, cond_both}

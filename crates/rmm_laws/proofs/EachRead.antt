@@ -1,4 +1,5 @@
--- What is read at protected addresses of realms after each call, and after stores, fills, steps and interrupts.
+-- Proofs that calls, stores, fills, steps and interrupts keep a property of protected addresses, such as RIPAS, or
+-- change it as allowed.
 use Rattle.std.proofs.Common.{◌≡◌, ℕ, ◌/◌, ◌%◌, ◌<◌, ◌⊎◌, ◌==◌, inl, Bool, true, false, List, length, Option, Some, None, refl, sym, ap, subst, ◌∙◌, ⊎_elim, arith}
 use Rattle.std.proofs.lemmas.Bool.{cond_both, and_parts}
 use Rattle.std.proofs.lemmas.List.{length-set}

@@ -1,4 +1,4 @@
--- RMI_RTT_FOLD undoes RMI_RTT_CREATE.
+-- A proof that RMI_RTT_FOLD undoes RMI_RTT_CREATE.
 use Rattle.std.proofs.Common.{◌≡◌, ◌≢◌, ℕ, zero, suc, ◌+◌, ◌-◌, ◌*◌, ◌^◌, ◌<◌, ◌≤◌, ◌/◌, ◌%◌, ◌==◌, ◌&&◌, ◌||◌, ◌++◌, Bool, true, false, not, List, length, Option, Some, None, unwrap_or, refl, sym, ap, subst, ◌∙◌, ⊎_elim, arith}
 use Rattle.std.specs.Prelude.{nat_le, is_none, is_some}
 use Rattle.std.specs.Option.{option_map_or}

@@ -1,4 +1,4 @@
--- The granules that RTT_DESTROY, RTT_FOLD and DATA_DESTROY give back.
+-- Proofs that the granules that RTT_DESTROY, RTT_FOLD, DATA_DESTROY and REC_DESTROY remove become DELEGATED and zero.
 use Rattle.std.proofs.Common.{◌≡◌, ◌≢◌, ℕ, ◌+◌, ◌-◌, ◌^◌, ◌<◌, ◌≤◌, ◌&&◌, List, [], ◌∷◌, Bool, true, false, not, length, Option, Some, None, unwrap_or, refl, sym, ap, subst, ◌∙◌, ⊎_elim, arith}
 use Rattle.std.specs.Prelude.{nat_le, is_some}
 use Rattle.std.proofs.lemmas.Bool.{cases_Bool, and_parts, both_ways, eqb-true, leb-true, ltb-true, not-true, cond-true, cond-false}

@@ -1,4 +1,5 @@
--- The tops that RTT_DESTROY, DATA_DESTROY and RTT_UNMAP_UNPROTECTED give are complete.
+-- Proofs that no live entry is between the address and the top that RTT_DESTROY, DATA_DESTROY and RTT_UNMAP_UNPROTECTED
+-- return.
 use Rattle.std.proofs.Common.{◌≡◌, ◌≢◌, ℕ, zero, suc, ◌+◌, ◌-◌, ◌^◌, ◌<◌, ◌≤◌, false, true, List, length, Option, Some, None, unwrap_or, refl, sym, ap, subst, ◌∙◌, arith}
 use Rattle.std.specs.Option.{option_map_or}
 use Rattle.std.specs.Prelude.{nat_le}

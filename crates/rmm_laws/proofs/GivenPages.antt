@@ -1,4 +1,4 @@
--- Pages that calls give to a realm: where their addresses lead.
+-- Proofs that the addresses of a page that DATA_CREATE or DATA_CREATE_UNKNOWN maps lead to that page.
 use Rattle.std.proofs.Common.{◌≡◌, ◌≢◌, ℕ, ◌/◌, ◌%◌, ◌^◌, ◌<◌, ◌≤◌, true, false, List, length, None, refl, sym, ap, subst, ◌∙◌, inr, arith}
 use Rattle.std.proofs.lemmas.Bool.{eqb-true}
 use Rattle.std.proofs.lemmas.List.{length-set}

@@ -1,4 +1,5 @@
--- Accesses of guests at unprotected addresses, and pages that guests and the host leave.
+-- Proofs that guest accesses at unprotected addresses reach host pages alone, and that a host access changes at most
+-- one granule.
 use Rattle.std.proofs.Common.{◌≡◌, ◌≢◌, ℕ, Some, ◌+◌, ◌*◌, ◌/◌, ◌%◌, Bool, true, false, not, Result, Ok, Err, refl, sym, ap, ◌∙◌}
 use Rattle.std.specs.Prelude.{if◌then◌else◌}
 use Rattle.std.proofs.lemmas.Bool.{both_ways, cond_both}

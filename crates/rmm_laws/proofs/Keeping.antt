@@ -1,4 +1,4 @@
--- Writes that keep the roles of granules.
+-- Proofs that a write keeps the invariant that each granule has one role, if each granule uses what it used before.
 use Rattle.std.proofs.Common.{◌≡◌, ◌≢◌, ℕ, ◌<◌, ◌⊎◌, inl, inr, true, false, List, length, IfSome, Option, refl, sym, ap, subst, ◌∙◌, ⊎_elim, arith}
 use Rattle.std.proofs.lemmas.Bool.{cases_eq}
 use Rattle.std.proofs.lemmas.List.{length-set}

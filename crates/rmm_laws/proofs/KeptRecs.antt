@@ -1,4 +1,4 @@
--- RECs after calls, and the owners that they had before.
+-- Proofs that each REC after a call was a REC of the same owner before, unless the call creates the REC.
 use Rattle.std.proofs.Common.{◌≡◌, ◌≢◌, ℕ, zero, suc, ◌+◌, ◌*◌, ◌<◌, inl, inr, Bool, true, false, length, List, Option, Some, None, refl, sym, ap, ◌∙◌, ⊎_elim}
 use Rattle.std.proofs.lemmas.Bool.{cases_eq}
 use Rattle.rmi_abi.specs.declared.call.Call.{Call}

@@ -1,4 +1,5 @@
--- Tables that stay as they are, and what is read at addresses then.
+-- Proofs that a property of addresses, such as RIPAS, is the same in two machines in which the tables of a realm are
+-- the same.
 use Rattle.std.proofs.Common.{◌≡◌, ◌⊎◌, ℕ, inl, inr, true, List, length, Option, Some, None, refl, sym, ap, ◌∙◌, ⊎_elim, Bool}
 use Rattle.std.proofs.lemmas.Bool.{both_ways}
 use Rattle.rmm_model.specs.declared.entry.RmmRttEntry.{RmmRttEntry}

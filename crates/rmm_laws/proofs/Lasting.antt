@@ -1,4 +1,4 @@
--- Realms that are there still after single writes.
+-- Proofs that a single write keeps each realm, with the attributes that are fixed when the realm is created.
 use Rattle.std.proofs.Common.{◌≡◌, ◌≢◌, ℕ, ◌<◌, false, length, refl, sym, ap, ◌∙◌, ⊎_elim}
 use Rattle.std.proofs.lemmas.Bool.{cases_eq, both_ways}
 use Rattle.rmm_model.specs.declared.granule.RmmGranule.{RmmGranule}

@@ -1,4 +1,5 @@
--- An entry that uses a DELEGATED granule from now on, and one that uses a granule no more.
+-- Proofs that each granule keeps one role when an entry begins to use a DELEGATED granule, or its granule becomes
+-- DELEGATED.
 use Rattle.std.proofs.Common.{◌≡◌, ◌≢◌, ℕ, ◌+◌, ◌^◌, ◌<◌, ◌≤◌, ◌==◌, true, List, length, IfSome, Option, Some, None, refl, sym, ap, subst, ◌∙◌, arith}
 use Rattle.std.specs.Prelude.{if◌then◌else◌}
 use Rattle.std.proofs.lemmas.Bool.{cond-true, cond-false, eq-eqb, ne_eqb}

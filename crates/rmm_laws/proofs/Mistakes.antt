@@ -1,4 +1,4 @@
--- Machines that wrong definitions would lead to.
+-- Proofs that the machines that result from certain wrong definitions of commands break the invariant `IsProper`.
 use Rattle.std.proofs.Common.{◌≡◌, ◌≢◌, ℕ, ◌+◌, ◌*◌, ◌<◌, ◌==◌, Bool, true, false, List, length, Option, Some, None, option_map, refl, sym, ap, subst, ◌∙◌, arith}
 use Rattle.std.specs.Prelude.{cond}
 use Rattle.std.specs.List.{count_by}

@@ -1,4 +1,5 @@
--- The starting tables of a new realm are of the halves that they cover.
+-- A proof that each entry of the starting tables of a new realm fits the half of the address space that the entry
+-- covers.
 use Rattle.std.proofs.Common.{◌≡◌, ◌≢◌, ℕ, ◌+◌, ◌-◌, ◌*◌, ◌/◌, ◌^◌, ◌<◌, ◌≤◌, ◌&&◌, Bool, true, false, List, Some, refl, sym, ap, subst, ◌∙◌, ⊎_elim, lit≤, arith}
 use Rattle.std.specs.Prelude.{nat_le, nat_lt, if◌then◌else◌}
 use Rattle.std.proofs.lemmas.Bool.{cases_eq, cases_lt, cases_Bool, cond_both, cond-true, cond-false, and_from, and_left, and_right, le-leb, lt-ltb, lt-leb, le-ltb, ltb-true, ltb-false}

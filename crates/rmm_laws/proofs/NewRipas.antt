@@ -1,4 +1,4 @@
--- Protected addresses of a new realm.
+-- A proof that each protected address of a new realm is UNASSIGNED, with RIPAS EMPTY.
 use Rattle.std.proofs.Common.{◌≡◌, ℕ, ◌+◌, ◌-◌, ◌*◌, ◌/◌, ◌^◌, ◌<◌, ◌≤◌, true, List, length, refl, sym, ap, subst, ◌∙◌, arith}
 use Rattle.std.specs.Prelude.{nat_le}
 use Rattle.std.proofs.lemmas.Bool.{and_parts, cond-true, leb-true, ltb-true, lt-ltb}

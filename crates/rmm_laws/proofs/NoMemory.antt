@@ -1,4 +1,4 @@
--- Accesses of guests to protected addresses whose RIPAS is not RAM, or that lead to no memory.
+-- Proofs on the outcome of a guest access to a protected address whose RIPAS is not RAM, or that leads to no memory.
 use Rattle.std.proofs.Common.{◌≡◌, ℕ, ◌+◌, ◌^◌, ◌⊎◌, Bool, true, false, Err, refl, ap, ◌∙◌, ⊎_elim}
 use Rattle.std.specs.Prelude.{not, if◌then◌else◌}
 use Rattle.std.proofs.lemmas.Bool.{cond-false, cond-true, lt-ltb}

@@ -1,4 +1,4 @@
--- One granule more that an entry of a table uses, and one less.
+-- Proofs that each granule keeps one role when an entry of a table begins to use a granule, or ceases to use it.
 use Rattle.std.proofs.Common.{◌≡◌, ◌≢◌, ℕ, ◌<◌, ◌≤◌, ◌⊎◌, inl, inr, ◌==◌, ◌&&◌, Bool, true, false, length, Some, None, refl, sym, ap, subst, ◌∙◌, ⊎_elim}
 use Rattle.std.specs.Prelude.{nat_lt, if◌then◌else◌}
 use Rattle.std.proofs.lemmas.Bool.{cases_eq, cases_lt, and_parts, and_from, eqb-true, eq-eqb, lt-ltb, le-ltb, cond-true, cond-false, both_ways}

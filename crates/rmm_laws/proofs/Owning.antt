@@ -1,4 +1,4 @@
--- Granules that use others: RDs, tables and RECs.
+-- Proofs that only RDs, tables and RECs use granules, each as its state says.
 use Rattle.std.proofs.Common.{◌≡◌, ◌∙◌, ℕ, ◌+◌, ◌<◌, ◌⊎◌, inl, inr, ◌==◌, ◌&&◌, Bool, true, false, List, Option, Some, None, option_map, refl, sym, ap}
 use Rattle.std.specs.Prelude.{nat_lt, if◌then◌else◌}
 use Rattle.std.proofs.lemmas.Bool.{and_parts, ltb-true}

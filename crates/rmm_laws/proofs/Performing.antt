@@ -1,4 +1,4 @@
--- Steps of RECs, performed for the realms that own them.
+-- A proof that the first step of a REC is performed for the realm that owns the REC.
 use Rattle.std.proofs.Common.{◌≡◌, ◌≢◌, ℕ, Option, Some, ap, ◌∙◌}
 use Rattle.std.proofs.lemmas.Bool.{cond-false, ne_eqb}
 use Rattle.rmm_model.specs.declared.granule.RmmGranuleState.{RmmGranuleState}

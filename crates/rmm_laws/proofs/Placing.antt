@@ -1,4 +1,5 @@
--- Mappings at levels at which they can be, with memory that begins at a multiple of their size.
+-- Proofs that mappings are at levels that allow blocks or pages, with memory that is aligned to the size of the
+-- mapping.
 use Rattle.std.proofs.Common.{◌≡◌, ℕ, zero, suc, ◌+◌, ◌*◌, ◌/◌, ◌%◌, ◌^◌, ◌<◌, ◌≤◌, false, refl, sym, ap, subst, ◌∙◌, arith}
 use Rattle.std.proofs.lemmas.Bool.{both_ways}
 use Rattle.rmi_abi.specs.declared.settings.RmmSettings.{RmmSettings}

@@ -1,4 +1,5 @@
--- Writes of granules that use nothing: GRANULE_DELEGATE, GRANULE_UNDELEGATE, and the host's memory.
+-- Proofs that GRANULE_DELEGATE, GRANULE_UNDELEGATE, and the host's stores and fills keep the invariant that each
+-- granule has one role.
 use Rattle.std.proofs.Common.{◌≡◌, ℕ, ◌/◌, ◌%◌, ◌<◌, ◌==◌, true, false, List, length, IfSome, refl, sym, ap, ◌∙◌, arith}
 use Rattle.std.proofs.lemmas.Bool.{and_parts, cond_both}
 use Rattle.std.proofs.lemmas.List.{length-set}

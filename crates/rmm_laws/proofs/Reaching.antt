@@ -1,4 +1,5 @@
--- Each table of a realm serves addresses, and a walk of each of them reaches it.
+-- Proofs that each table of a realm serves a range of addresses, and that a walk of each such address reaches the
+-- table.
 use Rattle.std.proofs.Common.{◌≡◌, ℕ, zero, suc, ◌+◌, ◌-◌, ◌*◌, ◌/◌, ◌<◌, ◌≤◌, Option, Some, None, refl, sym, ap, subst, ◌∙◌, ⊎_elim, arith}
 use Rattle.std.specs.Option.{option_map_or}
 use Rattle.std.proofs.lemmas.Bool.{both_ways}

@@ -1,4 +1,4 @@
--- RMI_REALM_CREATE and RMI_REALM_DESTROY keep the roles and the owners of granules.
+-- Proofs that RMI_REALM_CREATE and RMI_REALM_DESTROY keep the invariant `IsProper` on roles and owners of granules.
 use Rattle.std.proofs.Common.{◌≡◌, ◌≢◌, ℕ, zero, suc, ◌+◌, ◌*◌, ◌%◌, ◌<◌, ◌≤◌, ◌^◌, inl, inr, true, false, length, Option, Some, None, refl, sym, ap, subst, ◌∙◌, ⊎_elim, arith}
 use Rattle.std.specs.Prelude.{nat_le, nat_lt, is_some, IfSome}
 use Rattle.std.specs.List.{count_by}

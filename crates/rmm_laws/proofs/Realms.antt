@@ -1,4 +1,4 @@
--- RMI_REALM_CREATE and RMI_REALM_DESTROY keep the roles of granules.
+-- Proofs that RMI_REALM_CREATE and RMI_REALM_DESTROY keep the invariant that each granule has one role.
 use Rattle.std.proofs.Common.{◌≡◌, ◌≢◌, ℕ, zero, suc, ◌+◌, ◌-◌, ◌*◌, ◌/◌, ◌%◌, ◌^◌, ◌<◌, ◌≤◌, ◌⊎◌, inl, inr, ◌==◌, ◌&&◌, ◌||◌, Bool, true, false, List, length, Some, None, refl, sym, ap, subst, ◌∙◌, ⊎_elim, lit≤, arith}
 use Rattle.std.specs.Prelude.{nat_le, nat_lt, if◌then◌else◌, IfSome}
 use Rattle.std.proofs.lemmas.Bool.{cases_eq, cases_lt, cond_both, cond-true, cond-false, and_parts, and_from, and_left, and_right, leb-true, ltb-true, eqb-true, eq-eqb, le-leb, lt-ltb, lt-leb, le-ltb, both_ways}

@@ -1,4 +1,4 @@
--- RMI_REC_CREATE keeps the roles and the owners of granules.
+-- A proof that RMI_REC_CREATE keeps the invariant `IsProper` on roles and owners of granules.
 use Rattle.std.proofs.Common.{◌≡◌, ◌≢◌, ℕ, zero, suc, ◌+◌, ◌-◌, ◌*◌, ◌%◌, ◌^◌, ◌<◌, ◌≤◌, ◌⊎◌, inl, inr, ◌==◌, ◌&&◌, Bool, true, false, not, List, length, Option, Some, None, option_map, unwrap_or, refl, sym, ap, subst, ◌∙◌, ⊎_elim, arith}
 use Rattle.std.specs.Prelude.{nat_le, nat_lt, is_some, cond, if◌then◌else◌, IfSome}
 use Rattle.std.specs.List.{count_by}

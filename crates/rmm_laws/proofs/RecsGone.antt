@@ -1,4 +1,4 @@
--- RMI_REC_DESTROY keeps the roles and the owners of granules.
+-- A proof that RMI_REC_DESTROY keeps the invariant `IsProper` on roles and owners of granules.
 use Rattle.std.proofs.Common.{◌≡◌, ◌≢◌, ℕ, ◌+◌, ◌-◌, ◌<◌, ◌⊎◌, inl, inr, ◌==◌, ◌&&◌, Bool, true, false, length, Option, Some, None, option_map, unwrap_or, refl, sym, ap, subst, ◌∙◌, ⊎_elim, arith}
 use Rattle.std.specs.Prelude.{nat_lt, is_some, cond, IfSome}
 use Rattle.std.specs.List.{count_by}

@@ -1,4 +1,4 @@
--- RTT_FOLD of pages that are one block of memory.
+-- A proof that each granule keeps one role when RTT_FOLD replaces a table by one block of memory.
 use Rattle.std.proofs.Common.{◌≡◌, ◌≢◌, ℕ, ◌+◌, ◌*◌, ◌^◌, ◌<◌, ◌≤◌, ◌⊎◌, inl, true, false, List, length, Option, Some, None, refl, sym, ap, subst, ◌∙◌, ⊎_elim, arith}
 use Rattle.std.proofs.lemmas.Bool.{cases_eq, cases_lt}
 use Rattle.rmm_model.specs.declared.entry.RmmRipas.{RmmRipas}

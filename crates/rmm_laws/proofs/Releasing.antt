@@ -1,4 +1,4 @@
--- Granules that are the host's after single writes.
+-- Proofs that a single write of a state other than UNDELEGATED makes no granule UNDELEGATED.
 use Rattle.std.proofs.Common.{◌≡◌, ◌≢◌, ℕ, ◌<◌, ◌≤◌, false, length, sym, ap, subst, ◌∙◌, ⊎_elim}
 use Rattle.std.proofs.lemmas.Bool.{cases_eq, cases_lt, both_ways}
 use Rattle.std.proofs.lemmas.List.{get_or_past}

@@ -1,4 +1,5 @@
--- Granules that calls give to the host, and VMIDs that calls leave.
+-- Proofs that a granule that a call gives to the host is zero, and that only calls that create or destroy realms change
+-- VMIDs.
 use Rattle.std.proofs.Common.{◌≡◌, ◌≢◌, ℕ, zero, suc, ◌+◌, ◌<◌, inl, inr, Bool, true, false, List, length, Option, Some, None, refl, sym, ap, subst, ◌∙◌, ⊎_elim}
 use Rattle.std.proofs.lemmas.Bool.{cases_eq}
 use Rattle.granule_addr.specs.Page.{zero_page}

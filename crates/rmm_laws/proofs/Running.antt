@@ -1,4 +1,4 @@
--- A REC that is entered is RUNNING until it leaves.
+-- Proofs that a REC is RUNNING from its entry until its exit.
 use Rattle.std.proofs.Common.{◌≡◌, ◌≢◌, ℕ, zero, suc, ◌+◌, ◌-◌, ◌*◌, ◌%◌, ◌<◌, ◌==◌, Bool, true, false, length, Option, Some, None, Result, Ok, Err, unwrap_or, refl, ap, ◌∙◌}
 use Rattle.std.specs.Prelude.{if◌then◌else◌}
 use Rattle.std.proofs.lemmas.Bool.{cond_both}

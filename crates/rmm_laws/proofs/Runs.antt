@@ -1,4 +1,4 @@
--- Runs of RECs that are entered: their entry, their steps, and their end.
+-- A proof that an RMI_REC_ENTER that is not refused is an entry, followed by a run of at most 16 guest steps.
 use Rattle.std.proofs.Common.{◌≡◌, ℕ, zero, suc, Bool, false, refl, sym, subst}
 use Rattle.rmi_abi.specs.declared.call.Call.TheVariants.{RecEnter}
 use Rattle.rmi_abi.specs.declared.registers.SmcResult.{SmcResult}

@@ -1,4 +1,4 @@
--- Granules of some state that single writes leave as they are, as tables.
+-- Proofs that a single write of another granule leaves all tables, or all granules of some state, unchanged.
 use Rattle.std.proofs.Common.{◌≡◌, ◌≢◌, ℕ, ◌<◌, List, refl, ap, subst, sym, ◌∙◌, ⊎_elim}
 use Rattle.std.specs.Prelude.{IfSome, Some}
 use Rattle.rmm_model.specs.declared.granule.RmmGranule.{RmmGranule}

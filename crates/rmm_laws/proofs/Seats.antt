@@ -1,4 +1,4 @@
--- Walks end at the tables whose places serve their addresses.
+-- Proofs that a walk ends at the table that covers the address, at an entry that fits the half of the address.
 use Rattle.std.proofs.Common.{◌≡◌, ℕ, zero, suc, ◌+◌, ◌-◌, ◌*◌, ◌/◌, ◌^◌, ◌<◌, ◌≤◌, Option, Some, None, refl, sym, ap, subst, ◌∙◌, ⊎_elim, arith}
 use Rattle.std.specs.Option.{option_map_or}
 use Rattle.std.specs.Prelude.{nat_lt, ◌==◌}

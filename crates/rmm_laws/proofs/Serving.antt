@@ -1,4 +1,4 @@
--- The tables at which walks end serve their addresses.
+-- Proofs that the table at which a walk ends serves the walk's address.
 use Rattle.std.proofs.Common.{◌≡◌, ℕ, zero, suc, ◌+◌, ◌-◌, ◌*◌, ◌/◌, ◌^◌, ◌<◌, ◌≤◌, Option, Some, None, refl, ap, subst, ◌∙◌, arith, false}
 use Rattle.std.specs.Option.{option_map_or}
 use Rattle.rmm_model.specs.declared.entry.RmmRttEntry.{RmmRttEntry}

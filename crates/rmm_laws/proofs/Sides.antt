@@ -1,4 +1,5 @@
--- Addresses of one entry are on the same side of an end of the address space.
+-- Proofs that the addresses of one table entry are all below a boundary of an address space, or all at or above that
+-- boundary.
 use Rattle.std.proofs.Common.{◌≡◌, ◌≢◌, ℕ, zero, suc, ◌+◌, ◌-◌, ◌*◌, ◌/◌, ◌%◌, ◌^◌, ◌<◌, ◌≤◌, sym, ap, ◌∙◌, ⊎_elim, arith}
 use Rattle.std.proofs.lemmas.Bool.{cases_eq, cases_lt}
 use Rattle.std.proofs.lemmas.Nat.{pow-add, pow_below}

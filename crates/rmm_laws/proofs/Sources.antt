@@ -1,4 +1,4 @@
--- Pages of the host that calls read, and RECs that are made of them.
+-- Proofs that a successful call reads its input page from the host, and that a new REC has what its parameters ask for.
 use Rattle.std.proofs.Common.{◌≡◌, ℕ, true, false, not, refl, sym, subst, ◌∙◌}
 use Rattle.std.proofs.lemmas.Bool.{and_parts, eqb-true, not-true}
 use Rattle.rmi_abi.specs.declared.call.Call.{Call}

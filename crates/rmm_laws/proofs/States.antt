@@ -1,4 +1,4 @@
--- The states and RIMs of realms after single writes.
+-- Proofs that a single write keeps the states and RIMs of realms, unless it writes another state or RIM.
 use Rattle.std.proofs.Common.{◌≡◌, ◌≢◌, ℕ, ◌<◌, ◌⊎◌, inl, inr, false, length, Some, refl, sym, ap, subst, ◌∙◌, ⊎_elim}
 use Rattle.std.proofs.lemmas.Bool.{cases_eq, both_ways}
 use Rattle.std.proofs.lemmas.List.{length-set}

@@ -1,4 +1,4 @@
--- What is read at addresses after a table was made by RMI_RTT_CREATE, and after one was removed.
+-- Proofs on a property of addresses, such as RIPAS, after RMI_RTT_CREATE, RMI_RTT_FOLD and RMI_RTT_DESTROY.
 use Rattle.std.proofs.Common.{◌≡◌, ◌≢◌, ℕ, ◌+◌, ◌-◌, ◌/◌, ◌^◌, ◌<◌, ◌≤◌, ◌⊎◌, inl, ◌&&◌, false, not, List, length, Option, Some, None, unwrap_or, refl, sym, ap, subst, ◌∙◌, ⊎_elim, arith}
 use Rattle.std.specs.Prelude.{nat_le}
 use Rattle.std.proofs.lemmas.Bool.{and_parts, eqb-true, leb-true, ltb-true, not-true}

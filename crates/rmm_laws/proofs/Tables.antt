@@ -1,4 +1,4 @@
--- RTT_CREATE, RTT_DESTROY and RTT_FOLD keep the roles of granules.
+-- Proofs that RTT_CREATE, RTT_DESTROY and RTT_FOLD keep the invariant that each granule has one role.
 use Rattle.std.proofs.Common.{◌≡◌, ◌≢◌, ℕ, ◌+◌, ◌-◌, ◌%◌, ◌^◌, ◌<◌, ◌≤◌, ◌==◌, ◌&&◌, true, false, not, List, Option, Some, None, option_map, unwrap_or, refl, ap, ◌∙◌, ⊎_elim, arith}
 use Rattle.std.specs.Prelude.{nat_le}
 use Rattle.std.proofs.lemmas.Bool.{cases_Bool, and_parts, cond-false, leb-true, ltb-true, eqb-true, ne_eqb, not-true, cond_both}

@@ -1,4 +1,4 @@
--- A realm none of whose RECs runs is torn down by calls that succeed.
+-- A proof that some sequence of successful calls tears down a realm without running RECs, if some granule is DELEGATED.
 use Rattle.std.proofs.Common.{◌≡◌, ◌≢◌, ℕ, zero, suc, ◌+◌, ◌-◌, ◌*◌, ◌<◌, ◌≤◌, ◌⊎◌, inl, inr, Bool, true, false, not, List, [], ◌∷◌, length, get_or, Option, Some, refl, sym, ap, subst, ◌∙◌, ⊎_elim, arith}
 use Rattle.std.specs.Prelude.{is_none}
 use Rattle.std.proofs.lemmas.Bool.{cases_eq, cases_lt}

@@ -1,4 +1,4 @@
--- RECs that are entered after exits to which the host answers nothing.
+-- A proof that a REC that is entered after an unanswered exit has the registers and steps of that exit, and no results.
 use Rattle.std.proofs.Common.{◌≡◌, ℕ, ◌+◌, ◌-◌, ◌<◌, inl, false, length, List, unwrap_or, refl, sym, ap, subst, ◌∙◌, arith}
 use Rattle.std.proofs.lemmas.Bool.{cond_both, cond-false}
 use Rattle.page_arena.specs.Word.{word_of_page}

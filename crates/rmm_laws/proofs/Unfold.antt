@@ -1,4 +1,4 @@
--- RMI_RTT_CREATE undoes RMI_RTT_FOLD.
+-- Proofs that RMI_RTT_CREATE undoes RMI_RTT_FOLD, and that a table is folded only into an entry that can replace it.
 use Rattle.std.proofs.Common.{◌≡◌, ◌≢◌, ℕ, ◌+◌, ◌-◌, ◌%◌, ◌^◌, ◌<◌, ◌≤◌, ◌==◌, ◌&&◌, ◌++◌, Bool, true, false, not, List, [], length, Some, unwrap_or, refl, sym, ap, subst, ◌∙◌, ⊎_elim, arith}
 use Rattle.std.specs.Prelude.{nat_le, is_none}
 use Rattle.std.proofs.lemmas.Bool.{cases_eq, and_parts, eq-eqb, eqb-true, leb-true, leb-false, ltb-true}

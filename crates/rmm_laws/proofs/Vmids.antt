@@ -1,4 +1,5 @@
--- VMIDs of other realms than the one that a call creates or destroys.
+-- Proofs that a call keeps each VMID used or free as before, except the VMID of a realm that the call creates or
+-- destroys.
 use Rattle.std.proofs.Common.{◌≡◌, ◌≢◌, ℕ, zero, suc, Bool, true, false, List, Option, Some, None, refl, ap, ◌∙◌}
 use Rattle.std.specs.Prelude.{slice_index_or}
 use Rattle.std.proofs.lemmas.List.{get_or-set_other}

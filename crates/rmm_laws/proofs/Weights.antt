@@ -1,4 +1,4 @@
--- What each call of a teardown leaves of a realm: it weighs less.
+-- The weight of a realm, by which a teardown is shown to end, and proofs on its change by each teardown call.
 use Rattle.std.proofs.Common.{◌≡◌, ◌≢◌, ℕ, zero, suc, ◌+◌, ◌-◌, ◌*◌, ◌%◌, ◌^◌, ◌<◌, ◌≤◌, ◌⊎◌, inl, inr, Bool, true, false, List, length, set, get_or, Option, Some, None, refl, sym, ap, subst, ◌∙◌, ⊎_elim, arith}
 use Rattle.std.specs.Prelude.{nat_le, nat_lt}
 use Rattle.std.proofs.lemmas.Bool.{cases_eq, cases_lt, and_parts, both_ways, cond-true, eq-eqb, eqb-true, leb-true, ltb-true}

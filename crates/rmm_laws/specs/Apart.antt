@@ -1,4 +1,5 @@
--- Realms apart: the granules that a call leaves as they are. RMM 1.0, RMI commands.
+-- The realm that a call names, the granules of other realms, and the host pages that a call may change. RMM 1.0, RMI
+-- commands.
 use Rattle.std.specs.Prelude.{◌≡◌, ◌≢◌, ℕ, ◌+◌, ◌*◌, ◌⊎◌, ◌&&◌, Bool, true, false, Option, Some, None, is_some, if◌then◌else◌}
 use Rattle.granule_addr.specs.Page.{zero_page}
 use Rattle.rmi_abi.specs.declared.call.Call.{Call}

@@ -1,4 +1,5 @@
--- Granules that calls give back. RMM 1.0, RMI_RTT_DESTROY, RMI_RTT_FOLD, RMI_DATA_DESTROY and RMI_REC_DESTROY.
+-- The removal of granules from a realm by a call, which makes them DELEGATED and zero. RMM 1.0, RMI_RTT_DESTROY,
+-- RMI_RTT_FOLD, RMI_DATA_DESTROY and RMI_REC_DESTROY.
 use Rattle.std.specs.Prelude.{◌≡◌, ◌≢◌, ℕ, ◌<◌, ◌⊎◌, true, false, Some}
 use Rattle.granule_addr.specs.Page.{zero_page}
 use Rattle.rmm_model.specs.declared.entry.RmmRipas.{RmmRipas}

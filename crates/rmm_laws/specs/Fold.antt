@@ -1,4 +1,5 @@
--- Tables that are made and folded again. RMM 1.0, RMI_RTT_CREATE and RMI_RTT_FOLD.
+-- The condition that an entry can replace a table, and the condition that two machines have the same table entries. RMM
+-- 1.0, RMI_RTT_CREATE and RMI_RTT_FOLD.
 use Rattle.std.specs.Prelude.{◌≡◌, ◌≢◌, ℕ, ◌<◌, true}
 use Rattle.rmm_model.specs.declared.entry.RmmRttEntry.{RmmRttEntry}
 use Rattle.rmm_model.specs.declared.granule.RmmGranuleState.TheVariants.{Rtt}

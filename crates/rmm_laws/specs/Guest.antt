@@ -1,4 +1,4 @@
--- Guests: what their RECs begin with, their steps, and what they read of the host's.
+-- Conditions on RECs and their guests: new RECs, steps, values read from the host, and entries without an answer.
 use Rattle.std.specs.Prelude.{◌≡◌, ℕ, ◌<◌, Bool, true, false}
 use Rattle.page_arena.specs.Word.{word_of_page}
 use Rattle.rmi_abi.specs.RecParams.{is_runnable_in, mpidr_in}

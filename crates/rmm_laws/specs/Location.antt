@@ -1,4 +1,5 @@
--- Locations and bytes that addresses of a realm lead to. RMM 1.0, RTT entry.
+-- The memory locations and the bytes that a realm's addresses lead to, and the calls that change them. RMM 1.0, RTT
+-- entry.
 use Rattle.std.specs.Prelude.{◌≡◌, ℕ, ◌+◌, ◌*◌, ◌/◌, ◌%◌, ◌⊎◌, true, List, Option, Some, None}
 use Rattle.granule_addr.specs.Page.{zero_page}
 use Rattle.rmi_abi.specs.declared.call.Call.{Call}

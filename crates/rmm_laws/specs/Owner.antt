@@ -1,5 +1,5 @@
--- Owners of granules: the realms that have them, and the RECs that an RD counts. RMM 1.0, Granule, Realm and REC
--- attributes.
+-- The owner that each granule's state requires, and the number of RECs that each RD counts. RMM 1.0, Granule, Realm and
+-- REC attributes.
 use Rattle.std.specs.Prelude.{◌≡◌, ℕ, ◌<◌, ◌==◌, ◌&&◌, ◌⊎◌, Bool, true, false, List, Option, Some, None, is_some}
 use Rattle.std.specs.List.{count_by}
 use Rattle.granule_addr.specs.Page.{zero_page}

@@ -1,4 +1,5 @@
--- Proper machines, in which each granule has one role and one owner. RMM 1.0, Granule attributes.
+-- Proper machines, in which each granule has the role and the owner that its state requires. RMM 1.0, Granule
+-- attributes.
 use Rattle.std.specs.Prelude.{◌≡◌, ℕ}
 use Rattle.rmm_model.specs.declared.granule.RmmGranuleState.TheVariants.{Rec}
 use Rattle.rmm_model.specs.declared.rec.RmmRec.{RmmRec}

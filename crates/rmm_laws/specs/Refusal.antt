@@ -1,4 +1,4 @@
--- Refusals: of calls, of steps that a guest is given, of interrupts, and of accesses of a guest.
+-- The conditions under which calls, host accesses, queued steps, interrupts and guest accesses are refused.
 use Rattle.std.specs.Prelude.{◌≡◌, ◌≢◌, ℕ, ◌-◌, ◌%◌, ◌^◌, ◌≤◌, ◌⊎◌, Bool, true, false, List, [], ◌∷◌, Option, Some}
 use Rattle.rmi_abi.specs.declared.call.Call.{Call}
 use Rattle.rmi_abi.specs.declared.call.Call.TheVariants.{RecEnter}

@@ -1,4 +1,5 @@
--- Requests of RECs for a change of RIPAS, and what changes them. RMM 1.0, RSI_IPA_STATE_SET, RMI_RTT_SET_RIPAS.
+-- The requests of RECs for a change of RIPAS, and the calls and guest steps that change these requests. RMM 1.0,
+-- RSI_IPA_STATE_SET, RMI_RTT_SET_RIPAS.
 use Rattle.std.specs.Prelude.{◌≡◌, ℕ, ◌%◌, ◌≤◌, ◌==◌, ◌⊎◌, true, Option, Some}
 use Rattle.rmi_abi.specs.declared.call.Call.{Call}
 use Rattle.rmi_abi.specs.declared.call.Call.TheVariants.{RecEnter, RttSetRipas}

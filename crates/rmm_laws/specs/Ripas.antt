@@ -1,4 +1,4 @@
--- RIPAS of protected addresses, and the calls that change it. RMM 1.0, Realm IPA state.
+-- The RIPAS of protected addresses, and the calls that change it. RMM 1.0, Realm IPA state.
 use Rattle.std.specs.Prelude.{◌≡◌, ℕ, ◌+◌, ◌-◌, ◌*◌, ◌/◌, ◌<◌, ◌≤◌, ◌⊎◌, true, false, Option, Some, if◌then◌else◌}
 use Rattle.rmi_abi.specs.declared.call.Call.{Call}
 use Rattle.rmi_abi.specs.declared.call.Call.TheVariants.{DataCreate, DataDestroy, RttDestroy, RttInitRipas, RttSetRipas}

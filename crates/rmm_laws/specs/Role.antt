@@ -1,4 +1,4 @@
--- Roles of granules: what a granule is used for, and which granule uses it. RMM 1.0, Granule attributes, RTT entry, REC
+-- The role of each granule: its use, and the granule that uses it. RMM 1.0, Granule attributes, RTT entry, REC
 -- attribute aux.
 use Rattle.std.specs.Prelude.{◌≡◌, ◌≢◌, ℕ, ◌+◌, ◌*◌, ◌/◌, ◌<◌, ◌≤◌, ◌⊎◌, ◌==◌, ◌&&◌, Bool, true, false, nat_lt, List, length, Option, Some, None, option_map, if◌then◌else◌}
 use Rattle.rmi_abi.specs.Settings.{IsPlatform}

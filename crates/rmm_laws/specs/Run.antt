@@ -1,4 +1,5 @@
--- Runs of RECs: the entry, the steps of the guest, and what ends them. RMM 1.0, RMI_REC_ENTER.
+-- The run of a REC: at most a given number of guest steps, until an exit or until the guest spins. RMM 1.0,
+-- RMI_REC_ENTER.
 use Rattle.std.specs.Prelude.{◌≡◌, ℕ, zero, suc}
 use Rattle.rmi_abi.specs.declared.rec_run.ExitReason.TheVariants.{Irq}
 use Rattle.rmi_abi.specs.declared.word.Word.{Word}

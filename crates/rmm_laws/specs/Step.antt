@@ -1,4 +1,5 @@
--- Calls that take a realm down, one step at a time. RMM 1.0, Realm destruction.
+-- The calls of a realm's teardown, and the condition that a sequence of them destroys the realm. RMM 1.0, Realm
+-- destruction.
 use Rattle.std.specs.Prelude.{◌≡◌, ℕ, ◌-◌, false, List, [], ◌∷◌, Some}
 use Rattle.granule_addr.specs.Page.{zero_page}
 use Rattle.rmi_abi.specs.declared.call.Call.{Call}

@@ -1,4 +1,4 @@
--- Ends of walks. RMM 1.0, RttWalk.
+-- The table at which a walk ends, the addresses that a table serves, and the next live entry. RMM 1.0, RttWalk.
 use Rattle.std.specs.Prelude.{◌≡◌, ℕ, zero, suc, ◌+◌, ◌*◌, ◌/◌, ◌%◌, ◌<◌, ◌≤◌, ◌⊎◌, true, false, Some}
 use Rattle.rmm_model.specs.declared.granule.RmmGranuleState.TheVariants.{Rtt}
 use Rattle.rmm_model.specs.declared.realm.RmmRealm.{RmmRealm}

@@ -1,5 +1,4 @@
-//! Theorems about RMI calls, hosts and guests. The calls are made in registers; hosts store and fill, and guests take
-//! steps.
+//! Theorems about RMI calls in registers, the host's stores and fills, and the steps of guests.
 ghost use Rattle.std.specs.Prelude.{◌≡◌, ◌≢◌, ℕ, ◌+◌, ◌-◌, ◌*◌, ◌/◌, ◌%◌, ◌^◌, ◌<◌, ◌≤◌, ◌⊎◌, true, false, List, [], ◌∷◌, length, Some, None};
 ghost use Rattle.granule_addr.specs.Page.{zero_page};
 ghost use Rattle.page_arena.specs.Page.{page_at};
@@ -83,8 +82,8 @@ pub fn refusals_change_nothing()
         → IsNotDone (step_outcome m realm rec flags step) → after_step m realm rec step (step_outcome m realm rec flags step) ≡ m }
 {}
 
-/// If the model refuses a call, an RMM may return only a refusal. The word by which the model refuses it is one of the
-/// allowed words. If a call is not refused, RMI_SUCCESS alone is allowed, also of an RMI_REC_ENTER that is answered
+/// If the model refuses a call, an RMM may return only a refusal. The word by which the model refuses a call is one of
+/// the allowed words. If a call is not refused, RMI_SUCCESS alone is allowed, also of an RMI_REC_ENTER that is answered
 /// with the word of a REC that runs on.
 pub fn only_refusals_are_allowed()
     ensures done { (call : Call) (m : Machine) → is_refusal (performed call m).0.word ≡ false → allowed_words (command_of call m) ≡ Success ∷ [] }
@@ -92,10 +91,10 @@ pub fn only_refusals_are_allowed()
     ensures others { (call : Call) (m : Machine) (word : Word) → is_refusal (performed call m).0.word ≡ true → IsOneOf word (allowed_words (command_of call m)) → is_refusal word ≡ true }
 {}
 
-/// Each RTT, DATA and REC_AUX granule has exactly one use. The use is in the realm that owns the granule. No other
-/// granule has a use. Owners are RDs, each RD counts its RECs, and DELEGATED granules are zero. The machine of a
-/// platform is so. Each call keeps it so, and so do the host's stores and fills, steps that guests are given, and
-/// interrupts. During a run, the entry of a REC keeps it so, each step of its guest, and the exit.
+/// Each RTT, DATA and REC_AUX granule has exactly one use, in the realm that owns the granule. No other granule has a
+/// use. Owners are RDs, each RD counts its RECs, and DELEGATED granules are zero. The machine of a platform is so. Each
+/// call keeps it so, and so do the host's stores and fills, steps that guests are given, and interrupts. During a run,
+/// the entry of a REC keeps it so, each step of its guest, and the exit.
 pub fn granules_have_one_role()
     ensures opened { (s : RmmSettings) (pages : List (List ℕ)) → IsPlatform s → length pages ≤ 4096 → ((k : ℕ) → k < length pages → length (page_at pages k) ≡ 4096)
         → IsProper (platform_machine s pages) }
@@ -113,8 +112,8 @@ pub fn granules_have_one_role()
         → (x ≡ y) × (i ≡ j) × (k ≡ l) }
 {}
 
-/// A walk ends at a table of the realm that covers the address. The walk is to the starting level or a deeper level.
-/// The table is of the level that the walk goes to, or its entry is no TABLE.
+/// A walk to the starting level or a deeper level ends at a table of the realm that covers the address. The table is of
+/// the level that the walk goes to, or the entry there is no TABLE.
 pub fn walks_end_at_covering_table()
     ensures { (m : Machine) (rd ipa level : ℕ) (realm : RmmRealm) (proper : IsProper m) → (granule_at m rd).state ≡ Rd realm → ipa < 2 ^ realm.s2sz → realm.start_level ≤ level
         → EndsWell m proper.linked.level rd realm ipa level (walk m realm ipa level) }
@@ -129,8 +128,8 @@ pub fn halves_are_apart()
         → IsPlaced m.settings (walk m realm ipa level).level (entry_at m (walk m realm ipa level) ipa) }
 {}
 
-/// Walks reach each table of a realm. The table serves a range of addresses, 512 entries long. A walk of each address
-/// in the range reaches the table.
+/// Each table of a realm serves a range of addresses, 512 entries long. A walk of each address in the range reaches the
+/// table.
 pub fn tables_are_reached()
     ensures some { (m : Machine) (rd table : ℕ) (realm : RmmRealm) (proper : IsProper m) → (granule_at m rd).state ≡ Rd realm → IsTableOf m rd table
         → (levels : ℕ) × (first : ℕ) × Serves m realm levels table first × (proper.linked.level table ≡ realm.start_level + levels) }
@@ -138,7 +137,7 @@ pub fn tables_are_reached()
         → ipa < first + 512 * entry_size (realm.start_level + levels) → walk m realm ipa (realm.start_level + levels) ≡ walked_to table (realm.start_level + levels) }
 {}
 
-/// Each TABLE entry has the address of a table. That table belongs to the same realm, and is one level below.
+/// Each TABLE entry has the address of a table of the same realm, one level below.
 pub fn tables_lead_to_tables()
     ensures { (m : Machine) (proper : IsProper m) (rd table i address : ℕ) → IsTableOf m rd table → i < 512 → entry_in_page (page_in m table) i ≡ Table address
         → LeadsToTable m proper.linked.level rd table address }
@@ -160,9 +159,9 @@ pub fn granules_come_back()
     ensures named { (m : Machine) (rd ipa : ℕ) → (performed (DataDestroy rd ipa) m).0.word ≡ Success → IsAssignedTo m rd ipa (performed (DataDestroy rd ipa) m).0.x1 }
 {}
 
-/// No live entry is between an address and the `top` that its walk gives. The top is at the next live entry of the
-/// table, or at the table's end. RTT_DESTROY, DATA_DESTROY and RTT_UNMAP_UNPROTECTED return such a top of the machine
-/// after them, and it is after the address.
+/// No live entry is between an address and the `top` of the walk of that address. The top is at the next live entry of
+/// the table, or at the table's end. RTT_DESTROY, DATA_DESTROY and RTT_UNMAP_UNPROTECTED return such a top of the
+/// machine after them, and it is after the address.
 pub fn tops_are_complete()
     ensures skipped { (m : Machine) (rd ipa level x : ℕ) (realm : RmmRealm) → IsProper m → (granule_at m rd).state ≡ Rd realm → ipa < 2 ^ realm.s2sz → realm.start_level ≤ level → level ≤ 3
         → ipa ≤ x → x < top m (walk m realm ipa level) ipa → IsPassed m realm (walk m realm ipa level) x }
@@ -211,10 +210,10 @@ pub fn teardown_steps_succeed()
         → (granule ≡ number_of m rd) ⊎ (((realm_at m rd).first_table ≤ granule) × (granule < (realm_at m rd).first_table + (realm_at m rd).table_count)) }
 {}
 
-/// Some sequence of calls destroys a realm and undelegates its granules. There is one if no REC of the realm runs, and
-/// some granule is DELEGATED. All its calls succeed, and they are the calls of a teardown alone. After them each
-/// granule that the realm has now is UNDELEGATED and zero, and the realm's VMID is free. The granules of other realms
-/// are as they were. The DELEGATED granule is for the table of a block that has to be unfolded.
+/// If no REC of a realm runs, and some granule is DELEGATED, a sequence of calls destroys the realm and undelegates its
+/// granules. All calls of the sequence succeed, and they are the calls of a teardown alone. After them each granule
+/// that the realm has now is UNDELEGATED and zero, and the realm's VMID is free. The granules of other realms are as
+/// they were. The DELEGATED granule is for the table of a block that has to be unfolded.
 pub fn realms_can_be_torn_down()
     ensures { (m : Machine) (rd spare : ℕ) → IsProper m → rd_named m rd ≡ Some (number_of m rd) → (granule_at m spare).state ≡ Delegated
         → ((granule : ℕ) (rec : RmmRec) → granule_at m granule ≡ of_realm (number_of m rd) (Rec rec) → is_running rec.state ≡ false) → CanBeTornDown m rd }
@@ -271,10 +270,10 @@ pub fn requests_are_the_guest_s()
     ensures left { (m : Machine) (g : ℕ) (exit : RecExit) (last : LastExit) → KeepsRequests m None (after_exit m g exit last) }
 {}
 
-/// RIPAS changes only as the guest asks, or to DESTROYED. This holds for the protected addresses of a realm that is no
-/// longer NEW. RMI_RTT_INIT_RIPAS and RMI_DATA_CREATE can make it RAM, if the realm is NEW. RMI_DATA_DESTROY can make
-/// it DESTROYED where it was RAM, and RMI_RTT_DESTROY whatever it was. A page that is destroyed leaves RIPAS that is
-/// not RAM. RMI_RTT_SET_RIPAS can make it what a REC of the realm asks for, within the range that it asks for. If it
+/// In a realm that is no longer NEW, the RIPAS of protected addresses changes only as the guest asks, or to DESTROYED.
+/// RMI_RTT_INIT_RIPAS and RMI_DATA_CREATE can make RIPAS RAM, if the realm is NEW. RMI_DATA_DESTROY can make it
+/// DESTROYED where it was RAM, and RMI_RTT_DESTROY whatever it was. A page that is destroyed leaves RIPAS that is not
+/// RAM. RMI_RTT_SET_RIPAS can make it what a REC of the realm asks for, within the range that it asks for. If it
 /// succeeds, it does so up to X1 and no further, and leaves the pages. X1 is not after the end of the request.
 /// RMI_RTT_INIT_RIPAS does the same with RAM, without a request. No other call changes the RIPAS of a protected
 /// address, and neither do stores and fills of the host, steps that guests are given, and interrupts. A new realm is
@@ -405,10 +404,10 @@ pub fn other_realms_stay()
     ensures settings { (r : Registers) (m : Machine) → IsProper m → ((rmi r m).1.settings ≡ m.settings) × (length (rmi r m).1.granules ≡ length m.granules) }
 {}
 
-/// The invariant `IsProper` rules out certain wrong definitions of RMI commands. The machines that result from them do
-/// not satisfy it. By one such definition, RTT_DESTROY leaves the entry of the table. By another, a call maps a page
-/// that is mapped already. REC_DESTROY leaves the count of its realm. REALM_DESTROY leaves a granule of the realm. A
-/// granule becomes DELEGATED and is not wiped.
+/// The invariant `IsProper` rules out certain wrong definitions of RMI commands: the resulting machines do not satisfy
+/// it. By one such definition, RTT_DESTROY leaves the entry of the table. By another, a call maps a page that is mapped
+/// already. REC_DESTROY leaves the count of its realm. REALM_DESTROY leaves a granule of the realm. A granule becomes
+/// DELEGATED and is not wiped.
 pub fn wrong_definitions_are_detected()
     ensures entry_left { (m : Machine) (rd table i g : ℕ) → IsProper m → IsTableOf m rd table → i < 512 → table_below m (entry_in_page (page_in m table) i) ≡ Some g → IsProper (with_blank m g Delegated) → ⊥ }
     ensures named_twice { (m : Machine) (proper : IsProper m) (rd s x i p y j q address other : ℕ) (a b : RmmRipas) → IsTableOf m rd x → IsTableOf m s y → i < 512 → j < 512

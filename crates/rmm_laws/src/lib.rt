@@ -1,4 +1,4 @@
-//! Theorems about the model of RMM 1.0. They are properties of the modelled machine that hold whatever calls are made.
+//! Theorems about the model of RMM 1.0: properties of the modelled machine that hold whatever calls are made.
 //!
 //! The definitions are those of `rmm_model`. The theorems are a crate of their own, so that a theorem more is a check
 //! of this crate alone.

@@ -1,4 +1,4 @@
--- The first entry of a table that is not changed, one entry at a time.
+-- Proofs on the search for a table's first entry whose RIPAS a command cannot change, one entry at a time.
 use Rattle.std.proofs.Common.{◌≡◌, ℕ, suc, ◌+◌, ◌-◌, ◌<◌, ◌≤◌, List, true, false, ap, ◌∙◌, arith}
 use Rattle.std.proofs.lemmas.Bool.{cond-true, cond-false}
 use Rattle.rmm_model.specs.declared.entry.Changeable.{Changeable}

@@ -1,4 +1,4 @@
--- The first live entry of a table, one entry at a time.
+-- Proofs on the search for a table's first live entry, one entry at a time.
 use Rattle.std.proofs.Common.{◌≡◌, ℕ, zero, suc, ◌+◌, ◌-◌, ◌*◌, ◌/◌, ◌%◌, ◌^◌, ◌<◌, List, true, false, refl, ap, sym, ◌∙◌, arith}
 use Rattle.std.proofs.lemmas.Bool.{cond-true, cond-false}
 use Rattle.page_arena.specs.Word.{word_of_page}

@@ -1,4 +1,4 @@
--- Entries that are the children of one, one at a time.
+-- Proofs on the test that a table's entries are the children of one entry above, one child at a time.
 use Rattle.std.proofs.Common.{◌≡◌, ◌≢◌, ℕ, suc, ◌+◌, ◌-◌, ◌<◌, ◌&&◌, List, Bool, true, false, nat_eq, ap, ◌∙◌, arith}
 use Rattle.std.proofs.lemmas.Bool.{eq-eqb, ne_eqb}
 use Rattle.page_arena.specs.Word.{word_of_page}

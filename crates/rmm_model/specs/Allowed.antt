@@ -1,5 +1,5 @@
--- The words that an RMM may answer. RMM 1.0 orders the failure conditions of a command in part: if two checks that are
--- not ordered fail, either decides.
+-- The result words with which an RMM may answer a command. RMM 1.0 orders the failure conditions of a command in part:
+-- if two checks that are not ordered fail, either decides.
 use Rattle.std.specs.Prelude.{ℕ, ◌==◌, Bool, List, [], ◌∷◌, if◌then◌else◌}
 use Rattle.std.specs.List.{list_all, list_any}
 use Rattle.rmi_abi.specs.declared.word.Word.{Word}

@@ -1,4 +1,4 @@
--- The bytes that are hashed.
+-- The zero bytes that pad hashed messages.
 use Rattle.std.specs.Prelude.{ℕ, List, replicate}
 
 -- the given number of zero bytes

@@ -1,4 +1,5 @@
--- Checks of commands, and the answers to them. RMM 1.0, failure conditions of RMI commands.
+-- The checks of RMI commands, and the answer to a command by its first check that fails. RMM 1.0, failure conditions of
+-- RMI commands.
 use Rattle.std.specs.Prelude.{ℕ, Bool, cond, List, [], ◌∷◌, Option, Some, None, Result, Ok, Err}
 use Rattle.rmi_abi.specs.declared.registers.SmcResult.{SmcResult}
 use Rattle.rmi_abi.specs.declared.word.Word.TheVariants.{Success, ErrorInput, ErrorRealm, ErrorRec, ErrorRtt}

@@ -1,4 +1,4 @@
--- An injective encoding of machines.
+-- An injective encoding of the model's machines.
 use Rattle.std.specs.Prelude.{ℕ, Bool, List, refl}
 use Rattle.std.specs.Coded.{Coded, code_by, coded×, coded_ℕ, coded_bool, coded_list}
 use Rattle.rmi_abi.specs.declared.settings.RmmSettings.{RmmSettings}

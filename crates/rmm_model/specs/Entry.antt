@@ -1,4 +1,5 @@
--- Entries of translation tables, and their words. RMM 1.0, RTT entry; the bits of a word are this RMM's own.
+-- The entries of translation tables, and the words that encode them. RMM 1.0, RTT entry; the bits of a word are this
+-- RMM's own.
 use Rattle.std.specs.Prelude.{ℕ, ◌+◌, ◌*◌, ◌/◌, ◌%◌, ◌^◌, ◌==◌, ◌&&◌, ◌||◌, Bool, true, false, not, Option, Some, None, if◌then◌else◌}
 use Rattle.rmm_model.specs.Level.{entry_size}
 use Rattle.rmm_model.specs.declared.entry.Changeable.{Changeable}

@@ -1,4 +1,4 @@
--- Granules. RMM 1.0, Granule attributes.
+-- The states and the owners of granules. RMM 1.0, Granule attributes.
 use Rattle.std.specs.Prelude.{ℕ, Bool, true, false, Option, Some, None}
 use Rattle.rmm_model.specs.declared.granule.RmmGranule.{RmmGranule}
 use Rattle.rmm_model.specs.declared.granule.RmmGranuleState.{RmmGranuleState}

@@ -1,4 +1,4 @@
--- Memory of the host: it reads and writes UNDELEGATED granules. This RMM's own: loads and stores are no calls.
+-- The host's loads, stores and fills of UNDELEGATED granules. These accesses are this RMM's own, and no RMI calls.
 use Rattle.std.specs.Prelude.{ℕ, ◌/◌, ◌%◌, ◌==◌, ◌&&◌, Bool, Option, Some, None, if◌then◌else◌}
 use Rattle.granule_addr.specs.Page.{page_of}
 use Rattle.page_arena.specs.Word.{word_of_page}

@@ -1,4 +1,5 @@
--- Levels of translation tables. RMM 1.0, RTT level: level 3 has pages, level 0 is the topmost.
+-- The levels of translation tables: the size of an entry, and the index of the entry that covers an address. RMM 1.0,
+-- RTT level: level 3 has pages, level 0 is the topmost.
 use Rattle.std.specs.Prelude.{ℕ, ◌/◌, ◌%◌, ◌^◌, ◌==◌, if◌then◌else◌}
 
 -- the bytes that an entry of a level covers: 4 KiB, 2 MiB, 1 GiB or 512 GiB

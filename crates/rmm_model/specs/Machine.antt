@@ -1,4 +1,4 @@
--- A machine: its granules and their pages, by number, and the addresses that name them.
+-- The model's machine: its settings, granules, pages and VMIDs, and the granules that addresses name.
 use Rattle.std.specs.Prelude.{ℕ, ◌-◌, ◌/◌, ◌%◌, ◌==◌, ◌&&◌, Bool, false, nat_le, nat_lt, List, length, slice_index_or, slice_set, IfSome}
 use Rattle.granule_addr.specs.Page.{zero_page}
 use Rattle.page_arena.specs.Page.{page_at}

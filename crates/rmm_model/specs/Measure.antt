@@ -1,4 +1,5 @@
--- Measurements of realms. RMM 1.0, Realm measurement, RmmMeasurementDescriptorData, -Rec and -Ripas.
+-- The initial measurement of a realm, and its extensions. RMM 1.0, Realm measurement, RmmMeasurementDescriptorData,
+-- -Rec and -Ripas.
 use Rattle.std.specs.Prelude.{ℕ, List, ◌++◌, slice_range}
 use Rattle.std.specs.Int.{to_le_bytes, w64}
 use Rattle.sha2.specs.Sha256.{sha256}

@@ -1,4 +1,4 @@
--- Realms. RMM 1.0, Realm attributes.
+-- The states of realms, the halves of their address spaces, and their starting tables. RMM 1.0, Realm attributes.
 use Rattle.std.specs.Prelude.{true, false, ℕ, [], ◌+◌, ◌-◌, ◌*◌, ◌/◌, ◌^◌, ◌≤◌, ◌==◌, ◌&&◌, Bool, not, nat_le, nat_lt, List}
 use Rattle.rmi_abi.specs.declared.hash.HashAlgorithm.TheVariants.{Sha256}
 use Rattle.rmm_model.specs.declared.realm.RmmRealm.{RmmRealm}

@@ -1,5 +1,6 @@
--- RECs. RMM 1.0, REC attributes. The words of a REC's page are this RMM's own. Words 0 to 30 are its general-purpose
--- registers, 31 is its pc, and 32 to 47 are the addresses of its auxiliary granules.
+-- The attributes of RECs, and the addresses of auxiliary granules in a REC's page. RMM 1.0, REC attributes. The words
+-- of a REC's page are this RMM's own. Words 0 to 30 of the page are the general-purpose registers, 31 is the pc, and 32
+-- to 47 are the addresses of the auxiliary granules.
 use Rattle.std.specs.Prelude.{ℕ, ◌+◌, ◌||◌, Bool, true, false, List}
 use Rattle.page_arena.specs.Word.{word_of_page}
 use Rattle.rmm_model.specs.declared.entry.RmmRipas.TheVariants.{Empty}

@@ -1,4 +1,4 @@
--- Tables: pages of 512 entries.
+-- Translation tables, which are pages of 512 entries: live entries, changeable entries, and the children of an entry.
 use Rattle.std.specs.Prelude.{ℕ, zero, suc, ◌+◌, ◌-◌, ◌==◌, ◌&&◌, Bool, true, cond, not, List, Option, Some, None}
 use Rattle.granule_addr.specs.Page.{page_of, zero_page}
 use Rattle.page_arena.specs.Word.{word_of_page, page_with_word}

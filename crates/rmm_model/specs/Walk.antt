@@ -1,4 +1,5 @@
--- Walks down the tables of a realm, and the next live entry after one. RMM 1.0, RttWalk and RttSkipNonLiveEntries.
+-- Walks of a realm's translation tables, and the next live entry in the table at which a walk ends. RMM 1.0, RttWalk
+-- and RttSkipNonLiveEntries.
 use Rattle.std.specs.Prelude.{ℕ, zero, suc, ◌+◌, ◌-◌, ◌*◌, ◌/◌, ◌==◌, Bool, cond, Option, Some, None, if◌then◌else◌}
 use Rattle.std.specs.Option.{option_map_or}
 use Rattle.rmm_model.specs.declared.entry.RmmRttEntry.{RmmRttEntry}

@@ -1,4 +1,4 @@
-//! Sizes of a guest's accesses.
+//! The sizes of a guest's memory accesses.
 ghost use Rattle.std.specs.Prelude.{◌≡◌, ◌+◌, ◌≤◌, length};
 ghost use Rattle.rmm_model.specs.Access as accesses;
 
@@ -15,7 +15,7 @@ pub enum AccessSize {
 }
 
 impl AccessSize {
-    /// Returns the access size for a number of bytes. It is `Byte` if no access has that size.
+    /// Returns the access size for a number of bytes, or `Byte` if no access has that size.
     pub fn of(bytes: u64) -> AccessSize
         ensures { result ≡ accesses.access_size bytes }
     {
@@ -27,7 +27,7 @@ impl AccessSize {
         }
     }
 
-    /// Returns the access size as the SAS field of a data abort syndrome. The field is in its bit position in ESR_EL2.
+    /// Returns the access size as the SAS field of a data abort syndrome, at its bit position in ESR_EL2.
     pub fn syndrome(self) -> u64
         ensures value { result ≡ accesses.syndrome self }
         ensures below { result ≤ 0xC0_0000 }
@@ -52,8 +52,8 @@ impl AccessSize {
         }
     }
 
-    /// Reads a value of the access size from a page. It is at the page offset of `ipa`, rounded down to a multiple of
-    /// the access size.
+    /// Reads a value of the access size from a page, at the page offset of `ipa` rounded down to a multiple of the
+    /// size.
     #[tactic(auto, unfolding(crate::specs::Access::value_in))]
     pub fn read(self, page: &[u8], ipa: u64) -> u64
         requires { length page.now ≡ 4096 }

@@ -28,7 +28,7 @@ impl FailedCondition {
     }
 }
 
-/// Returns a refusal with RMI_ERROR_INPUT. `condition` is its failure condition.
+/// Returns a refusal with RMI_ERROR_INPUT for the failure condition `condition`.
 pub fn error_input(condition: Condition) -> FailedCondition
     ensures { result ≡ record { condition = condition; answer = checks.error_input } }
 {
@@ -38,7 +38,7 @@ pub fn error_input(condition: Condition) -> FailedCondition
     }
 }
 
-/// Returns a refusal with RMI_ERROR_RTT and the level of a table. `condition` is its failure condition.
+/// Returns a refusal with RMI_ERROR_RTT and the level of a table, for the failure condition `condition`.
 pub fn error_rtt(condition: Condition, level: u8) -> FailedCondition
     ensures { result ≡ record { condition = condition; answer = checks.error_rtt level } }
 {

@@ -1,12 +1,10 @@
-//! The child entries of a translation table entry, as encoded words. They are the 512 entries of a table that replaces
-//! the entry.
+//! The 512 child entries of a translation table entry, as the encoded words of a table that replaces the entry.
 ghost use Rattle.std.specs.Prelude.{◌≡◌, ℕ, ◌^◌, ◌<◌, ◌≤◌};
 
 use crate::RmmRttEntry;
 use crate::entry::ADDRESSES;
 
-/// The words that encode the children of a table entry. All are of one kind, and their descriptors rise by a fixed
-/// step.
+/// The words that encode the children of a table entry, all of one kind, with descriptors that rise by a fixed step.
 #[derive(Clone, Copy)]
 pub struct ChildWords {
     kind: u64,

@@ -29,9 +29,9 @@ pub enum RmmRttEntry {
 /// unless their RIPAS is DESTROYED.
 #[derive(Clone, Copy)]
 pub struct Changeable {
-    /// Whether the command changes ASSIGNED entries.
+    /// Whether a command changes the RIPAS of ASSIGNED entries.
     pub assigned: bool,
-    /// Whether the command changes entries whose RIPAS is DESTROYED.
+    /// Whether a command changes entries whose RIPAS is DESTROYED.
     pub destroyed: bool,
 }
 
@@ -108,7 +108,7 @@ impl RmmRttEntry {
         }
     }
 
-    /// The word that encodes the entry. A live one has its descriptor in bits 47:0.
+    /// Returns the word that encodes the entry, with the descriptor of a live entry in bits 47:0.
     #[tactic(auto, unfolding(crate::specs::Entry::entry_word))]
     pub fn word(self) -> u64
         ensures { result ≡ entries.entry_word self }
@@ -162,7 +162,7 @@ impl RmmRttEntry {
         }
     }
 
-    /// Returns the address or descriptor of a live entry. It is 0 for any other entry.
+    /// Returns the address or descriptor of a live entry, or 0 for any other entry.
     pub fn descriptor(self) -> u64
         ensures { result ≡ entries.descriptor_of self }
     {
@@ -174,7 +174,7 @@ impl RmmRttEntry {
         }
     }
 
-    /// Returns the RIPAS of an UNASSIGNED or ASSIGNED entry. It is EMPTY for any other entry.
+    /// Returns the RIPAS of an UNASSIGNED or ASSIGNED entry, or EMPTY for any other entry.
     pub fn ripas(self) -> RmmRipas
         ensures { result ≡ entries.ripas_in self }
     {
@@ -185,7 +185,7 @@ impl RmmRttEntry {
         }
     }
 
-    /// Returns whether a command that changes the RIPAS of `changeable` entries changes this one.
+    /// Whether a command that changes the RIPAS of `changeable` entries changes this entry.
     pub fn can_change(self, changeable: Changeable) -> bool
         ensures { result ≡ entries.can_change changeable self }
     {
@@ -223,7 +223,7 @@ impl RmmRttEntry {
         }
     }
 
-    /// Returns the entry's RIPAS, encoded as an RmiRipas. It is 0 for an entry that is neither UNASSIGNED nor ASSIGNED.
+    /// Returns the entry's RIPAS, encoded as an RmiRipas, or 0 for an entry that is neither UNASSIGNED nor ASSIGNED.
     pub fn ripas_code(self) -> u64
         ensures { result ≡ entries.shown_ripas self }
     {
@@ -247,7 +247,7 @@ impl RmmRttEntry {
         }
     }
 
-    /// Returns the byte that fills the page of a new table below the entry. It is `None` for a live entry.
+    /// Returns the byte that fills the page of a new table below the entry, or `None` for a live entry.
     pub fn repeated_byte(self) -> Option<u8>
         ensures { result ≡ entries.repeated_byte self }
     {

@@ -1,10 +1,10 @@
-//! Granules, and their states.
+//! The attributes of granules, and their states.
 ghost use Rattle.std.specs.Prelude.{◌≡◌};
 
 use crate::{RmmRealm, RmmRec};
 use granule_addr::Gran;
 
-/// The state of a granule. The state of an RD has the realm, and that of a REC its attributes. RMM 1.0,
+/// The state of a granule, with the attributes of the realm for an RD, and those of the REC for a REC. RMM 1.0,
 /// RmmGranuleState.
 #[derive(Clone, Copy)]
 pub enum RmmGranuleState {
@@ -39,7 +39,7 @@ impl RmmGranuleState {
         matches!(self, RmmGranuleState::Delegated)
     }
 
-    /// The realm, if the granule is an RD.
+    /// Returns the attributes of the realm, if the granule is an RD.
     pub fn realm(&self) -> Option<RmmRealm>
         ensures { result ≡ realm_of self.now }
     {

@@ -19,8 +19,7 @@ fn entry_shift(level: u8) -> u8
     }
 }
 
-/// Returns the number of bytes that an entry at a level covers. It is 4 KiB, 2 MiB, 1 GiB or 512 GiB. RMM 1.0, RTT
-/// level.
+/// Returns the number of bytes that an entry at a level covers: 4 KiB, 2 MiB, 1 GiB or 512 GiB. RMM 1.0, RTT level.
 #[tactic(auto, unfolding(crate::specs::Level::entry_size))]
 pub fn entry_size(level: u8) -> u64
     ensures value { result ≡ levels.entry_size level }
@@ -38,8 +37,7 @@ pub fn entry_number(level: u8, address: u64) -> u64
     address >> entry_shift(level)
 }
 
-/// Returns the offset of an address in the range that an entry covers. The entry is the one at the level that covers
-/// the address.
+/// Returns the offset of an address in the range of the entry that covers the address at the given level.
 #[tactic(auto, unfolding(crate::specs::Level::entry_size))]
 pub fn entry_offset(level: u8, address: u64) -> u64
     ensures value { result ≡ address % levels.entry_size level }
@@ -53,7 +51,7 @@ pub fn entry_offset(level: u8, address: u64) -> u64
     }
 }
 
-/// Returns the index, within its table, of the entry that covers an address. The table has 512 entries.
+/// Returns the index of the entry that covers an address, among the 512 entries of its table.
 #[tactic(auto, unfolding(crate::specs::Level::entry_index))]
 pub fn entry_index(level: u8, ipa: u64) -> u16
     ensures value { result ≡ levels.entry_index level ipa }

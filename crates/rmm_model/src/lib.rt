@@ -1,5 +1,5 @@
-//! A model of the Realm Management Monitor, RMM 1.0. It has definitions of the machine and the commands, and the types
-//! of their values.
+//! A model of the Realm Management Monitor, RMM 1.0: definitions of the machine and the commands, and the types of
+//! their values.
 //!
 //! A machine is a list of granules and a list of pages; a translation table is its page of 512 words. In
 //! `specs/Command` each command is a list of checks and an effect, and `specs/Call` has what a call by registers does.

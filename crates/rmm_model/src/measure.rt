@@ -18,7 +18,7 @@ pub enum Extension {
         flags: u64,
         digest: [u8; 64],
     },
-    /// A REC, with the digest of its parameters.
+    /// The creation of a REC, with the digest of the REC's parameters.
     Rec {
         digest: [u8; 64],
     },
@@ -57,7 +57,7 @@ fn hash_params<D: Digest>(p: &RealmParams) -> D::Output
     hasher.finalize()
 }
 
-/// Returns the measurement of a new realm. It is the hash of a page with the parameters that are measured.
+/// Returns the measurement of a new realm: the hash of a page with the parameters that are measured.
 #[tactic(auto, unfolding(crate::specs::Measure::initial, crate::specs::Measure::digest))]
 pub fn initial(hash: HashAlgorithm, params: &RealmParams) -> [u8; 64]
     ensures { result ≡ measures.initial hash params.now }
@@ -155,7 +155,7 @@ fn hash_rec<D: Digest>(page: &[u8]) -> D::Output
     hasher.finalize()
 }
 
-/// Returns the digest of a REC's measured parameters. They are flags, pc and gprs 0 to 7.
+/// Returns the digest of a REC's measured parameters: flags, pc and gprs 0 to 7.
 #[tactic(auto, unfolding(crate::specs::Measure::rec_digest, crate::specs::Measure::digest))]
 pub fn rec_digest(hash: HashAlgorithm, page: &[u8]) -> [u8; 64]
     requires { length page.now ≡ 4096 }

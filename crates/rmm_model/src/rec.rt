@@ -1,4 +1,4 @@
-//! RECs, and their requests.
+//! The attributes of RECs, and their requests to the host.
 ghost use Rattle.std.specs.Prelude.{◌≡◌, ◌<◌, length};
 ghost use Rattle.rmm_model.specs.Rec as recs;
 
@@ -24,8 +24,8 @@ pub struct RipasRequest {
     pub changes_destroyed: bool,
 }
 
-/// The PSCI request of a REC, if any. The host has to complete it, or it is complete and has a result. RMM 1.0,
-/// attribute psci_pending.
+/// The PSCI request of a REC, if any: one that the host has to complete, or one that is complete and has a result. RMM
+/// 1.0, attribute psci_pending.
 #[derive(Clone, Copy)]
 pub enum PsciRequest {
     None,
@@ -40,7 +40,7 @@ pub enum PsciRequest {
     Complete(u64),
 }
 
-/// The kind of the last exit from a REC. It decides the result that the guest gets at the next RMI_REC_ENTER. RMM 1.0,
+/// The kind of a REC's last exit, which decides the result that the guest gets at the next RMI_REC_ENTER. RMM 1.0,
 /// attributes host_call and emulatable_abort.
 #[derive(Clone, Copy)]
 pub enum LastExit {

@@ -71,7 +71,7 @@ pub enum StepResult {
     Returned(u64),
 }
 
-/// The outcome of a step: a result, an exit, or a guest that spins.
+/// The outcome of a guest's step: a result, an exit, or a guest that spins.
 #[derive(Clone, Copy)]
 pub enum StepOutcome {
     Result(StepResult),
@@ -87,7 +87,7 @@ pub enum Queued {
     NoRec,
 }
 
-/// The words that encode a step: its kind, and four operands.
+/// The words that encode a guest's step: its kind, and four operands.
 #[derive(Clone, Copy)]
 pub struct StepWords {
     pub kind: u64,
@@ -98,7 +98,7 @@ pub struct StepWords {
 }
 
 impl StepWords {
-    /// Returns the guest step that the words encode. It is `Spin` if the kind is unknown.
+    /// Returns the guest step that the words encode, or `Spin` if the kind is unknown.
     pub fn step(&self) -> GuestStep
         ensures { result ≡ guests.step_of self.now }
     {
@@ -146,7 +146,7 @@ impl StepWords {
         }
     }
 
-    /// Reads the words that encode a guest step from a REC's page. They are at position `place` in the ring of steps.
+    /// Reads the words that encode a guest step from position `place` of the ring of steps in a REC's page.
     #[tactic(auto, unfolding(crate::specs::Guest::words_at))]
     pub fn read(page: &[u8], place: u8) -> StepWords
         requires page { length page.now ≡ 4096 }
@@ -181,7 +181,7 @@ impl StepResult {
         }
     }
 
-    /// The result's value; 0 for a result without one.
+    /// Returns the value of the step result, or 0 for a result without a value.
     pub fn value(&self) -> u64
         ensures { result ≡ guests.result_value self.now }
     {

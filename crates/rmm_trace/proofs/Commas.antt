@@ -1,4 +1,4 @@
--- The comma after the last word.
+-- A proof that the comma before a further part of an answer is added to the last word alone.
 use Rattle.std.proofs.Common.{◌≡◌, List, [], ◌∷◌, ◌++◌, true, refl, sym, ap, ◌∙◌}
 use Rattle.rmm_trace.specs.declared.word.TraceWord.{TraceWord}
 use Rattle.rmm_trace.specs.Answers.{with_comma}

@@ -1,4 +1,4 @@
--- Where a text is cut at a mark.
+-- Lemmas on the split of a text at the first byte equal to a mark, and on texts without the mark.
 use Rattle.std.proofs.Common.{◌≡◌, ℕ, suc, ◌<◌, ◌≤◌, ◌+◌, List, [], ◌∷◌, ◌++◌, length, get_or, take, drop, Bool, true, false, not, cond, eqb, Some, None, refl, sym, ap, ◌∙◌}
 use Rattle.std.proofs.Common.{add-one, append_assoc, append-nil, drop-cons, eq-eqb}
 use Rattle.std.proofs.Math.Seq.{take-suc}

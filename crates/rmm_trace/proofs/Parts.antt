@@ -1,4 +1,4 @@
--- A text and its words, one after another.
+-- Lemmas for the loop that reads the words of a text one by one, up to the maximum of 64 words.
 use Rattle.std.proofs.Common.{◌≡◌, ℕ, zero, suc, ◌+◌, ◌-◌, ◌<◌, ◌≤◌, ◌==◌, List, [], ◌∷◌, ◌++◌, length, true, false, cond, Option, Some, None, option_map, option_and_then, refl, sym, ap, ◌∙◌, arith, append_assoc, length-append}
 use Rattle.std.specs.List.{slice_split, onto_first}
 use Rattle.rmm_trace.specs.declared.word.TraceWord.{TraceWord}
@@ -6,7 +6,7 @@ use Rattle.rmm_trace.specs.Cuts.{before_mark, after_mark}
 use Rattle.rmm_trace.specs.Words.{word_in}
 use Rattle.rmm_trace.specs.Sentences.{words_in}
 
--- the words of what is left, and a measure of it
+-- the texts of the words in the rest of a text, and a measure of the rest
 abbrev pub parts_of : Option (List ℕ) → List (List ℕ)
 parts_of None = []
 parts_of (Some bs) = slice_split (λ b. b == 32) bs
@@ -30,7 +30,7 @@ size-after (b ∷ bs) = elim (b == 32) as (λ t. size_of (cond t (Some bs) (afte
   | false ↦ omega (arith, size-after bs)
 ]
 
--- what is left has a first word
+-- the rest of a text has a first word
 pub record First (rest : Option (List ℕ)) (bs : List ℕ) : Type 0 where
   pub parts : parts_of rest ≡ before_mark 32 bs ∷ parts_of (after_mark 32 bs)
   pub smaller : size_of (after_mark 32 bs) < size_of rest
@@ -74,7 +74,7 @@ found_no_word all found rest bs room is here so_far =
     ∙ ap (option_map (λ ws. found ++ ws)) (words_first (64 - length found) (before_mark 32 bs) (parts_of (after_mark 32 bs)) some
     ∙ ap (option_and_then (λ x. option_map (λ ws. x ∷ ws) (words_in (64 - length found - 1) (parts_of (after_mark 32 bs))))) (sym here)))
 
--- there is a text too many
+-- there is one text too many
 pub found_too_many : (all : Option (List TraceWord)) (found : List TraceWord) (rest : Option (List ℕ)) (bs : List ℕ) → length found ≡ 64 → rest ≡ Some bs
     → all ≡ option_map (λ ws. found ++ ws) (words_in (64 - length found) (parts_of rest)) → None ≡ all
 found_too_many all found rest bs full is so_far =

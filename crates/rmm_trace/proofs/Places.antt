@@ -1,10 +1,10 @@
--- The place of a text among texts, and the text at a place.
+-- Lemmas on the search for a text in a table of texts, and on the text at an index of the table.
 use Rattle.std.proofs.Common.{◌≡◌, ℕ, zero, suc, ◌+◌, ◌<◌, ◌≤◌, List, [], ◌∷◌, length, map, get_or, drop, Bool, true, cond, Option, Some, None, Bor, refl, sym, ap, ◌∙◌, arith, drop-cons}
 use Rattle.std.proofs.Math.ListN.{drop_of_length-le}
 use Rattle.std.specs.List.{position_from}
 use Rattle.rmm_trace.specs.Names.{nth_text}
 
--- what references point to
+-- the texts that references point to
 abbrev pub seen : List (Bor (List ℕ)) → List (List ℕ)
 seen ts = map (λ (t : Bor (List ℕ)). t.now) ts
 

@@ -1,4 +1,4 @@
--- Lines that are printed are read back.
+-- Proofs that a printed line of a trace, with or without an answer, is read back unchanged.
 use Rattle.std.proofs.Common.{◌≡◌, ℕ, ◌<◌, ◌≤◌, List, [], ◌∷◌, ◌++◌, length, Bool, true, false, not, cond, eqb, ltb, Some, None, option_and_then, codes, nat_eq, refl, sym, ap, ◌∙◌, arith, append-nil}
 use Rattle.std.proofs.lemmas.Bool.{and_parts, not-true, eqb-false, le-ltb, ne_eqb}
 use Rattle.std.proofs.Math.Bool.{and-false}

@@ -1,4 +1,4 @@
--- The rounds of a fill, from the last on.
+-- Lemmas on the test that the value of each round of a repeated fill is a byte, from the last round down.
 use Rattle.std.proofs.Common.{◌≡◌, ℕ, zero, suc, ◌-◌, ◌<◌, ◌≤◌, Bool, true, false, ◌&&◌, leb, sym, ap, ◌∙◌, arith}
 use Rattle.std.proofs.lemmas.Bool.{lt-leb, le-leb}
 use Rattle.rmm_trace.specs.declared.word.TraceWord.{TraceWord}

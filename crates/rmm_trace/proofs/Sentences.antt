@@ -1,4 +1,4 @@
--- Sentences that are printed are read back.
+-- Proofs that printed words of a trace are read back unchanged, and that different lists of words have different texts.
 use Rattle.std.proofs.Common.{◌≡◌, ℕ, zero, suc, ◌≤◌, ◌==◌, List, [], ◌∷◌, ◌++◌, length, map, true, false, not, eqb, Some, refl, sym, ap, ◌∙◌, arith}
 use Rattle.std.proofs.lemmas.Bool.{and_parts, not-true}
 use Rattle.std.specs.List.{slice_split, AllByRecursion}

@@ -1,4 +1,4 @@
--- Where a text is cut at its answer.
+-- Lemmas on the split of a trace line at the first ` = ` into its question and its answer.
 use Rattle.std.proofs.Common.{◌≡◌, ℕ, suc, ◌<◌, ◌+◌, List, [], ◌∷◌, ◌++◌, length, get_or, take, drop, Bool, true, eqb, refl}
 use Rattle.std.proofs.Common.{false, cond, nat_eq, codes, Some, sym, ap, ◌∙◌, add-one, append_assoc, append-nil, drop-cons, drop-drop, length-drop, ◌-◌, arith}
 use Rattle.std.proofs.Math.Seq.{take-suc}
@@ -7,7 +7,7 @@ use Rattle.std.proofs.lemmas.List.{take_all}
 use Rattle.std.specs.List.{starts_with}
 use Rattle.rmm_trace.specs.Lines.{before_answer, answer_in}
 
--- the place of the answer's sign
+-- a text begins with the answer's sign
 abbrev pub begins : List ℕ → Bool
 begins text = starts_with nat_eq text (codes " = ")
 
@@ -43,7 +43,7 @@ answer_here text at within test passed =
     let is = drop-cons text at 0 within in
     sym (passed.answer ∙ answer_at (drop at text) (get_or text at 0) (drop (suc at) text) true is test ∙ ap (λ t. Some (drop 3 t)) (sym is) ∙ ap Some (drop-drop 3 at text))
 
--- what a slice from a place on holds
+-- the slice of a text from a place to the end
 pub rest_from : (text : List ℕ) (at : ℕ) → take (length text - at) (drop at text) ≡ drop at text
 rest_from text at = take_all (length text - at) (drop at text) (omega (arith, length-drop at text))
 

@@ -1,4 +1,4 @@
--- Atoms that are printed are read back.
+-- Proofs that the text of a name or number in a trace is read back unchanged, and has no separator in it.
 use Rattle.std.proofs.Common.{◌≡◌, ℕ, zero, suc, ◌+◌, ◌<◌, List, [], ◌∷◌, length, Bool, true, false, eqb, ◌&&◌, Option, Some, None, refl, ap, ◌∙◌, arith}
 use Rattle.std.proofs.Common.{eqb-true, ltb, ltb-true}
 use Rattle.std.proofs.lemmas.Bool.{and_parts}

@@ -1,4 +1,4 @@
--- Texts without blanks at their end.
+-- Lemmas on the removal of blanks from the end of a text, one byte at a time.
 use Rattle.std.proofs.Common.{◌≡◌, ℕ, zero, suc, ◌-◌, ◌<◌, ◌≤◌, List, [], ◌∷◌, ◌++◌, length, get_or, take, Bool, true, false, cond, refl, sym, ap, ◌∙◌, arith}
 use Rattle.std.proofs.Math.Seq.{take-suc}
 use Rattle.rmm_trace.specs.Lines.{is_blank, before_trimmed, trimmed}
@@ -23,7 +23,7 @@ trim_more text (suc k) some within test =
     let blank : is_blank (get_or text k 0) ≡ true = ap (λ j. is_blank (get_or text j 0)) (sym less) ∙ test in
     ap trimmed (take-suc text k 0 (omega arith)) ∙ trimmed-blank (take k text) (get_or text k 0) blank ∙ ap (λ j. trimmed (take j text)) (sym less)
 
--- the last byte is none
+-- the last byte is not blank
 pub trim_here : (text : List ℕ) (end : ℕ) → 0 < end → end ≤ length text → is_blank (get_or text (end - 1) 0) ≡ false → take end text ≡ trimmed (take end text)
 trim_here text zero some within test = absurd (omega arith)
 trim_here text (suc k) some within test =

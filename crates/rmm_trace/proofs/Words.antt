@@ -1,4 +1,4 @@
--- Words that are printed are read back.
+-- Proofs that a printed word of a trace is read back unchanged.
 use Rattle.std.proofs.Common.{◌≡◌, ℕ, ◌<◌, List, [], ◌∷◌, ◌++◌, length, Bool, true, false, eqb, Option, Some, None, IfSome, option_map, refl, ap, ◌∙◌, arith, codes, append-nil}
 use Rattle.rmm_trace.specs.declared.word.Atom.{Atom}
 use Rattle.rmm_trace.specs.declared.word.TraceWord.{TraceWord}
@@ -44,11 +44,11 @@ word_of_parts : (bs front middle value : List ℕ) (step mask : Option (List ℕ
     → atom_in value ≡ Some w.value → tail_in mask ≡ Some w.mask → tail_in step ≡ Some w.step → word_in bs ≡ Some w
 word_of_parts bs front middle value step mask w cut listed cut_step is_step cut_mask is_mask a m s = rw (cut, listed, cut_step, is_step, cut_mask, is_mask, a, m, s) refl
 
--- what stands before the step
+-- the text before the step
 middle_lacks : (mark : ℕ) → IsMark mark → eqb 47 mark ≡ false → (w : TraceWord) → lacks mark (atom_text w.value ++ tail_text (codes "/") w.mask) ≡ true
 middle_lacks mark is slash w = lacks-append mark (atom_text w.value) (tail_text (codes "/") w.mask) (atom_lacks mark is w.value) (tail_lacks mark 47 is slash w.mask)
 
--- what stands before the comma
+-- the text before the comma
 front_lacks : (mark : ℕ) → IsMark mark → eqb 47 mark ≡ false → eqb 43 mark ≡ false → (w : TraceWord)
     → lacks mark (atom_text w.value ++ tail_text (codes "/") w.mask ++ tail_text (codes "+") w.step) ≡ true
 front_lacks mark is slash plus w =

@@ -1,4 +1,4 @@
--- The content of a question: the registers of a call, and the values of its groups.
+-- The values read from a question of a trace: operands by index, words after a name, and the registers of a call.
 use Rattle.std.specs.Prelude.{ℕ, zero, suc, ◌+◌, ◌*◌, ◌%◌, ◌^◌, ◌==◌, nat_lt, Bool, false, if◌then◌else◌, List, [], ◌∷◌, slice_index, Option, Some, None}
 use Rattle.std.specs.Option.{unwrap_or}
 use Rattle.rmm_trace.specs.declared.access.TheConstants.{FUNCTIONS}

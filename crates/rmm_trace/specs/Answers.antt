@@ -1,4 +1,4 @@
--- Answers, made of their parts.
+-- The words of which a trace's answer is made: the status and index in X0, output values, and commas between parts.
 use Rattle.std.specs.Prelude.{ℕ, ◌+◌, ◌/◌, ◌%◌, ◌==◌, nat_le, nat_lt, Bool, true, false, not, ◌&&◌, ◌||◌, if◌then◌else◌, List, [], ◌∷◌, Option, Some, None}
 use Rattle.rmm_trace.specs.declared.place.TheConstants.{AFTER, COUNT, EMPTY, EXIT, LEVEL, RIPAS_OUTPUT, RMI_SUCCESS, RUNNING, STATE, SYNC, UNASSIGNED}
 use Rattle.rmm_trace.specs.declared.word.Atom.{Atom}
@@ -30,7 +30,7 @@ output_atom name value =
     else (if name == RIPAS_OUTPUT && nat_lt value 3 then Name (EMPTY + value)
     else (if name == EXIT && nat_lt value 7 then Name (SYNC + value) else Hexadecimal value)))
 
--- the words with a comma after the last, as they come before a further part
+-- the words with a comma after the last, as they are before a further part
 abbrev pub with_comma : List TraceWord → List TraceWord
 with_comma [] = []
 with_comma (w ∷ []) = record w { is_listed = true } ∷ []

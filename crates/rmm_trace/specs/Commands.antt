@@ -1,4 +1,4 @@
--- The commands of the RMI. RMM 1.0, RMI commands.
+-- The RMI commands, each with its name, its function identifier and its number of operands. RMM 1.0, RMI commands.
 use Rattle.std.specs.Prelude.{ℕ, ◌+◌, ◌==◌, Bool, false, ◌&&◌, List, [], ◌∷◌, codes, slice_index, Option, Some, None}
 use Rattle.std.specs.Str.{bytes_eq}
 use Rattle.rmm_trace.specs.declared.access.TheConstants.{FUNCTIONS}

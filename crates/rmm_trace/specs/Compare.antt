@@ -1,4 +1,5 @@
--- An answer that is written, compared with ours. What is not written is not compared.
+-- The comparison of an answer written in a trace with the model's answer. Parts that a call's written answer omits are
+-- not compared.
 use Rattle.std.specs.Prelude.{ℕ, ◌-◌, ◌==◌, nat_le, nat_lt, Bool, true, false, not, ◌&&◌, ◌||◌, if◌then◌else◌, List, [], ◌∷◌, length, Option, Some, None, is_some, bit_and}
 use Rattle.std.specs.List.{list_any, list_all, onto_first}
 use Rattle.rmm_trace.specs.declared.place.TheConstants.{DASH, EMPTY, FILL, FIRST_CHECK, GPRS, INTERRUPT, PLATFORM, PSCI_DENIED, PSCI_SUCCESS, REPEAT, RMI_SUCCESS, SYNC, UNASSIGNED}
@@ -44,7 +45,7 @@ abbrev pub is_dash : Atom → Bool
 is_dash (Name place) = place == DASH
 is_dash _ = false
 
--- the written value is `-`, or is the same as ours under its mask
+-- the written value is `-`, or is the same as the model's under its mask
 abbrev pub is_same_value : TraceWord → TraceWord → Bool
 is_same_value written ours = is_dash written.value || is_same_atom (mask_of written.mask) written.value ours.value
 
@@ -107,11 +108,11 @@ is_same_part are_checks_compared _ _ = false
 abbrev pub has_part : Bool → List TraceWord → List TraceWord → Bool
 has_part are_checks_compared ours part = list_any (λ other. is_same_part are_checks_compared part other) (parts ours)
 
--- ours has each part that is written
+-- the model's answer has each part that is written
 abbrev pub are_parts : Bool → List TraceWord → List TraceWord → Bool
 are_parts are_checks_compared written ours = list_all (λ part. has_part are_checks_compared ours part) (parts written)
 
--- ours begins with the words that are written
+-- the model's answer begins with the words that are written
 abbrev pub are_first : List TraceWord → List TraceWord → Bool
 are_first [] ys = true
 are_first (x ∷ xs) [] = false

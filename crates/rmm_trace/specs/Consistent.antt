@@ -1,4 +1,5 @@
--- The conditions on the numbers of a question together.
+-- The conditions that relate the numbers of a question: those of a platform, of a guest's access, and of a repeated
+-- fill.
 use Rattle.std.specs.Prelude.{ℕ, zero, suc, ◌+◌, ◌*◌, ◌%◌, ◌^◌, max, ◌==◌, nat_le, nat_lt, Bool, true, false, not, ◌&&◌, ◌||◌, if◌then◌else◌, List, [], ◌∷◌, Some}
 use Rattle.rmm_trace.specs.declared.place.TheConstants.{FILL, GUEST, PLATFORM, READ, REPEAT, SECURE, WRITE}
 use Rattle.rmm_trace.specs.declared.word.Atom.{Atom}

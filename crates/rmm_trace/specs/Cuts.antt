@@ -1,4 +1,4 @@
--- Texts that are cut at a mark.
+-- The split of a text at the first byte that is equal to a mark.
 use Rattle.std.specs.Prelude.{ℕ, ◌==◌, List, [], ◌∷◌, if◌then◌else◌, Option, Some, None}
 
 -- the text before the first mark, and the text after it

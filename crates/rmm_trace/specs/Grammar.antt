@@ -1,4 +1,4 @@
--- The grammar of questions: a question is groups of words, each a name and its values.
+-- The grammar of a trace's questions: a question is a sequence of word groups, each a name and its values.
 use Rattle.std.specs.Prelude.{ℕ, ◌+◌, ◌-◌, ◌%◌, ◌==◌, nat_le, nat_lt, Bool, true, false, not, ◌&&◌, ◌||◌, if◌then◌else◌, List, [], ◌∷◌, Option, Some, None, is_some, option_and_then, bit_and, bit_or}
 use Rattle.rmm_trace.specs.declared.word.Atom.{Atom}
 use Rattle.rmm_trace.specs.declared.word.Atom.TheVariants.{Name, Decimal, Hexadecimal}
@@ -21,7 +21,7 @@ is_of_kind kind (Hexadecimal n) = is_number_of kind n
 abbrev pub kind_at : Group → ℕ → ValueKind
 kind_at group count = if count == 0 then group.first else (if count == 1 then group.second else (if count == 2 then group.third else group.others))
 
--- the group has this name, and may come in this context; `row_of` is the first such group
+-- the group has this name, and may occur in this context; `row_of` is the first such group
 abbrev pub is_row : ℕ → ℕ → Group → Bool
 is_row context name group = group.name == name && not (bit_and group.contexts context == 0)
 
@@ -34,7 +34,7 @@ abbrev pub if_place : Bool → Place → Option Place
 if_place true it = Some it
 if_place false it = None
 
--- the place at the start of a group, unless a group that it excludes has come before
+-- the place at the start of a group, unless a group that it excludes is before it
 abbrev pub enter : Place → Group → Option Place
 enter it group =
     if not (bit_and it.seen group.excludes == 0) then None
@@ -45,7 +45,7 @@ opened groups it (Name name) = option_and_then (λ group. enter it group) (row_o
 opened groups it (Decimal n) = None
 opened groups it (Hexadecimal n) = None
 
--- the place after a word: a value of the group, or the name of the next; an operand has a step in a repeated group alone
+-- the place after a word: a value of the group, or the name of the next; an operand has a step only in a repeated group
 abbrev pub next : List Group → Place → TraceWord → Option Place
 next groups it w =
     if w.is_listed || is_some w.mask then None

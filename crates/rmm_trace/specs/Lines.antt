@@ -1,4 +1,4 @@
--- The lines of a trace.
+-- The split of a trace line into question, answer and comment, and the kind of the line.
 use Rattle.std.specs.Prelude.{ℕ, ◌==◌, nat_eq, nat_lt, Bool, ◌&&◌, ◌||◌, if◌then◌else◌, List, [], ◌∷◌, codes, drop, length, Option, Some, None, option_and_then}
 use Rattle.std.specs.List.{slice_split, starts_with}
 use Rattle.arrayvec.specs.ArrayVec.{ArrayVec}

@@ -1,4 +1,4 @@
--- Names: the words of traces that are no numbers.
+-- The table of names: the words in traces that are not numbers.
 use Rattle.std.specs.Prelude.{ℕ, zero, suc, List, [], ◌∷◌, ◌++◌, codes}
 
 -- the text at a place; past the end it is empty

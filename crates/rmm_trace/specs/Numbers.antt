@@ -1,4 +1,4 @@
--- Numbers of 64 bits in a text.
+-- The 64-bit number that the digits of a text spell, without leading zeros.
 use Rattle.std.specs.Prelude.{ℕ, ◌+◌, ◌-◌, ◌*◌, ◌^◌, ◌==◌, nat_le, nat_lt, Bool, true, false, not, ◌&&◌, if◌then◌else◌, List, [], ◌∷◌, Option, Some, None}
 
 -- `0` to `9`, and `a` to `f`; 16 for each other byte

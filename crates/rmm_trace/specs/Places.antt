@@ -1,4 +1,4 @@
--- The places of names that the grammar has, each with its name.
+-- The condition that each name constant of the grammar is the index of its name in the table of names.
 use Rattle.std.specs.Prelude.{ℕ, Bool, List, [], ◌∷◌, codes}
 use Rattle.std.specs.List.{list_all}
 use Rattle.std.specs.Str.{bytes_eq}

@@ -1,4 +1,4 @@
--- Sentences: words with one space between two.
+-- The text of a list of trace words separated by single spaces, and the words that are read from such a text.
 use Rattle.std.specs.Prelude.{ℕ, zero, suc, ◌<◌, ◌≤◌, Bool, true, false, List, [], ◌∷◌, ◌++◌, length, Option, Some, None, option_map, option_and_then}
 use Rattle.std.specs.List.{flat_map, AllByRecursion}
 use Rattle.rmm_trace.specs.declared.word.TraceWord.{TraceWord}

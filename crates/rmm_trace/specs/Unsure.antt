@@ -1,4 +1,4 @@
--- The checks whose names are not compared: each is unsure, or none of the standard's.
+-- The checks whose names are not compared: each check is uncertain, or not in the standard.
 use Rattle.std.specs.Prelude.{ℕ, Bool, true, false, ◌&&◌, List, [], ◌∷◌, codes}
 use Rattle.std.specs.Str.{bytes_eq}
 use Rattle.rmm_trace.specs.declared.compare.TheConstants.{UNSURE}

@@ -1,4 +1,4 @@
--- Words of a line.
+-- The text of a trace word, and the trace word that is read from a text.
 use Rattle.std.specs.Prelude.{ℕ, ◌<◌, ◌^◌, nat_eq, Bool, true, false, if◌then◌else◌, List, [], ◌∷◌, ◌++◌, codes, drop, length, Option, Some, None, IfSome, option_map, option_and_then}
 use Rattle.std.specs.Option.{option_or}
 use Rattle.std.specs.List.{starts_with, position_from}

@@ -6,7 +6,7 @@ use crate::compare::atom_number;
 use crate::place::{PLATFORM, SMC};
 use crate::word::{Atom, TraceWord};
 
-/// The function identifiers of the commands. Each is at the index of the command's name. RMM 1.0, RMI commands.
+/// The function identifier of each RMI command, at the index of the command's name. RMM 1.0, RMI commands.
 pub const FUNCTIONS: [u64; 23] = [
     // rmi_version to rmi_granule_undelegate
     0xC400_0150,
@@ -65,7 +65,7 @@ pub fn operand(words: &[TraceWord], place: usize, round: u64) -> u64
     }
 }
 
-/// Returns the words after the first occurrence of a name. There are none if the name does not occur.
+/// Returns the words after the first occurrence of a name, or no words if the name does not occur.
 pub fn after_name(words: &[TraceWord], name: usize) -> &[TraceWord]
     ensures { result.now ≡ after_name name words.now }
 {
@@ -81,7 +81,8 @@ pub fn after_name(words: &[TraceWord], name: usize) -> &[TraceWord]
     left
 }
 
-/// Returns the registers X0 to X6 of a call. The call is by name or as `smc`, and in a round of a `repeat`.
+/// Returns the registers X0 to X6 of a call in a given round of a `repeat`. The call begins with the name of a command,
+/// or with `smc`.
 pub fn call_registers(call: &[TraceWord], round: u64) -> Option<[u64; 7]>
     ensures { result ≡ call_registers call.now round }
 {

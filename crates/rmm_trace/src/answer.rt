@@ -11,7 +11,7 @@ use crate::word::{Atom, TraceWord};
 /// The value of X0 if the guest of an entered REC keeps running.
 pub const RUNS_ON: u64 = 0xFFFF_FFFF_FFFF_FFFE;
 
-/// Creates a trace word that is only a name or a number. It has no mask, no step and no comma.
+/// Creates a trace word that is only a name or a number, without a mask, a step or a comma.
 pub fn plain(value: Atom) -> TraceWord
     ensures { result ≡ plain value }
 {
@@ -36,7 +36,7 @@ pub fn status_of(x0: u64) -> Atom
     Atom::Name(RMI_SUCCESS + (x0 % 256) as usize)
 }
 
-/// Returns the index field of the RMI result in X0. It is `None` if X0 is no result, or if the index is 0 and the
+/// Returns the index field of the RMI result in X0. Returns `None` if X0 is no result, or if the index is 0 and the
 /// status is not RMI_ERROR_RTT.
 pub fn index_of(x0: u64) -> Option<Atom>
     ensures { result ≡ index_of x0 }

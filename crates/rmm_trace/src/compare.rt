@@ -1,5 +1,5 @@
-//! The comparison of answers in a trace with a model's answers. The model is our model of an RMM. What is not written
-//! is not compared.
+//! The comparison of answers in a trace with the answers of the RMM model. Parts that a call's written answer omits are
+//! not compared.
 ghost use Rattle.std.specs.Prelude.{◌≡◌, ◌<◌, ◌∷◌, length};
 ghost use Rattle.std.specs.List.{list_any};
 ghost use Rattle.rmm_trace.specs.Compare.{is_name_among, ordinal, atom_number, mask_of, is_same_number, is_same_atom};
@@ -50,7 +50,7 @@ fn ordinal(place: usize) -> Option<u64>
     None
 }
 
-/// Returns the number that an atom represents. It is `None` for a name without a number.
+/// Returns the number that an atom represents, or `None` for a name without a number.
 pub fn atom_number(atom: Atom) -> Option<u64>
     ensures { result ≡ atom_number atom }
 {
@@ -295,7 +295,8 @@ fn are_first(written: &[TraceWord], ours: &[TraceWord]) -> bool
 
 // ---- checks
 
-/// Checks whose names are uncertain or not from the standard. Each pair is a command and one of its checks.
+/// The pairs of a command and one of its checks whose name is not compared. Each check is uncertain, or not in the
+/// standard.
 pub const UNSURE: [(usize, usize); 20] = [
     (RMI_VERSION, CHECK_VERSION),
     (RMI_DATA_CREATE, CHECK_FLAGS_VALID),
@@ -413,7 +414,8 @@ fn is_same_with(
     is_same_by(command, !has_unsure, written, ours)
 }
 
-/// Returns whether an answer in a trace agrees with the model's answer. A raw call is no question here.
+/// Returns whether an answer in a trace agrees with the model's answer. Answers to raw calls are compared by registers
+/// instead.
 ///
 /// Calls, interrupts and fills are compared by their parts, and others word by word. A name of a check that is unsure
 /// is not compared.

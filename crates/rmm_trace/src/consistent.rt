@@ -126,8 +126,7 @@ fn is_repeat_right(words: &[TraceWord]) -> bool
     }
 }
 
-/// Returns whether the numbers in a line of a trace are consistent with each other. The words form a grammatical
-/// question.
+/// Returns whether the numbers in a grammatical question of a trace are consistent with each other.
 ///
 /// Compared are the machine of a platform, the access of a guest, and the rounds of a fill.
 pub fn is_consistent(words: &[TraceWord]) -> bool

@@ -2,7 +2,7 @@
 ghost use Rattle.std.specs.Prelude.{◌≡◌};
 ghost use Rattle.hex.specs.Hex.{encode_lower};
 
-/// Returns the text of a SHA-256 measurement. It has two lowercase hexadecimal digits for each byte.
+/// Returns the text of a SHA-256 measurement, with two lowercase hexadecimal digits for each byte.
 pub fn sha256_text(measurement: &[u8; 32]) -> [u8; 64]
     ensures { result ≡ encode_lower measurement.now }
 {
@@ -11,7 +11,7 @@ pub fn sha256_text(measurement: &[u8; 32]) -> [u8; 64]
     digits
 }
 
-/// Returns the text of a SHA-512 measurement. It has two lowercase hexadecimal digits for each byte.
+/// Returns the text of a SHA-512 measurement, with two lowercase hexadecimal digits for each byte.
 pub fn sha512_text(measurement: &[u8; 64]) -> [u8; 128]
     ensures { result ≡ encode_lower measurement.now }
 {

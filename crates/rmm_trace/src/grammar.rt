@@ -21,8 +21,8 @@ pub struct ValueKind {
     pub name_count: usize,
 }
 
-/// A grammar rule for one name and its values in a trace line. It has a name, the number and the kinds of its values,
-/// and the groups that may follow.
+/// A grammar rule for a group of words in a trace line, which is a name and its values. The rule says how many values
+/// of which kinds follow the name, and which groups may come next.
 #[derive(Clone, Copy)]
 pub struct Group {
     /// The contexts of the grammar in which the group may occur. Each context has one bit.
@@ -44,8 +44,8 @@ pub struct Group {
     pub excludes: u64,
 }
 
-/// The current position in the grammar while a trace line is checked. It has the group that is being read, and the
-/// number of the group's values so far.
+/// The position in the grammar after some words of a trace line, with the current group and the number of its values so
+/// far.
 #[derive(Clone, Copy)]
 pub struct Place {
     pub group: Group,
@@ -55,8 +55,8 @@ pub struct Place {
     pub seen: u64,
 }
 
-/// The grammar context of the call or the `fill` that a `repeat` line of a trace repeats. Operands may have a step
-/// there.
+/// The grammar context of the call or the `fill` that a `repeat` line of a trace repeats. Operands may have a step in
+/// this context.
 pub const REPEATED: u64 = 2;
 
 fn is_number_of(kind: &ValueKind, number: u64) -> bool
@@ -94,7 +94,7 @@ fn kind_at(group: &Group, count: usize) -> &ValueKind
     }
 }
 
-// The first group that has this name and may come in this context.
+// The first group that has this name and may occur in this context.
 fn row_of(groups: &[Group], context: u64, name: usize) -> Option<&Group>
     ensures { option_copied result ≡ row_of context name groups.now }
 {
@@ -107,7 +107,7 @@ fn row_of(groups: &[Group], context: u64, name: usize) -> Option<&Group>
 }
 
 impl Place {
-    // Enters a group, unless one that the group excludes has come, and returns whether the group was entered.
+    // Enters a group, unless the group excludes one that was entered before, and returns whether the group was entered.
     fn enter(&mut self, group: &Group) -> bool
         ensures { if_place result self.new ≡ enter self.old group.now }
     {
@@ -164,8 +164,7 @@ impl Place {
     }
 }
 
-/// Returns whether the grammar accepts a list of words, from a given position on. One place is kept, and changed by
-/// each word.
+/// Returns whether the grammar accepts a list of words, from a given position on. Each word updates one `Place`.
 pub fn accepts(groups: &[Group], start: Place, words: &[TraceWord]) -> bool
     ensures { result ≡ accepts groups.now (Some start) words.now }
 {

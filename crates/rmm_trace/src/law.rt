@@ -1,4 +1,4 @@
-//! Theorems about the text of traces. What is printed is read back, and names are unique.
+//! Theorems about the text of traces: printed text is read back unchanged, and the tables have the right names.
 ghost use Rattle.std.specs.Prelude.{◌≡◌, ◌≤◌, ◌==◌, ◌++◌, true, ℕ, List, Some, length, codes};
 ghost use Rattle.hex.specs.Hex.{encode_lower, IsBytes};
 ghost use Rattle.std.specs.List.{slice_split};

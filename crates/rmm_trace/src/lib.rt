@@ -17,8 +17,9 @@
 //! | `compare` | the comparison of a written answer with the model's |
 //!
 //! A question is groups of words, each a name and its values: `platform BASE GRANULES`, and after it settings as
-//! `layout eac5`; `realm_params ADDR`, and after it fields. A row says where its group may come, how many values it has
-//! and of which kinds, and what may follow. So a command, a setting, a field and a step of a guest are each one row.
+//! `layout eac5`; `realm_params ADDR`, and after it fields. A row says where its group may occur, how many values it
+//! has and of which kinds, and what may follow. So a command, a setting, a field and a step of a guest are each one
+//! row.
 #![tactic(auto)]
 
 mod access;

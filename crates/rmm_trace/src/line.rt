@@ -28,7 +28,7 @@ pub enum LineKind {
 
 /// A parsed line of a trace: its kind, and the words of its question. A line that is no question has no words here.
 ///
-/// It is kept from line to line, and filled where it stays.
+/// A caller reuses it for each line, and it is filled in place.
 #[derive(Drop)]
 pub struct RmmTraceLine {
     pub kind: LineKind,

@@ -1,4 +1,4 @@
-//! Names: the words in traces that are not numbers.
+//! The table of names: the words in traces that are not numbers.
 ghost use Rattle.std.specs.Prelude.{◌≡◌, map, drop};
 ghost use Rattle.std.specs.List.{position_from};
 ghost use Rattle.std.specs.Str.{bytes_eq};
@@ -299,8 +299,8 @@ fn text_at<'a>(texts: &[&'a str], place: usize) -> &'a str
     }
 }
 
-/// Returns the index of the name with a given text, if any. Names of checks and of results are after the others, and
-/// begin otherwise.
+/// Returns the index of the name with a given text, if any. A text that begins with `(` or `R` is searched only from
+/// the first check or the first result on.
 pub fn find_name(text: &[u8]) -> Option<usize>
     ensures { result ≡ position_from (bytes_eq text.now) 0 names }
 {
@@ -313,7 +313,7 @@ pub fn find_name(text: &[u8]) -> Option<usize>
     place_from(&NAMES, 0, text)
 }
 
-/// Returns the text of the name at an index. It is empty past the last name.
+/// Returns the text of the name at an index, or an empty text past the last name.
 pub fn name_text(place: usize) -> &'static str
     ensures { result.now ≡ nth_text place names }
 {

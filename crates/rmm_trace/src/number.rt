@@ -1,4 +1,4 @@
-//! Decimal and hexadecimal numbers, without leading zeros. A hexadecimal number comes after `0x`.
+//! Decimal and hexadecimal numbers, without leading zeros. A hexadecimal number is written after `0x`.
 ghost use Rattle.std.specs.Prelude.{◌≡◌};
 ghost use Rattle.rmm_trace.specs.Numbers.{digit_of, value_after, plain_value};
 

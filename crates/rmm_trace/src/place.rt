@@ -1,5 +1,5 @@
-//! Constants for the indices of names in the table of names. The theorem `places_are_of_their_names` says whose they
-//! are.
+//! Constants for the indices of names in the table of names. The theorem `places_are_of_their_names` says which name
+//! each constant has.
 pub const RMI_VERSION: usize = 0;
 
 pub const RMI_FEATURES: usize = 1;

@@ -1,4 +1,4 @@
-//! Sentences: words that are separated by single spaces.
+//! Sentences of a trace: words that are separated by single spaces.
 ghost use Rattle.std.specs.Prelude.{◌≡◌, ◌==◌, [], option_map};
 ghost use Rattle.std.specs.List.{slice_split};
 ghost use Rattle.rmm_trace.specs.Sentences.{if_read, words_in};
@@ -14,10 +14,10 @@ pub const MOST_WORDS: usize = 64;
 /// A sentence of a trace: a list of at most `MOST_WORDS` words.
 pub type Sentence = ArrayVec<TraceWord, MOST_WORDS>;
 
-/// Parses the words of a text into an empty list of trace words. Returns whether the text is a sentence. If it is none,
-/// the list may have any words. The function takes no memory.
+/// Parses the words of a text into an empty list of trace words. Returns whether the text is a sentence. If the text is
+/// no sentence, the list may have any words. The function takes no memory.
 ///
-/// A sentence has 64 places. It is filled where it stays, since a move costs more than the reading.
+/// A sentence has 64 places. It is filled in place, since a move costs more than the reading.
 pub fn read_into(text: &[u8], words: &mut Sentence) -> bool
     requires { words.old.items ≡ [] }
     ensures { if_read result words.new.items ≡ words_in 64 (slice_split (λ b. b == 32) text.now) }

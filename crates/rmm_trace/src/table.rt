@@ -150,7 +150,7 @@ macro_rules! plain {
     };
 }
 
-// A setting of a platform, which has `$count` values and comes at most once.
+// A setting of a platform, which has `$count` values and occurs at most once.
 macro_rules! setting {
     ($name:expr, $place:expr, $count:expr, [$first:expr, $second:expr]) => {
         Group {
@@ -170,8 +170,8 @@ macro_rules! setting {
     };
 }
 
-// A field of a parameter page, with 1 to `$most` values, which comes at most once and before the fields after it in the
-// table.
+// A field of a parameter page, with 1 to `$most` values, which occurs at most once and before the fields after it in
+// the table.
 macro_rules! field {
     ($context:expr, $name:expr, $place:expr, $most:expr, $kind:expr) => {
         Group {

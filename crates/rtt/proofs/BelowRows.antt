@@ -1,4 +1,4 @@
--- The rows of a table below an entry.
+-- The rows of a table, which are below the entry that leads to the table.
 use Rattle.std.proofs.Common.{◌≡◌, ℕ, suc, ◌+◌, ◌-◌, ◌*◌, ◌/◌, ◌<◌, ◌≤◌, true, Some, ⊎_elim, sym, ap, subst, ◌∙◌, arith}
 use Rattle.std.specs.FinMap.{get}
 use Rattle.std.proofs.lemmas.Bool.{and_parts, eqb-true}
@@ -77,7 +77,7 @@ module _ (level above ipa : ℕ) (next : above + 1 ≡ level) (place : is_table_
         ∙ entry_at-some entries root level i granule (table_at-same entries root level i ipa (level_inside root.width below).most same ∙ at)
         ∙ ap (λ (n : ℕ). Some (entries granule n)) index
 
-    -- A table is unused exactly where each of its entries is UNASSIGNED.
+    -- A table is unused exactly if each of its entries is UNASSIGNED.
     pub table_unused : ((index : ℕ) → index < 512 → is_unassigned (entries granule index) ≡ true) → is_table_unused (rows_in entries root) level ipa ≡ true
     unfolding is_table_unused
     table_unused each = all_rows_true is_unassigned (rows_in entries root) level ipa 512 (entries granule) table_rows each

@@ -1,4 +1,4 @@
--- The creation of a table below an entry that led to none.
+-- The rows and granules of a realm after a table is created below an entry.
 use Rattle.std.proofs.Common.{◌≡◌, ◌≢◌, ℕ, suc, ◌+◌, ◌*◌, ◌/◌, ◌<◌, true, false, cond, List, Option, Some, None, inl, inr, ⊎_elim, refl, sym, ap, subst, ◌∙◌, arith}
 use Rattle.std.specs.Prelude.{option_and_then}
 use Rattle.std.specs.FinMap.{get}
@@ -24,7 +24,7 @@ use Rattle.rtt.proofs.RowsAfter.{row_in-written}
 use Rattle.rtt.proofs.Owned.{Moves, apart_states, HasGranules-written}
 use Rattle.rtt.proofs.BelowRows as below_rows
 
--- the rows after an entry is written that leads to a table whose entries are all one
+-- the rows after the write of an entry that leads to a table whose entries are all equal
 module _ (entries new : Entries) (granules : List Granule) (rd : ℕ) (root : Root) (above ipa table : ℕ) (entry : Row)
     (own : HasGranules entries granules rd root) (w : Writes entries new root above ipa table entry)
     (high : above < 3) (granule : ℕ) (row : Row) (leads : table_of entry ≡ Some granule) (fresh : (index : ℕ) → index < 512 → new granule index ≡ row) where
@@ -89,7 +89,7 @@ module _ (entries new : Entries) (granules : List Granule) (rd : ℕ) (root : Ro
     (fresh : (index : ℕ) → index < 512 → new granule index ≡ unassigned ripas)
     (kept : (other index : ℕ) → IsIn granules other InRtt (Some rd) → other ≢ granule → index < 512 → ((other ≡ table) × (index ≡ entry_index above ipa) → ⊥)
     → new other index ≡ entries other index) where
-  -- nothing of the realm's is the new table's granule
+  -- no granule of the realm is the new table's
   apart : (state : GranuleState) (other : ℕ) → state ≢ Delegated → IsIn granules other state (Some rd) → other ≢ granule
   apart state other differ is = apart_states granules other granule state Delegated (Some rd) realm is delegated differ
 
@@ -117,7 +117,7 @@ module _ (entries new : Entries) (granules : List Granule) (rd : ℕ) (root : Ro
       ∙ ap (λ (k : ℕ). put_rows (λ _. unassigned ripas) (put_row rows above ipa (table_row granule)) k ipa 512) (below_rows.suc_above level above ipa next place)
       ∙ ap (λ (k : ℕ). put_rows (λ _. unassigned ripas) (put_row rows k ipa (table_row granule)) level ipa 512) (sym (below_rows.above_is level above ipa next place))
 
-  -- The granule that was DELEGATED is in RTT of the realm.
+  -- The realm owns its granules, and with them the new table's, which was DELEGATED.
   pub created_granules : (new_granules : List Granule) → Moves granules new_granules granule InRtt (Some rd) → HasGranules new new_granules rd root
   created_granules new_granules moves = HasGranules-written entries new granules rd root above ipa table (table_row granule) own writes new_granules (record {
     tables_stay = λ l i t inside is _. let was = own.tables l i t inside is in moves.others t InRtt (Some rd) (apart_table t was) was;
@@ -128,7 +128,7 @@ module _ (entries new : Entries) (granules : List Granule) (rd : ℕ) (root : Ro
     data_once = λ l i page is _ _ _. let clash : None ≡ Some page = is in cc;
   })
 
-  -- what holds of the entry, of the table's and of those kept holds of each entry afterwards
+  -- a property of the written entry, of the new table's entries and of the kept ones is one of each entry afterwards
   pub created_each : (P : ℕ → ℕ → Type 0) → P table (entry_index above ipa) → ((index : ℕ) → index < 512 → P granule index)
       → ((l i t index : ℕ) → IsInside root.width l i → table_at entries root l i ≡ Some t → index < 512 → t ≢ granule → ((t ≡ table) × (index ≡ entry_index above ipa) → ⊥) → P t index)
       → (l i t index : ℕ) → IsInside root.width l i → table_at new root l i ≡ Some t → index < 512 → P t index

@@ -1,4 +1,4 @@
--- The removal of a table whose entries are all UNASSIGNED from below its entry.
+-- The rows and granules of a realm after a table whose entries are all UNASSIGNED is destroyed.
 use Rattle.std.proofs.Common.{◌≡◌, ◌≢◌, ℕ, suc, ◌+◌, ◌*◌, ◌/◌, ◌<◌, Bool, true, false, cond, not, List, Option, Some, None, refl, sym, ap, ◌∙◌}
 use Rattle.std.specs.FinMap.{get}
 use Rattle.std.proofs.lemmas.Option.{same_Some}
@@ -24,7 +24,7 @@ use Rattle.rtt.proofs.RowsAfter.{row_in-written}
 use Rattle.rtt.proofs.Owned.{Moves, apart_states, HasGranules-written}
 use Rattle.rtt.proofs.BelowRows as below_rows
 
--- nothing is left of what is under an entry that leads nowhere
+-- no row is left under an entry that leads to no table
 cut : (under place : Bool) (o : Option Row) → cond under (cond place None None) o ≡ cond (not under) o None
 cut true true o = refl
 cut true false o = refl
@@ -41,7 +41,7 @@ module _ (entries new : Entries) (granules : List Granule) (rd : ℕ) (root : Ro
     (wrote : new table (entry_index above ipa) ≡ unassigned Destroyed)
     (kept : (other index : ℕ) → IsIn granules other InRtt (Some rd) → other ≢ granule → index < 512 → ((other ≡ table) × (index ≡ entry_index above ipa) → ⊥)
     → new other index ≡ entries other index) where
-  -- the table that goes
+  -- the table that is destroyed
   pub its_place : table_at entries root level ipa ≡ Some granule
   its_place =
       ap (λ (k : ℕ). table_at entries root k ipa) (sym (below_rows.suc_above level above ipa next place))
@@ -86,7 +86,7 @@ module _ (entries new : Entries) (granules : List Granule) (rd : ℕ) (root : Ro
       ∙ sym (get-insert_row dropped (above, first_covered above ipa) (l, i) (unassigned Destroyed)))
       ∙ ap (λ (k : ℕ). put_row dropped k ipa (unassigned Destroyed)) (sym (below_rows.above_is level above ipa next place))
 
-  -- The table's granule has left the realm.
+  -- The realm owns its granules, without the destroyed table's.
   pub destroyed_granules : (new_granules : List Granule) (state : GranuleState) (realm : Option ℕ) → Moves granules new_granules granule state realm → HasGranules new new_granules rd root
   destroyed_granules new_granules state realm moves =
       let was_in : IsIn granules granule InRtt (Some rd) = own.tables level ipa granule (below_rows.level_inside level above ipa next place root.width below) its_place in
@@ -100,7 +100,7 @@ module _ (entries new : Entries) (granules : List Granule) (rd : ℕ) (root : Ro
         data_once = λ l i page is _ _ _. let clash : None ≡ Some page = is in cc;
       })
 
-  -- what holds of the entry and of those kept holds of each entry afterwards
+  -- a property of the written entry and of the kept ones is one of each entry afterwards
   pub destroyed_each : (P : ℕ → ℕ → Type 0) → P table (entry_index above ipa)
       → ((l i t index : ℕ) → IsInside root.width l i → table_at entries root l i ≡ Some t → index < 512 → t ≢ granule → ((t ≡ table) × (index ≡ entry_index above ipa) → ⊥) → P t index)
       → (l i t index : ℕ) → IsInside root.width l i → table_at new root l i ≡ Some t → index < 512 → P t index

@@ -19,14 +19,14 @@ unassigned_kind row e = by_kind row.state e
 pub unassigned_plain : (row : Row) → is_unassigned row ≡ true → is_table row ≡ false
 unassigned_plain row e = ap (λ (h : EntryState). elim h [ Unassigned ↦ false | Assigned ↦ false | Table ↦ true ]) (unassigned_kind row e)
 
--- and leads to nothing
+-- an UNASSIGNED entry leads to nothing
 pub table_of-unassigned : (row : Row) → row.state ≡ Unassigned → table_of row ≡ None
 table_of-unassigned row e = ap (λ (h : EntryState). cond (elim h [ Unassigned ↦ false | Assigned ↦ false | Table ↦ true ]) row.granule None) e
 
 pub data_of-unassigned : (row : Row) → row.state ≡ Unassigned → data_of row ≡ None
 data_of-unassigned row e = ap (λ (h : EntryState). cond (elim h [ Unassigned ↦ false | Assigned ↦ true | Table ↦ false ]) row.granule None) e
 
--- one that becomes RAM
+-- an UNASSIGNED entry whose RIPAS becomes RAM
 pub as_ram-unassigned : (row : Row) → row.state ≡ Unassigned → row.granule ≡ None → as_ram (Some row) ≡ unassigned Ram
 as_ram-unassigned row kind none = λ i. record { state = kind i; ripas = Ram; granule = none i }
 
@@ -46,7 +46,7 @@ leads false o granule e = cc
 pub table_of-leads : (row : Row) (granule : ℕ) → table_of row ≡ Some granule → (is_table row ≡ true) × (row.granule ≡ Some granule)
 table_of-leads row granule e = leads (is_table row) row.granule granule e
 
--- an entry that leads to no table is of another kind
+-- an entry that leads to no table is not TABLE
 pub table_of-none : (row : Row) → IsEntry row → table_of row ≡ None → is_table row ≡ false
 table_of-none row is e = by_kind row.state row.ripas row.granule is e
   where

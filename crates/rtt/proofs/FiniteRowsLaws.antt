@@ -1,4 +1,4 @@
--- The row of a function at each place.
+-- The proof that the finite map of a function's rows has the function's row at each place.
 use Rattle.std.specs.Prelude.{◌≡◌, ◌≢◌, ℕ, zero, suc, ◌<◌, ◌≤◌, cond, List, [], ◌∷◌, ◌++◌, Option, Some, None, ◌⊎◌, true, false}
 use Rattle.std.specs.Ordering.{eq_by_cmp}
 use Rattle.std.specs.FinMap.{find, get, get-from_entries, same_map}
@@ -10,12 +10,12 @@ use Rattle.realm_model.proofs.Rows.{is_place as is_at, place_self}
 use Rattle.realm_model.proofs.Booleans.{true_false}
 use Rattle.rtt.specs.FiniteRows.{row_before, rows_below, rows_by}
 
--- the function has nothing but at levels 1 to 3 and at IPA granules below `space`
+-- the function has rows only at levels 1 to 3 and at IPA granules below `space`
 pub record IsBounded (space : ℕ) (at : ℕ → ℕ → Option Row) : Type 0 where
   pub levels : (level ipa : ℕ) → level ≡ 0 ⊎ 4 ≤ level → at level ipa ≡ None
   pub granules : (level ipa : ℕ) → space ≤ ipa → at level ipa ≡ None
 
--- what a test of two places tells
+-- two places are equal exactly if their test is true
 pub place_tells : (q k : ℕ × ℕ) → ((is_at q k ≡ true) × (q ≡ k)) ⊎ ((is_at q k ≡ false) × (q ≡ k → ⊥))
 place_tells q k =
     elim (is_at q k) as (λ b. is_at q k ≡ b → ((b ≡ true) × (q ≡ k)) ⊎ ((b ≡ false) × (q ≡ k → ⊥))) [
@@ -23,7 +23,7 @@ place_tells q k =
       | false ↦ λ e. inr (refl, λ same. true_false _ (place_self q) (ap (is_at q) same ∙ e))
     ] refl
 
--- rows that have the same at each place are the same
+-- rows that are equal at each place are equal
 pub same_rows : (rows other : Rows) → ((level ipa : ℕ) → get rows (level, ipa) ≡ get other (level, ipa)) → rows ≡ other
 same_rows rows other same = same_map place_total place_cmp-IsAntisymmetric rows other (λ q. same q.0 q.1)
 
@@ -45,7 +45,7 @@ find-append q (x ∷ xs) ys =
       | false ↦ find-append q xs ys
     ]
 
--- where the list of a level has nothing
+-- the list of a level has no row at another level or past its end
 find_none : (at : ℕ → ℕ → Option Row) (level n other ipa : ℕ) → (other ≡ level → ipa < n → ⊥) → find place_cmp (other, ipa) (rows_below at level n) ≡ None
 unfolding rows_below row_before
 find_none at level zero other ipa out = refl
@@ -59,7 +59,7 @@ find_none at level (suc n) other ipa out =
       ]
     ]
 
--- and what it has else
+-- the list of a level has the function's row at every other place
 find_at : (at : ℕ → ℕ → Option Row) (level n ipa : ℕ) → ipa < n → find place_cmp (level, ipa) (rows_below at level n) ≡ at level ipa
 unfolding rows_below row_before
 find_at at level zero ipa lt = absurd (omega arith)

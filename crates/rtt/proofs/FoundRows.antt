@@ -1,4 +1,4 @@
--- The row that a command requires in the tables, by the end of its walk.
+-- The end of an RTT walk, which decides whether a command is refused.
 use Rattle.std.proofs.Common.{◌≡◌, ◌≢◌, ℕ, ◌-◌, Bool, true, false, Some, None, Err, ◌⊎◌, ⊎_elim, sym, ap, ◌∙◌}
 use Rattle.std.specs.Prelude.{◌==◌}
 use Rattle.std.proofs.lemmas.Bool.{cases_eq, eq-eqb, ne_eqb}
@@ -9,7 +9,7 @@ use Rattle.realm_model.specs.Command.Found.{with_unused_table}
 use Rattle.realm_model.proofs.Outcomes.{check_true, check_false}
 
 module _ (rows : Rows) (ipa level wanted ended : ℕ) (row : Row) (at : wanted ≡ level) (ends : walk rows ipa wanted ≡ Some (record { level = ended; row = row })) where
-  -- the walk towards the level wanted
+  -- the walk towards the required level
   ended_so : (f : Row → Outcome) → with_row rows ipa level f ≡ check (ended == level) (error_rtt ended) (f row)
   unfolding with_end
   ended_so f = ap (λ o. elim o [ Some end ↦ check (end.level == level) (error_rtt end.level) (f end.row) | None ↦ Err (error_rtt 0) ]) (ap (walk rows ipa) (sym at) ∙ ends)
@@ -21,11 +21,12 @@ module _ (rows : Rows) (ipa level wanted ended : ℕ) (row : Row) (at : wanted �
     found_so : ended ≡ wanted → passes row ≡ true → (f : Row → Outcome) → with_row rows ipa level (λ r. check (passes r) (error_rtt level) (f r)) ≡ f row
     found_so there holds f = ended_there there (λ r. check (passes r) (error_rtt level) (f r)) ∙ check_true (passes row) (error_rtt level) (f row) holds
 
-    -- A command goes on with the row where its walk ended, if that is at the level wanted and the row passes.
+    -- A command goes on with the row where its walk ended, if that is at the required level and the row passes the
+    -- test.
     pub row_passed : ended ≡ wanted → passes row ≡ true → (found : Row) × ((f : Row → Outcome) → with_row rows ipa level (λ r. check (passes r) (error_rtt level) (f r)) ≡ f found)
     row_passed there holds = (row, found_so there holds)
 
-    -- Else it is refused with the level where the walk ended.
+    -- Otherwise the command is refused, with the level where the walk ended.
     pub row_refused : (ended ≢ wanted) ⊎ (passes row ≡ false) → (f : Row → Outcome) → with_row rows ipa level (λ r. check (passes r) (error_rtt level) (f r)) ≡ Err (error_rtt ended)
     row_refused fails f =
         ⊎_elim
@@ -38,7 +39,7 @@ module _ (rows : Rows) (ipa level wanted ended : ℕ) (row : Row) (at : wanted �
         ∙ check_false (ended == level) (error_rtt ended) (check (passes row) (error_rtt level) (f row)) (ne_eqb ended level (λ e. away (e ∙ sym at))))
         (cases_eq ended wanted)
 
--- ---- a table that is to go
+-- ---- a table that is to be destroyed
 
 module _ (rows : Rows) (ipa level wanted ended : ℕ) (row : Row) (at : wanted ≡ level - 1) (ends : walk rows ipa wanted ≡ Some (record { level = ended; row = row })) where
   on_table : (Row → Outcome) → Row → Outcome

@@ -1,4 +1,4 @@
--- The frame of a realm's tables: the pages of its own granules in RTT alone.
+-- The frame of a realm's tables, which depend only on the pages of the realm's RTT granules.
 use Rattle.std.specs.Prelude.{◌≡◌, ℕ, zero, suc, ◌<◌, ◌≤◌, true, false, cond, List, Option, Some, None, option_and_then}
 use Rattle.std.proofs.Common.{refl, sym, ap, subst, ◌∙◌, arith}
 use Rattle.granule_addr.specs.Ipa.{entry_index}
@@ -16,7 +16,7 @@ use Rattle.rtt.specs.Tables.{Entries, entries_of, table_at, entry_at, data_at, i
 use Rattle.rtt.specs.Realm.{IsInside, HasGranules, HasTables, LeavesAlone}
 use Rattle.rtt.proofs.PlaceLaws.{index_below, inside_place}
 
--- what is found in a table that is there, for both
+-- two functions that agree on the table, if there is one, have the same result
 option_and_then-same : {A : Type 0} (mapping_at new_look : ℕ → Option A) (o : Option ℕ) → ((table : ℕ) → o ≡ Some table → new_look table ≡ mapping_at table) → option_and_then new_look o ≡ option_and_then mapping_at o
 option_and_then-same mapping_at new_look None same = refl
 option_and_then-same mapping_at new_look (Some table) same = same table refl
@@ -38,7 +38,7 @@ module _ (entries new : Entries) (root : Root)
           ∙ option_and_then-same (λ t. table_of (entries t index)) (λ t. table_of (new t index)) (table_at entries root (suc l) ipa)
           (λ t at. same (suc l) ipa t index (record { least = omega arith; most = omega arith; below = inside.below }) at (index_below (suc l) ipa))
 
-  -- and to the same pages
+  -- entries that lead to the same pages too
   module _ (same_data : (level ipa table index : ℕ) → IsInside root.width level ipa → table_at entries root level ipa ≡ Some table → index < 512
       → data_of (new table index) ≡ data_of (entries table index)) where
     pub same_data_at : (level ipa : ℕ) → IsInside root.width level ipa → data_at new root level ipa ≡ data_at entries root level ipa
@@ -48,7 +48,7 @@ module _ (entries new : Entries) (root : Root)
         ∙ option_and_then-same (λ t. data_of (entries t index)) (λ t. data_of (new t index)) (table_at entries root level ipa)
         (λ t at. same_data level ipa t index inside at (index_below level ipa))
 
-    -- The realm owns its granules as before, in whatever granules these stay.
+    -- The realm owns its granules as before, in any list of granules in which their states stay the same.
     pub HasGranules-same : (granules new_granules : List Granule) (rd : ℕ)
         → ((granule : ℕ) → IsIn granules granule InRtt (Some rd) → IsIn new_granules granule InRtt (Some rd))
         → ((granule : ℕ) → IsIn granules granule InData (Some rd) → IsIn new_granules granule InData (Some rd))
@@ -90,12 +90,12 @@ module _ (pages : List (List ℕ)) (granules : List Granule) (new_pages : List (
   unfolding entries_of
   same_entry level ipa table index inside at few = ap (λ page. entry_of (word_of_page page index)) (alone.page table (there.own.tables level ipa table inside at))
 
-  -- Its rows stay.
+  -- The realm's rows stay the same.
   pub rows-alone : rows new_pages root ≡ rows pages root
   unfolding rows
   rows-alone = same_rows_in (entries_of pages) (entries_of new_pages) root same_entry
 
-  -- It has its tables still.
+  -- The realm still has its tables.
   pub HasTables-alone : HasTables new_pages new_granules rd root
   HasTables-alone = record {
     own = HasGranules-same (entries_of pages) (entries_of new_pages) root

@@ -1,5 +1,4 @@
--- The conditions of a call on tables on the pages that are taken, and the invariants of a call that writes pages and
--- moves at most one granule.
+-- The preconditions and the invariants of a call on translation tables that writes pages and moves at most one granule.
 use Rattle.std.proofs.Common.{◌≡◌, ◌≢◌, ℕ, ◌<◌, Bool, false, set, List, length, Option, Some, inl, inr, sym, ap, ◌∙◌, arith}
 use Rattle.std.proofs.lemmas.Bool.{cases_eq}
 use Rattle.std.proofs.lemmas.List.{length-set, get_or-set_other}
@@ -42,7 +41,7 @@ module _ {pages : List (List ℕ)} {flags : List Bool} {granules : List Granule}
   table_ready new_pages new_flags level ipa table as_many same_flags tables inside at within =
       (omega arith, ap (λ f. is_free f table) same_flags ∙ table_taken level ipa table tables inside at)
 
-  -- and after another page was filled
+  -- a table after another page was filled
   pub table_beside : {new_pages : List (List ℕ)} {new_flags : List Bool} (page : ℕ) (bytes : List ℕ) {rd : ℕ} {root : Root} (level ipa table : ℕ)
       → new_pages ≡ set pages page bytes → new_flags ≡ flags → HasTables pages granules rd root → IsInside root.width level ipa
       → table_at (entries_of pages) root level ipa ≡ Some table → table < length pages → (table < length new_pages) × (is_free new_flags table ≡ false)

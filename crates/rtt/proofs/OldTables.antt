@@ -1,4 +1,4 @@
--- The table that is removed from below the entry of the table above.
+-- The pages and the granules after a table is destroyed below an entry of the table above.
 use Rattle.std.proofs.Common.{◌≡◌, ◌≢◌, ℕ, ◌+◌, ◌-◌, ◌<◌, ◌≤◌, Bool, true, false, List, [], length, set, Some, None, refl, sym, ap, subst, ◌∙◌, arith}
 use Rattle.std.specs.Prelude.{IsTrue, ◌↔◌}
 use Rattle.std.proofs.lemmas.List.{length-set, get_or-set_same, get_or-set_other}
@@ -101,7 +101,7 @@ module _ (pages mid : List (List ℕ)) (flags : List Bool) (sized : IsSized mid 
   deep : IsInside root.width level ipa
   deep = level_inside level above ipa next place root.width inside.below
 
-  -- the table above is another one
+  -- the table above is in another granule
   above_apart : table ≢ granule
   above_apart same =
       let both = tables.own.tables_once above ipa level ipa granule inside deep (at ∙ ap (λ (k : ℕ). Some k) same) its in

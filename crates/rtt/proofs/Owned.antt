@@ -20,7 +20,7 @@ use Rattle.rtt.proofs.Writes.{Writes, entry_at-written, table_cases}
 
 -- ---- a granule that moves to another state
 
--- One granule is in a state afterwards, and each other one as it was.
+-- One granule is in a state afterwards, and each other one is as it was.
 pub record Moves (granules new_granules : List Granule) (granule : ℕ) (state : GranuleState) (realm : Option ℕ) : Type 0 where
   pub now : IsIn new_granules granule state realm
   pub others : (other : ℕ) (other_state : GranuleState) (other_realm : Option ℕ) → other ≢ granule → IsIn granules other other_state other_realm → IsIn new_granules other other_state other_realm
@@ -37,13 +37,13 @@ Moves-set granules granule state realm inside =
           record { inside = omega arith; is = get_or-set_other granules granule other x undelegated apart ∙ was.is };
     }
 
--- granules in two states are two
+-- granules in different states are different
 pub apart_states : (granules : List Granule) (granule other : ℕ) (state other_state : GranuleState) (realm other_realm : Option ℕ)
     → IsIn granules granule state realm → IsIn granules other other_state other_realm → state ≢ other_state → granule ≢ other
 apart_states granules granule other state other_state realm other_realm is other_is differ same =
     differ (ap (λ (x : Granule). x.state) (sym is.is ∙ ap (granule_at granules) same ∙ other_is.is))
 
--- and so are granules of two realms
+-- granules of different realms are different
 pub apart_realms : (granules : List Granule) (granule other : ℕ) (state other_state : GranuleState) (realm other_realm : ℕ)
     → IsIn granules granule state (Some realm) → IsIn granules other other_state (Some other_realm) → realm ≢ other_realm → granule ≢ other
 apart_realms granules granule other state other_state realm other_realm is other_is differ same =
@@ -52,7 +52,8 @@ apart_realms granules granule other state other_state realm other_realm is other
 
 -- ---- an entry that is written
 
--- The granules afterwards: those of what stays and of what is new. Nothing new was there before.
+-- The granules afterwards: those of the tables and pages that stay, and of the new ones. The realm had none of the new
+-- ones before.
 pub record Fits (entries : Entries) (new_granules : List Granule) (rd : ℕ) (root : Root) (level ipa : ℕ) (entry : Row) : Type 0 where
   pub tables_stay : (other_level other table : ℕ) → IsInside root.width other_level other → table_at entries root other_level other ≡ Some table
       → (other_level ≡ suc level → other / covered_count level ≢ ipa / covered_count level) → IsIn new_granules table InRtt (Some rd)

@@ -1,4 +1,4 @@
--- Places of IPA granules in tables: the entry of a level that covers one, and the table of the entry.
+-- The arithmetic of IPA granules: the entry of each level that covers an IPA granule, and the table of that entry.
 use Rattle.std.proofs.Common.{◌≡◌, ◌≢◌, ℕ, zero, suc, ◌+◌, ◌*◌, ◌/◌, ◌%◌, ◌<◌, ◌≤◌, Bool, true, false, ◌&&◌, eqb, Option, Some, None, ◌⊎◌, inl, inr, ⊎_elim, refl, sym, ap, ◌∙◌, arith, lit≤}
 use Rattle.std.specs.Prelude.{◌==◌}
 use Rattle.std.proofs.Math.Nat.{div-div-eq-div-mul, div-add-mod, mul-div_cancel, div-mul-le_self}
@@ -29,7 +29,7 @@ table_of_entry level ipa other e =
 pub index_of_entry : (level ipa other : ℕ) → ipa / covered_count level ≡ other / covered_count level → entry_index level ipa ≡ entry_index level other
 index_of_entry level ipa other e = ap (λ (q : ℕ). q % 512) e
 
--- and the other way round
+-- IPA granules under one table, at one index, are under one entry
 pub entry_of_index : (level ipa other : ℕ) → ipa / served_count level ≡ other / served_count level → entry_index level ipa ≡ entry_index level other
     → ipa / covered_count level ≡ other / covered_count level
 entry_of_index level ipa other t i =

@@ -1,4 +1,4 @@
--- The rows of pages of one table of the last level that become RAM.
+-- The rows of a table of level 3 after the RIPAS of several of its pages becomes RAM.
 use Rattle.std.proofs.Common.{◌≡◌, ℕ, ◌+◌, ◌-◌, ◌*◌, ◌/◌, ◌%◌, ◌<◌, ◌≤◌, true, false, List, Option, Some, None, ◌⊎◌, inl, inr, refl, sym, ap, ◌∙◌, arith, lit≤}
 use Rattle.std.specs.Prelude.{option_and_then}
 use Rattle.std.specs.FinMap.{get}
@@ -51,7 +51,7 @@ module _ (entries : Entries) (root : Root) (ipa table count : ℕ) (below : ipa 
       ∙ entry_at-some entries root 3 n table (page_table k few)
       ∙ ap (λ (j : ℕ). Some (entries table j)) (page_place k few).1
 
-  -- All rows are UNASSIGNED exactly where these entries are.
+  -- All rows are UNASSIGNED exactly if these entries are.
   pub pages_unassigned : ((k : ℕ) → k < count → is_unassigned (entries table (start + k)) ≡ true) → all_rows is_unassigned (rows_in entries root) 3 ipa count ≡ true
   pages_unassigned each = all_rows_true is_unassigned (rows_in entries root) 3 ipa count (λ k. entries table (start + k)) page_row each
 

@@ -1,4 +1,4 @@
--- The opening and closing of starting tables.
+-- The creation of a realm's starting tables, and their destruction.
 use Rattle.std.proofs.Common.{◌≡◌, ◌≢◌, ℕ, ◌+◌, ◌-◌, ◌<◌, ◌≤◌, Bool, true, false, List, [], length, Option, Some, None, ◌⊎◌, inl, inr, refl, sym, ap, subst, ◌∙◌, arith}
 use Rattle.std.specs.Prelude.{IsTrue, ◌↔◌, not}
 use Rattle.std.proofs.lemmas.Bool.{cases_lt}
@@ -27,7 +27,7 @@ use Rattle.rtt.proofs.StartTables.{get_or-set_each_inside, get_or-set_each_besid
 use Rattle.rtt.proofs.Walks.{start_in}
 use Rattle.rtt.proofs.Written.{IsExact, entry_read, exact_read}
 
--- whether starting tables may be closed
+-- whether starting tables may be destroyed
 pub no_table_below : (pages : List (List ℕ)) (root : Root) (answer : Bool)
     → (IsTrue answer ↔ ((number index : ℕ) → number < start_count root.width → index < 512 → is_table (entries_of pages (root.first + number) index) ≡ false))
     → answer ≡ not (has_root_table root.width (rows pages root))
@@ -41,7 +41,7 @@ no_table_below pages root answer tells = by_cases answer (has_root_table root.wi
     by_cases false true e t = refl
     by_cases false false e t = let clash : IsTrue false = t.1 (no_root_table (entries_of pages) root e) in cc
 
--- ---- all of them are cleared, and moved to another state
+-- ---- all starting tables are cleared, and moved to another state
 
 module _ (pages new_pages : List (List ℕ)) (flags : List Bool) (granules new_granules : List Granule) (root : Root) (from to : GranuleState) (realm new_realm : Option ℕ)
     (backed : IsBacked pages flags granules) (was : (number : ℕ) → number < start_count root.width → IsIn granules (root.first + number) from realm) (used : from ≢ Undelegated)
@@ -52,7 +52,7 @@ module _ (pages new_pages : List (List ℕ)) (flags : List Bool) (granules new_g
   fits : root.first + start_count root.width ≤ length granules
   fits = starts_fit root (length granules) (λ number few. (was number few).inside)
 
-  -- a granule is one of them, or another
+  -- a granule is that of a starting table, or another one
   start_cases : (granule : ℕ) → ((number : ℕ) × (number < start_count root.width) × (granule ≡ root.first + number)) ⊎ ((granule < root.first) ⊎ (root.first + start_count root.width ≤ granule))
   start_cases granule =
       elim (cases_lt granule root.first) [
@@ -128,7 +128,7 @@ module _ (pages new_pages : List (List ℕ)) (flags : List Bool) (granules new_g
         «data» = λ granule is. (stays granule InData is).1;
       }
 
--- ---- they are opened
+-- ---- starting tables are created
 
 pub record Opened (pages new_pages : List (List ℕ)) (flags : List Bool) (granules new_granules : List Granule) (rd : ℕ) (root : Root) : Type 0 where
   pub rows_are : rows new_pages root ≡ root_rows root.width
@@ -164,7 +164,7 @@ opened pages new_pages flags granules new_granules rd root backed was pages_are 
       other_realms = others_after pages new_pages flags granules new_granules root Delegated InRtt None (Some rd) backed was used pages_are granules_are rd (λ other apart e. cc);
     }
 
--- ---- and closed
+-- ---- starting tables are destroyed
 
 pub record Closed (pages new_pages : List (List ℕ)) (flags : List Bool) (granules new_granules : List Granule) (rd : ℕ) : Type 0 where
   pub backed : IsBacked new_pages flags new_granules

@@ -1,4 +1,4 @@
--- The starting tables: a realm that has no other table, and the test whether one is below.
+-- The rows of a realm that has only its starting tables, and the test whether a realm has other tables.
 use Rattle.std.proofs.Common.{◌≡◌, ◌≢◌, ℕ, zero, suc, ◌+◌, ◌*◌, ◌/◌, ◌%◌, ◌<◌, ◌≤◌, Bool, true, false, not, List, Some, None, inl, inr, refl, sym, ap, subst, ◌∙◌, arith, lit≤}
 use Rattle.std.specs.Prelude.{option_and_then}
 use Rattle.std.specs.FinMap.{get, empty, get-empty}
@@ -67,7 +67,7 @@ module _ (entries : Entries) (root : Root) (blank : (number index : ℕ) → num
       same_number : (n m : ℕ) → root.first + n ≡ root.first + m → n ≡ m
       same_number n m e = omega arith
 
-  -- what holds of the entries of the starting tables holds of each
+  -- a property of the entries of all starting tables is one of each entry
   pub root_each : (P : ℕ → ℕ → Type 0) → ((number index : ℕ) → number < start_count root.width → index < 512 → P (root.first + number) index)
       → (l i t index : ℕ) → IsInside root.width l i → table_at entries root l i ≡ Some t → index < 512 → P t index
   root_each P its l i t index inside is few =

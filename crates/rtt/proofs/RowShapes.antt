@@ -1,4 +1,4 @@
--- The shape of rows, which they keep when an entry is written.
+-- The invariant of a realm's rows, which holds after a page is mapped or unmapped.
 use Rattle.std.proofs.Common.{◌≡◌, ℕ, false, Some, refl, ap, ◌∙◌}
 use Rattle.std.specs.Prelude.{option_map, is_some}
 use Rattle.granule_addr.specs.Ipa.{first_covered}

@@ -1,4 +1,4 @@
--- Rows, and their words in the pages.
+-- The proof that the pages of a realm's tables have the words of its rows.
 use Rattle.std.proofs.Common.{◌≡◌, ℕ, zero, suc, ◌-◌, Bool, true, false, cond, List, Option, Some, None, refl, sym, ap, subst, ◌∙◌, arith}
 use Rattle.std.specs.Prelude.{◌==◌, option_and_then}
 use Rattle.std.proofs.lemmas.Bool.{ne_eqb}

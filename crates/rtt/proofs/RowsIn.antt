@@ -1,4 +1,4 @@
--- The rows of tables: the one at each place, and the ends of walks over them.
+-- The row at each place of a realm's tables, and the row at which a walk ends.
 use Rattle.std.proofs.Common.{◌≡◌, ℕ, zero, suc, ◌<◌, ◌≤◌, true, false, cond, Option, Some, None, ◌⊎◌, inl, inr, ⊎_elim, refl, sym, ap, ◌∙◌, arith}
 use Rattle.std.specs.Prelude.{option_and_then}
 use Rattle.std.specs.FinMap.{get}
@@ -29,7 +29,7 @@ pub get-rows_in : (entries : Entries) (root : Root) (level ipa : ℕ) → get (r
 unfolding rows_in
 get-rows_in entries root level ipa = get-rows_by (served_space root.width) (row_in entries root) (row_in-bounded entries root) level ipa
 
--- rows that have at each place what the tables have there are theirs
+-- rows that have at each place what the tables have there are the tables' rows
 pub rows_in-from : (entries : Entries) (root : Root) (rows : Rows) → ((level ipa : ℕ) → row_in entries root level ipa ≡ get rows (level, ipa)) → rows_in entries root ≡ rows
 rows_in-from entries root rows same = same_rows _ _ (λ level ipa. get-rows_in entries root level ipa ∙ same level ipa)
 

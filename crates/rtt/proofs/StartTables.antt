@@ -45,14 +45,14 @@ module _ {X : Type 0} (x : X) where
 
 -- ---- starting tables by number
 
--- what holds of each starting table holds of that of a number
+-- a property of all starting tables is one of the table with a given number
 pub start_is : (P : ℕ → Type 0) (root : Root) → All P (starting_tables root) → (number : ℕ) → number < start_count root.width → P (root.first + number)
 unfolding starting_tables
 start_is P root all number few =
     subst P (get_or-range_with_len root.first (start_count root.width) number 0 few)
     (all number 0 (subst (λ (n : ℕ). number < n) (sym (length-range_with_len root.first (start_count root.width))) few))
 
--- all of them fit where each does
+-- all starting tables are inside the machine if each is
 pub starts_fit : (root : Root) (n : ℕ) → ((number : ℕ) → number < start_count root.width → root.first + number < n) → root.first + start_count root.width ≤ n
 starts_fit root n each =
     let some : 0 < start_count root.width = pow_pos (root.width - 39) in
@@ -61,10 +61,10 @@ starts_fit root n each =
 
 -- ---- IPA granules that a starting table serves
 
--- the number of the one that serves an IPA granule
+-- the number of the starting table that serves an IPA granule
 pub start_index_below : (width ipa : ℕ) → ipa < served_space width → start_index ipa < start_count width
 start_index_below width ipa below = omega arith
 
--- the first IPA granule of the one of a number
+-- the first IPA granule of the starting table with a given number
 pub first_served : (width number : ℕ) → number < start_count width → (number * served_count 1 < served_space width) × (start_index (number * served_count 1) ≡ number)
 first_served width number few = (omega arith, omega arith)

@@ -1,4 +1,4 @@
--- The table that serves an IPA granule, with its entry and page for it.
+-- The table of each level that serves an IPA granule, with the entry and the page for the IPA granule.
 use Rattle.std.proofs.Common.{◌≡◌, ℕ, zero, suc, ◌+◌, ◌/◌, ◌≤◌, Option, Some, None, inl, inr, refl, sym, ap, ◌∙◌, arith}
 use Rattle.std.specs.Prelude.{option_and_then}
 use Rattle.std.proofs.lemmas.Bool.{cases_eq}
@@ -38,7 +38,7 @@ table_at-same entries root (suc (suc level)) ipa other high e =
     (table_at-same entries root (suc level) ipa other (omega arith) (table_of_entry (suc level) ipa other same))
     ∙ ap (λ (i : ℕ). option_and_then (λ table. table_of (entries table i)) (table_at entries root (suc level) other)) (index_of_entry (suc level) ipa other same)
 
--- and IPA granules under one entry have that entry
+-- IPA granules under one entry have the same entry
 pub entry_at-same : (entries : Entries) (root : Root) (level ipa other : ℕ) → level ≤ 3 → ipa / covered_count level ≡ other / covered_count level
     → entry_at entries root level ipa ≡ entry_at entries root level other
 entry_at-same entries root level ipa other high e =
@@ -49,7 +49,7 @@ pub entry_at-some : (entries : Entries) (root : Root) (level ipa table : ℕ) �
     → entry_at entries root level ipa ≡ Some (entries table (entry_index level ipa))
 entry_at-some entries root level ipa table at = ap (option_and_then (λ table. Some (entries table (entry_index level ipa)))) at
 
--- below an entry that leads to no table there is none
+-- below an entry that leads to no table there is no table
 pub no_table : (entries : Entries) (root : Root) (level ipa table lower : ℕ) → 1 ≤ level → level ≤ lower → table_at entries root level ipa ≡ Some table
     → table_of (entries table (entry_index level ipa)) ≡ None → table_at entries root (suc lower) ipa ≡ None
 no_table entries root level ipa table zero low le at none = absurd (omega arith)

@@ -1,4 +1,4 @@
--- Walks over the words of pages, as a call takes them.
+-- RTT walks over the words of pages: each step leads to a table that is inside the machine.
 use Rattle.std.proofs.Common.{◌≡◌, ℕ, ◌+◌, ◌*◌, ◌<◌, ◌≤◌, List, length, Some, None, ◌⊎◌, ⊎_elim, inl, inr, refl, sym, ap, ◌∙◌, arith, add-one}
 use Rattle.std.specs.Prelude.{option_and_then}
 use Rattle.granule_addr.specs.Ipa.{entry_index, served_count}
@@ -18,7 +18,7 @@ use Rattle.rtt.proofs.RowsIn.{walk_ends}
 pub table_at-start : (entries : Entries) (root : Root) (level ipa : ℕ) → level ≡ 1 → table_at entries root level ipa ≡ Some (start_table root ipa)
 table_at-start entries root level ipa start = ap (λ (k : ℕ). table_at entries root k ipa) start ∙ table_at-root entries root ipa
 
--- and goes on to the table that an entry leads to
+-- a walk goes on to the table that an entry leads to
 pub table_at-below : (entries : Entries) (root : Root) (level below ipa table child : ℕ) (entry : Row) → 1 ≤ level → below ≡ level + 1 → table_at entries root level ipa ≡ Some table
     → entry ≡ entries table (entry_index level ipa) → Some child ≡ table_of entry → table_at entries root below ipa ≡ Some child
 table_at-below entries root level below ipa table child entry low next at is leads =
@@ -39,7 +39,7 @@ pub start_inside : (pages : List (List ℕ)) (granules : List Granule) (rd : ℕ
 start_inside pages granules rd root ipa as_many tables below =
     table_inside pages granules rd root 1 ipa (start_table root ipa) as_many tables (record { least = omega arith; most = omega arith; below = below }) (table_at-root (entries_of pages) root ipa)
 
--- each starting table is in RTT of the realm
+-- each starting table is an RTT granule of the realm
 pub start_in : (pages : List (List ℕ)) (granules : List Granule) (rd : ℕ) (root : Root) → HasTables pages granules rd root → (number : ℕ) → number < start_count root.width
     → IsIn granules (root.first + number) InRtt (Some rd)
 start_in pages granules rd root tables number few =
@@ -50,7 +50,7 @@ start_in pages granules rd root tables number few =
 pub starts_inside : (pages : List (List ℕ)) (granules : List Granule) (rd : ℕ) (root : Root) → HasTables pages granules rd root → root.first + start_count root.width ≤ length granules
 starts_inside pages granules rd root tables = starts_fit root (length granules) (λ number few. (start_in pages granules rd root tables number few).inside)
 
--- what an entry leads to is in a state of the realm's
+-- the granule that an entry leads to is the realm's: an RTT granule for a table, a DATA granule for a page
 pub child_in : (pages : List (List ℕ)) (granules : List Granule) (rd : ℕ) (root : Root) (level ipa table child : ℕ) (entry : Row) → HasTables pages granules rd root
     → IsInside root.width level ipa → level < 3 → table_at (entries_of pages) root level ipa ≡ Some table → entry ≡ entries_of pages table (entry_index level ipa) → table_of entry ≡ Some child
     → IsIn granules child InRtt (Some rd)
@@ -65,7 +65,7 @@ pub page_in : (pages : List (List ℕ)) (granules : List Granule) (rd : ℕ) (ro
 page_in pages granules rd root level ipa table page entry tables inside at is leads =
     tables.own.«data» level ipa page inside (ap (option_and_then (λ t. data_of (entries_of pages t (entry_index level ipa)))) at ∙ ap data_of (sym is) ∙ leads)
 
--- where a walk ends
+-- the entry at which a walk ends
 pub walk_found : (pages : List (List ℕ)) (root : Root) (level wanted ipa table : ℕ) (entry : Row) → IsInside root.width level ipa → level ≤ wanted → wanted ≤ 3
     → table_at (entries_of pages) root level ipa ≡ Some table → entry ≡ entries_of pages table (entry_index level ipa) → (level ≡ wanted) ⊎ (table_of entry ≡ None)
     → walk (rows pages root) ipa wanted ≡ Some (record { level = level; row = entry })

@@ -57,7 +57,7 @@ small Table ripas (Some granule) is = let few = ripas_small ripas in let below :
 pub entry_word_fits : (row : Row) → IsEntry row → entry_word row < 2 ^ 64
 entry_word_fits row is = small row.state row.ripas row.granule is
 
--- what is read from a word is an entry, whatever the word
+-- each word is decoded to an entry
 said_is : (state : EntryState) (ripas : Ripas) (granule : ℕ) → granule < 4096 → IsEntry (decoded state ripas granule)
 said_is Unassigned ripas granule below = refl
 said_is Assigned ripas granule below = below

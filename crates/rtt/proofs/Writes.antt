@@ -15,9 +15,9 @@ use Rattle.rtt.proofs.EntryKinds.{table_of-unassigned}
 use Rattle.rtt.proofs.PlaceLaws.{option_cases, index_below, table_of_entry, index_of_entry, entry_of_index, is_under, under_cases, under_true, under_false}
 use Rattle.rtt.proofs.TableAt.{table_at-next, table_at-same}
 
--- The entry is written in a table, in place of another. The table below the one, and that below the other, if there are
--- such, have UNASSIGNED entries alone. No other entry of the realm's tables changes, but for those of a table that
--- goes.
+-- The entry is written in a table, in place of another. The tables below the new and the old entry, if there are such,
+-- have UNASSIGNED entries alone. No other entry of the realm's tables changes, but for those of a table that is
+-- removed.
 pub record Writes (entries new : Entries) (root : Root) (level ipa table : ℕ) (entry : Row) : Type 0 where
   pub inside : IsInside root.width level ipa
   pub at : table_at entries root level ipa ≡ Some table
@@ -56,7 +56,7 @@ module _ (entries new : Entries) (granules : List Granule) (rd : ℕ) (root : Ro
       let i : entry_index level other ≡ entry_index level ipa = ap (λ (k : ℕ). entry_index k other) (sym both.0) ∙ index in
       (both.0, entry_of_index level other ipa t i)
 
-  -- what was below the entry
+  -- the table that was below the entry
   pub table_under : (other_level other : ℕ) → other_level ≡ suc level → other / covered_count level ≡ ipa / covered_count level
       → table_at entries root other_level other ≡ table_of old_entry
   table_under other_level other e same =
@@ -142,7 +142,8 @@ module _ (entries new : Entries) (granules : List Granule) (rd : ℕ) (root : Ro
         | inr u ↦ inr (sym (now ∙ ap (λ c. cond c (table_of entry) (table_at entries root l i)) u.0) ∙ is, u.1)
       ]
 
-  -- What holds of the entry written, of those of the table below it, and of those kept, holds of each entry afterwards.
+  -- A property of the written entry, of the entries in the table below it and of the kept ones is one of each entry
+  -- after.
   pub each_written : (P : ℕ → ℕ → Type 0) → P table (entry_index level ipa)
       → ((child index : ℕ) → level < 3 → table_of entry ≡ Some child → index < 512 → P child index)
       → ((l i t index : ℕ) → IsInside root.width l i → table_at entries root l i ≡ Some t → index < 512 → (l ≡ suc level → i / covered_count level ≢ ipa / covered_count level)

@@ -14,7 +14,7 @@ use Rattle.rtt.specs.Tables.{entries_of}
 abbrev pub IsExact : List (List ℕ) → ℕ → ℕ → Type 0
 IsExact pages granule index = word_at pages granule index ≡ entry_word (entries_of pages granule index)
 
--- what is read is an entry
+-- what is decoded from a word is an entry
 pub IsEntry-entries_of : (pages : List (List ℕ)) (granule index : ℕ) → IsEntry (entries_of pages granule index)
 unfolding entries_of
 IsEntry-entries_of pages granule index = IsEntry-entry_of (word_at pages granule index)
@@ -22,7 +22,7 @@ IsEntry-entries_of pages granule index = IsEntry-entry_of (word_at pages granule
 pub IsEntry-read : {entry : Row} (pages : List (List ℕ)) (granule index : ℕ) → entry ≡ entries_of pages granule index → IsEntry entry
 IsEntry-read pages granule index is = subst IsEntry (sym is) (IsEntry-entries_of pages granule index)
 
--- where the word of an entry stands, the entry is read, and the word is exact
+-- the word of an entry is decoded to the entry, and is exact
 pub entry_read : (pages : List (List ℕ)) (granule index : ℕ) (row : Row) → IsEntry row → word_at pages granule index ≡ entry_word row → entries_of pages granule index ≡ row
 unfolding entries_of
 entry_read pages granule index row is word = ap entry_of word ∙ entry_of-entry_word row is
@@ -30,7 +30,7 @@ entry_read pages granule index row is word = ap entry_of word ∙ entry_of-entry
 pub exact_read : (pages : List (List ℕ)) (granule index : ℕ) (row : Row) → IsEntry row → word_at pages granule index ≡ entry_word row → IsExact pages granule index
 exact_read pages granule index row is word = word ∙ sym (ap entry_word (entry_read pages granule index row is word))
 
--- one word, one entry
+-- equal words are decoded to equal entries
 pub same_entry : (pages new_pages : List (List ℕ)) (granule index : ℕ) → word_at new_pages granule index ≡ word_at pages granule index
     → entries_of new_pages granule index ≡ entries_of pages granule index
 unfolding entries_of
@@ -63,7 +63,7 @@ module _ (pages : List (List ℕ)) (flags : List Bool) (sized : IsSized pages fl
       word_at-with_word_other pages table index (entry_word row) within whole few granule other
       (⊎_elim (λ same. inr (λ at. apart (same, at))) (λ ne. inl ne) (cases_eq granule table)) lt
 
-  -- and one of a page that was as in other pages
+  -- a word of a page that was as in other pages
   pub word_as : (before : List (List ℕ)) (granule other : ℕ) → page_at pages granule ≡ page_at before granule → other < 512 → ((granule ≡ table) × (other ≡ index) → ⊥)
       → word_at new_pages granule other ≡ word_at before granule other
   word_as before granule other same lt apart = word_kept granule other lt apart ∙ ap (λ (page : List ℕ). word_of_page page other) same
@@ -88,7 +88,7 @@ module _ (pages new_pages : List (List ℕ)) (table first count : ℕ) (row : Ro
       (λ (ne : granule ≢ table). ap (λ (page : List ℕ). word_of_page page index) (others granule ne))
       (cases_eq granule table)
 
-  -- a word that was exact is so
+  -- a word that was exact stays exact
   pub exact_after : (granule index : ℕ) → index < 512 → IsExact pages granule index → IsExact new_pages granule index
   exact_after granule index few exact =
       let beside : ((granule ≡ table) × (first ≤ index) × (index < first + count) → ⊥) → IsExact new_pages granule index =

@@ -1,4 +1,4 @@
--- The invariant of a realm's tables, and what preserves it.
+-- The invariant of a realm's tables, and the conditions that preserve it.
 use Rattle.std.specs.Prelude.{◌≡◌, ◌≢◌, ℕ, ◌/◌, ◌<◌, ◌≤◌, Bool, false, List, length, Some}
 use Rattle.granule_addr.specs.Ipa.{covered_count, served_count}
 use Rattle.granule_addr.specs.Root.{served_space}

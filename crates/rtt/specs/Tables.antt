@@ -1,4 +1,4 @@
--- The rows that tables hold, over the entries in granules. RMM 1.0, Realm Translation Table.
+-- The rows of a realm's tables, as functions of the entries in granules. RMM 1.0, Realm Translation Table.
 use Rattle.std.specs.Prelude.{ℕ, zero, suc, ◌&&◌, ◌==◌, Bool, cond, nat_lt, nat_le, List, Option, Some, None, option_and_then}
 use Rattle.granule_addr.specs.Ipa.{first_covered, entry_index}
 use Rattle.granule_addr.specs.Root.{start_table, served_space}

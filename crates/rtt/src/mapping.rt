@@ -22,8 +22,9 @@ impl Tables {
     /// Maps a DELEGATED granule as a page of data at an IPA granule. The bytes of the page stay. The entry gets the
     /// given RIPAS, or keeps its own if none is given.
     ///
-    /// RMM 1.0, RMI_DATA_CREATE, with RIPAS RAM, and RMI_DATA_CREATE_UNKNOWN, with none. RMI_ERROR_RTT comes with the
-    /// level at which the walk ended, unless that is 3 and the entry there is UNASSIGNED. A refusal changes nothing.
+    /// RMM 1.0, RMI_DATA_CREATE, with RIPAS RAM, and RMI_DATA_CREATE_UNKNOWN, with none. The error is RMI_ERROR_RTT,
+    /// with the level at which the walk ended, unless that is 3 and the entry there is UNASSIGNED. A refusal changes
+    /// nothing.
     pub fn map<S: PageStore>(
         &self,
         store: &mut S,
@@ -70,8 +71,8 @@ impl Tables {
 
     /// Unmaps the page of data at an IPA granule. The page becomes zero and DELEGATED.
     ///
-    /// RMM 1.0, RMI_DATA_DESTROY. RMI_ERROR_RTT comes with the level at which the walk ended, unless that is 3 and the
-    /// entry there is ASSIGNED. A refusal changes nothing.
+    /// RMM 1.0, RMI_DATA_DESTROY. The error is RMI_ERROR_RTT, with the level at which the walk ended, unless that is 3
+    /// and the entry there is ASSIGNED. A refusal changes nothing.
     pub fn unmap<S: PageStore>(
         &self,
         store: &mut S,
@@ -119,8 +120,8 @@ impl Tables {
     /// Sets the RIPAS of `count` IPA granules to RAM. One table of level 3 serves all of them. A refusal changes
     /// nothing.
     ///
-    /// RMM 1.0, RMI_RTT_INIT_RIPAS. Refused with RMI_ERROR_RTT and the level at which the walk ended, unless that is 3
-    /// and all the entries are UNASSIGNED.
+    /// RMM 1.0, RMI_RTT_INIT_RIPAS. The error is RMI_ERROR_RTT, with the level at which the walk ended, unless that is
+    /// 3 and all `count` entries are UNASSIGNED.
     pub fn init_ripas<S: PageStore>(
         &self,
         store: &mut S,

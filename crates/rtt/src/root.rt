@@ -43,7 +43,7 @@ impl Tables {
     /// Clears the starting tables of a realm that is being destroyed. Makes them DELEGATED, and returns `true`. Returns
     /// `false`, and changes nothing, if and only if an entry of a starting table is TABLE.
     ///
-    /// RMM 1.0, RMI_REALM_DESTROY, which answers RMI_ERROR_REALM where this returns `false`.
+    /// RMM 1.0, RMI_REALM_DESTROY, whose error is RMI_ERROR_REALM if this returns `false`.
     pub fn close_root<S: PageStore>(&self, store: &mut S, granules: &mut GranuleTable) -> bool
         requires backed { IsBacked (S.page_bytes store.old) (S.free_flags store.old) granules.old }
         requires tables { HasTables (S.page_bytes store.old) granules.old self.now.rd self.now.root }

@@ -23,8 +23,8 @@ impl Tables {
     /// table's entries are UNASSIGNED, and have the RIPAS of the entry above. The level is 2 or 3, and `ipa` the first
     /// IPA granule that the table serves.
     ///
-    /// RMM 1.0, RMI_RTT_CREATE. RMI_ERROR_RTT comes with the level at which the walk ended, unless that is the level
-    /// above and the entry there is not TABLE. A refusal changes nothing.
+    /// RMM 1.0, RMI_RTT_CREATE. The error is RMI_ERROR_RTT, with the level at which the walk ended, unless that is the
+    /// level above and the entry there is not TABLE. A refusal changes nothing.
     pub fn create_table<S: PageStore>(
         &self,
         store: &mut S,
@@ -69,9 +69,9 @@ impl Tables {
     /// Destroys the translation table of the given level for an IPA granule. The table's page becomes zero and
     /// DELEGATED, and the entry above becomes UNASSIGNED and DESTROYED.
     ///
-    /// RMM 1.0, RMI_RTT_DESTROY. RMI_ERROR_RTT comes with the level at which the walk ended, unless that is the level
-    /// above and the entry there is TABLE. Then it comes with the table's level, unless its entries are all UNASSIGNED.
-    /// A refusal changes nothing.
+    /// RMM 1.0, RMI_RTT_DESTROY. The error is RMI_ERROR_RTT, with the level at which the walk ended, unless that is the
+    /// level above and the entry there is TABLE. In that case, the error is RMI_ERROR_RTT, with the table's level,
+    /// unless the table's entries are all UNASSIGNED. A refusal changes nothing.
     pub fn destroy_table<S: PageStore>(
         &self,
         store: &mut S,

@@ -1,4 +1,4 @@
--- Lists that get one more item.
+-- Proofs for loops over numbers: appending the items of the next number gives the list of all items so far.
 use Rattle.std.proofs.Common.{◌≡◌, ℕ, ◌+◌, ◌-◌, ◌≤◌, List, [], ◌∷◌, ◌++◌, sym, ap, ◌∙◌, subst, arith}
 use Rattle.std.specs.List.{flat_map, range_with_len, AllZip}
 use Rattle.std.proofs.lemmas.List.{flat_map_more}

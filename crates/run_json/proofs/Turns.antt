@@ -1,4 +1,4 @@
--- Turns that get one more.
+-- Proof that the turns of a document followed by one more turn are the turns of a longer run.
 use Rattle.std.proofs.Common.{ℕ, List, [], ◌∷◌, ◌++◌, length, refl, subst, ◌≤◌, take}
 use Rattle.std.proofs.lemmas.List.{take_all}
 use Rattle.std.specs.List.{flat_map}

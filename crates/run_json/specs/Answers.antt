@@ -1,4 +1,4 @@
--- An answer in numbers.
+-- The numbers that represent a host's answer to a turn.
 use Rattle.std.specs.Prelude.{ℕ, List, [], ◌∷◌, Bool, true, false}
 use Rattle.host_commands.specs.declared.refusal.Refusal.{Refusal}
 use Rattle.host_commands.specs.declared.refusal.Refusal.TheVariants as refusal

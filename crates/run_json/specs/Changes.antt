@@ -1,4 +1,5 @@
--- The granules, RECs and realms that an operation changes. Turns has the rows, and the fields of each.
+-- The granules, the REC and the realm that an operation changes. The changed rows are in `Turns`, with the fields of
+-- each item.
 use Rattle.std.specs.Prelude.{ℕ, ◌+◌, ◌-◌, ◌^◌, ◌==◌, if◌then◌else◌, List, [], Bool, true, false, Option, Some, None}
 use Rattle.granule_addr.specs.Root.{start_count}
 use Rattle.realm_model.specs.declared.act.Act.{Act}

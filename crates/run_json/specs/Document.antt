@@ -1,4 +1,4 @@
--- The document of a run.
+-- The JSON document of a plan's run: the machine's settings, the turns, and the state of the host after the last turn.
 use Rattle.std.specs.Prelude.{◌≡◌, ℕ, List, [], ◌∷◌, ◌++◌, length, option_map}
 use Rattle.host_ledger.specs.View.{HostView}
 use Rattle.realm_plan.specs.Plan.{Plan}

@@ -1,4 +1,4 @@
--- Granules, rows, RECs, pages and realms in a document: the host's readings.
+-- The JSON objects of granules, translation table rows, RECs, pages and realms, with the values that the host has.
 use Rattle.std.specs.Prelude.{◌≡◌, ℕ, List, sum, Option, Some, None, option_map}
 use Rattle.realm_model.specs.Machine.{cell_at}
 use Rattle.realm_model.specs.Places.{rd_of}

@@ -1,4 +1,4 @@
--- The text of a value in JSON.
+-- The JSON text that `serde_json` writes for a value.
 use Rattle.std.specs.Prelude.{ℕ, List, [], Some}
 use Rattle.serde.specs.Event.{Log}
 use Rattle.serde_json.specs.Sent.{IsTextOf}

@@ -1,4 +1,4 @@
--- A page around data in JSON.
+-- The HTML page that contains the JSON data of a run.
 use Rattle.std.specs.Prelude.{ℕ, List, [], ◌∷◌, ◌++◌, codes, ◌==◌, if◌then◌else◌}
 use Rattle.std.specs.List.{flat_map}
 use Rattle.run_json.specs.declared.template.TheConstants.{HEAD, TAIL}

@@ -1,5 +1,5 @@
--- The rows of a realm, as a document has them: where walks to level 3 end, from the first IPA granule on. RMM 1.0, RTT
--- walk, RTT entry.
+-- The translation table rows of a realm by ascending address, with equal neighbours of one table as one item. RMM 1.0,
+-- RTT walk, RTT entry.
 use Rattle.std.specs.Prelude.{◌≡◌, ℕ, ◌+◌, ◌-◌, ◌*◌, ◌<◌, ◌==◌, false, List, [], ◌∷◌, ◌++◌, if◌then◌else◌, Option, Some, None}
 use Rattle.std.specs.List.{flat_map, range_with_len}
 use Rattle.granule_addr.specs.Ipa.{covered_count}
@@ -9,7 +9,7 @@ use Rattle.realm_host.specs.Readings.{row_at}
 use Rattle.realm_host.specs.declared.reading.RowView.{RowView}
 use Rattle.run_json.specs.declared.items.RowItem.{RowItem}
 
--- ---- runs: rows of one table that say the same, one after another
+-- ---- runs: successive rows of one table with the same entry
 
 -- the first IPA granule after `count` rows, the first of which is this one
 abbrev pub first_after : RowView → ℕ → ℕ
@@ -40,7 +40,7 @@ beginning_at ipa None = []
 beginning_at ipa (Some row) = if row.first == ipa then record { row = row; count = 1 } ∷ [] else []
 
 -- The rows above this one that begin where it does, in rising level: the TABLE rows by which the walk to the first row
--- of a table comes to it.
+-- of a table reaches it.
 abbrev pub rows_above : World → ℕ → RowView → List RowItem
 rows_above world build row = flat_map (λ level. beginning_at row.first (row_at world build row.first level)) (range_with_len 1 (row.level - 1))
 

@@ -1,4 +1,4 @@
--- The JSON object of a turn: its step, its event, and what the event changed, in the state after the turn.
+-- The JSON object of a turn: its step, its event, and the objects that the event changed, as they are after the turn.
 use Rattle.std.specs.Prelude.{◌≡◌, ℕ, ◌+◌, ◌*◌, List, [], ◌∷◌, ◌++◌, length, nat_lt, if◌then◌else◌, Option, Some, None, slice_get, string_bytes}
 use Rattle.std.specs.List.{flat_map, range_with_len}
 use Rattle.granule_addr.specs.Root.{start_count}

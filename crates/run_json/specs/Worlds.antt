@@ -1,4 +1,4 @@
--- The items of a world in a document: all granules, and what each build has.
+-- The JSON object of the host's state: all granules, and the pages, open operations and realm of each build.
 use Rattle.std.specs.Prelude.{◌≡◌, ℕ, List, [], ◌∷◌, length, Option, Some, None}
 use Rattle.std.specs.List.{flat_map, range_with_len, AllZip}
 use Rattle.realm_model.specs.World.{free_set}

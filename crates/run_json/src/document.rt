@@ -101,7 +101,7 @@ fn turns_of<S: PageStore>(
     Ok(items)
 }
 
-/// Runs a plan on a host, and returns the JSON document of the run. An `Err` comes only if allocation failed.
+/// Runs a plan on a host, and returns the JSON document of the run. The one error is that allocation failed.
 pub fn run_document<S: PageStore>(
     alloc: Global,
     host: &mut Host<S>,

@@ -1,4 +1,4 @@
-//! The JSON objects for granules, rows of translation tables, RECs and pages. They are as the host has them.
+//! The JSON objects for granules, rows of translation tables, RECs and pages, with the values that the host has.
 ghost use Rattle.std.specs.Prelude.{◌≡◌, IfOk};
 ghost use Rattle.run_json.specs.Items.{granule_item, row_item, IsRecItem, page_item};
 
@@ -14,7 +14,7 @@ use realm_plan::state_word;
 use serde::{Described, Serialize, Serializer};
 use std::alloc::{AllocError, Global};
 
-/// The JSON object of a granule, with its state, build and realm. They are as the host has them.
+/// The JSON object of a granule: its number, and the state, build and realm that the host has for it.
 #[derive(Clone, Copy)]
 pub struct GranuleItem {
     pub granule: Gran,
@@ -42,8 +42,8 @@ pub fn granule_item<S: PageStore>(host: &Host<S>, granule: Gran) -> Option<Granu
     Some(GranuleItem { granule, view })
 }
 
-/// The JSON object of a series of equal rows in a realm's translation tables. The rows are at one level. It has the
-/// first row, and the number of rows.
+/// The JSON object of a series of equal rows at one level of a realm's translation tables: the first row and the number
+/// of rows.
 #[derive(Clone, Copy)]
 pub struct RowItem {
     pub row: RowView,
@@ -81,7 +81,7 @@ pub fn row_item<S: PageStore>(
     Some(RowItem { row, count })
 }
 
-/// The data of an existing REC in the REC's JSON object. They are its granule, its state and its auxiliary granules.
+/// The data of an existing REC in the REC's JSON object: its granule, its state and its auxiliary granules.
 #[derive(Drop)]
 pub struct RecView {
     pub granule: Gran,
@@ -89,7 +89,7 @@ pub struct RecView {
     pub auxiliaries: Vec<Gran>,
 }
 
-/// The JSON object of a REC. It has the REC's number, and the REC's data if the REC exists.
+/// The JSON object of a REC: the REC's number, and the REC's data if the REC exists.
 #[derive(Drop)]
 pub struct RecItem {
     pub number: RecNo,
@@ -114,7 +114,7 @@ impl Serialize for RecItem {
     }
 }
 
-/// Returns the JSON object of the REC with number `number` in a build's realm. It is as the host has the REC.
+/// Returns the JSON object of the REC with number `number` in a build's realm, with the values that the host has.
 pub fn rec_item<S: PageStore>(
     alloc: Global,
     host: &Host<S>,

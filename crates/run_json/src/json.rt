@@ -28,7 +28,7 @@ pub fn member<W: Serializer, T: Serialize>(
     value.serialize(out)
 }
 
-/// Converts a value to JSON text. An `Err` comes only if allocation failed.
+/// Converts a value to JSON text. The one error is that allocation failed.
 pub fn json_text<T: Serialize>(alloc: Global, value: &T) -> Result<String, AllocError>
     ensures { IfOk result (λ text. IsJsonOf (T.writes value.now) (string_bytes text)) }
 {

@@ -1,4 +1,4 @@
-//! The JSON members `mark` and `aborting` of a build. They are the build's mark, and whether the build is aborting.
+//! The JSON members `mark` and `aborting` of a build: the build's rollback mark, and whether the build is aborting.
 ghost use Rattle.std.specs.Prelude.{◌≡◌};
 ghost use Rattle.run_json.specs.Items.{build_kept};
 
@@ -8,9 +8,9 @@ use page_arena::PageStore;
 use realm_host::Host;
 use serde::Serializer;
 
-/// The part of the JSON object of a build, or of a turn, about the build's rollback mark and its abort. It has the
-/// mark, if there is one, and whether the build is aborting. `mark` is the number of operations that the build had open
-/// at its mark.
+/// The members of a build's or a turn's JSON object about the build's rollback mark and abort. They are the mark, if
+/// there is one, and whether the build is aborting. `mark` is the number of operations that the build had open at its
+/// mark.
 #[derive(Clone, Copy)]
 pub struct BuildKept {
     pub mark: Option<u16>,

@@ -1,7 +1,7 @@
-//! The run of a plan as a JSON document. It has the machine's size, each turn with its answer, event and changes, and
-//! the final machine.
+//! The run of a plan as a JSON document: the machine's size, each turn with its answer, event and changes, and the
+//! final machine.
 //!
-//! A document is a value. Its granules, rows, RECs and realms are what the host says: after each turn those that the
+//! A document is a value. Its granules, rows, RECs and realms are read from the host: after each turn those that the
 //! turn's event names (`specs/Turns.antt`), and all of them at the end. `serde_json` writes it; the words of its
 //! members are tested. Nothing here reads or writes a device. REALMVIEW.md says what each member means.
 #![tactic(auto)]

@@ -31,7 +31,7 @@ fn push_data(page: &mut Vec<u8>, json: &[u8]) -> Result<(), AllocError>
 
 /// Puts the JSON data of a run into the HTML page template. The page is the template's head, a script element with the
 /// data in JSON, and the template's tail. In the data each `<` is written as `\u003c`, so that the data cannot end the
-/// element. An `Err` comes only if allocation failed.
+/// element. The one error is that allocation failed.
 pub fn page_of(alloc: Global, json: &[u8]) -> Result<Vec<u8>, AllocError>
     ensures { IfOk result (λ page. page.items ≡ page_bytes json.now) }
 {

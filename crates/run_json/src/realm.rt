@@ -1,4 +1,4 @@
-//! The JSON object of a build's realm. It does not have the realm's rows and RECs.
+//! The JSON object of a build's realm, without the realm's translation table rows and RECs.
 ghost use Rattle.std.specs.Prelude.{◌≡◌};
 ghost use Rattle.run_json.specs.Items.{realm_item};
 

@@ -1,7 +1,7 @@
 //! The rows of a realm's translation tables, by ascending address.
 //!
-//! A walk to level 3 ends at a row that is not TABLE. The first walk is that of IPA granule 0. Each next walk is that of
-//! the first IPA granule after the previous row. `specs/Rows.antt` says which rows these are.
+//! A walk to level 3 ends at a row that is not TABLE. The first walk is that of IPA granule 0. Each next walk is that
+//! of the first IPA granule after the previous row. `specs/Rows.antt` says which rows these are.
 ghost use Rattle.std.specs.Prelude.{◌≡◌, ◌+◌, ◌↔◌, false, IsTrue, IfOk, OnOk, IfSome, IfNone, ◌++◌};
 ghost use Rattle.granule_addr.specs.Ipa.{covered_count, first_covered};
 ghost use Rattle.realm_model.specs.Rows.{is_table_place};
@@ -97,7 +97,7 @@ fn count_same<S: PageStore>(host: &Host<S>, build: BuildId, row: &RowView) -> (u
 }
 
 /// Returns the translation table rows of a build's realm, by ascending address. Each TABLE row comes before the rows of
-/// its table. Rows of one table that say the same, one after another, are one item.
+/// its table. Successive rows of one table with the same entry are one item.
 pub fn rows_of<S: PageStore>(
     alloc: Global,
     host: &Host<S>,

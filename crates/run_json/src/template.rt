@@ -1,7 +1,7 @@
-//! The parts of a run's HTML page that precede and follow the element of its data. `tools/page_template` makes this file
-//! of those in `page/`.
+//! The parts of a run's HTML page before and after the run's data. `tools/page_template` makes this file from the files
+//! in `page/`.
 
-/// The part of the HTML page that precedes the element of the run's data.
+/// The part of the HTML page before the run's data.
 pub const HEAD: &str = "<!DOCTYPE html>
 <html lang=\"en\">
 <head>
@@ -262,7 +262,7 @@ footer { margin-top: 18px; padding-top: 8px; color: var(--soft); font-size: 13px
 <noscript><p>This page draws its data by a script, which is switched off here.</p></noscript>
 ";
 
-/// The part of the HTML page that follows the element of the run's data.
+/// The part of the HTML page after the run's data.
 pub const TAIL: &str = "
 <script>
 \"use strict\";

@@ -1,4 +1,4 @@
--- Refusals of calls that need no block and no VMID. Other builds' operations do not decide them.
+-- Proof that other builds' operations do not affect the refusal of a call that needs no block and no VMID.
 use Rattle.std.proofs.Common.{◌≡◌, ℕ, ◌+◌, ◌-◌, Bool, true, false, not, List, [], ◌∷◌, ◌++◌, map, length, Option, Some, None, refl, sym, ap, ◌∙◌, eq-eqb}
 use Rattle.std.specs.Prelude.{nat_le, nat_lt, is_some, slice_get, slice_index, option_map, option_and_then}
 use Rattle.std.specs.List.{last_or, list_all, cons_option, filter_map, flat_map}
@@ -88,7 +88,7 @@ module _ (limits : Limits) (used fewer : List ℕ) (realm : Option Seen) (cells 
 
 -- ---- the checks before
 
--- what the checks of a build look at
+-- the facts that the checks of a build read
 abbrev summary_alone : ℕ → Bool → List ℕ → Bool → ℕ → ℕ → Bool → BuildsSummary
 summary_alone builds aborting pages realm opened room vmid = record {
   builds = builds;

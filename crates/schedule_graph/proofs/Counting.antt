@@ -1,4 +1,4 @@
--- The counts of paths.
+-- Proof that the path counts of a layer follow from the path counts of the next layer.
 use Rattle.std.proofs.Common.{◌≡◌, ℕ, zero, suc, ◌+◌, Bool, true, false, not, cond, ◌||◌, List, [], ◌∷◌, map, length, length-append, Vec, Global, vec_items, Some, None, refl, sym, ap, ◌∙◌}
 use Rattle.std.specs.Prelude.{sum_by, filter, slice_get, slice_index_or}
 use Rattle.std.specs.List.{flat_map}
@@ -11,7 +11,7 @@ use Rattle.schedule_graph.specs.declared.graph.Edge.{Edge}
 
 -- ---- a layer of counts
 
--- what holds of each state with edges holds of each state of a layer, and nothing counts where there is none
+-- what holds of each state with edges holds of each state of a layer, and a missing state has the count 0
 layer_at : {L : Type 0} (keep : List (Path L) → List (Path L)) → keep [] ≡ [] → (count : List (Edge L) → ℕ) (whole : List (Edge L) → List (Path L))
     → ((edges : List (Edge L)) → count edges ≡ length {A = Path L} (keep (whole edges)))
     → (layer : List (Vec (Edge L) Global)) (state : ℕ)

@@ -1,4 +1,4 @@
--- The first path like that, edge by edge.
+-- Proof that the first path with, or without, a label sought is found edge by edge from the path counts.
 use Rattle.std.proofs.Common.{◌≡◌, ℕ, zero, suc, ◌+◌, ◌<◌, ◌≤◌, Bool, true, false, cond, ◌||◌, List, [], ◌∷◌, ◌++◌, map, length, take, drop, drop-cons, append_assoc, add-one, Vec, Global, vec_items, Option, Some, None, refl, sym, ap, ◌∙◌, subst, arith}
 use Rattle.std.specs.Prelude.{filter, nat_lt, option_map, slice_index_or}
 use Rattle.std.specs.List.{find, flat_map}
@@ -21,7 +21,7 @@ find_none p (x ∷ xs) none =
       | false ↦ find_none p xs
     ]) none
 
--- it is found whatever comes after it
+-- it is found whatever follows it
 find_early : {X : Type 0} (p : X → Bool) (xs ys : List X) → 0 < length (filter p xs) → find p (xs ++ ys) ≡ find p xs
 find_early p [] ys some = absurd (omega (arith, some))
 find_early p (x ∷ xs) ys some =
@@ -97,7 +97,7 @@ module _ {L : Type 0} (is : L → Bool) (accept : Bool → Bool) where
     number_from : (edge : Edge L) (shown : Bool) → count_at (cond (on shown edge) with_it without_it) edge.to ≡ length (filter (like shown) (from edge))
     number_from edge shown = are (on shown edge) edge.to ∙ sym (count-onto edge (next edge.to) shown)
 
-    -- what comes of the edge that is next, if there is one
+    -- the first path by the next edge, if there is one
     abbrev pub by_next : Bool → Option (Edge L) → Option (Path L)
     by_next shown None = None
     by_next shown (Some edge) = option_map (λ (path : Path L). edge ∷ path) (find (like (on shown edge)) (next edge.to))
@@ -321,7 +321,7 @@ none_kept : {X : Type 0} (xs : List X) → filter (λ x. false) xs ≡ []
 none_kept [] = refl
 none_kept (x ∷ xs) = none_kept xs
 
--- no path is like that where none may be
+-- for a property that no path has, all path numbers are 0
 pub no_numbers : {L : Type 0} (layers : List (Layer L)) → ArePathNumbers {L = L} (λ path. false) layers []
 no_numbers {L} layers zero state = sym (ap length (none_kept (paths layers state)))
 no_numbers {L} layers (suc depth) state = sym (ap length (none_kept (paths (drop (suc depth) layers) state)))

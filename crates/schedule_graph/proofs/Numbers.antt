@@ -1,4 +1,4 @@
--- Numbers as decimal digits: one more digit, another digit, and the first digits.
+-- Facts about numbers as lists of decimal digits: appended digits, replaced digits, lowest digits and carries.
 use Rattle.std.proofs.Common.{◌≡◌, ℕ, zero, suc, ◌+◌, ◌*◌, ◌^◌, ◌/◌, ◌%◌, ◌<◌, List, [], ◌∷◌, ◌++◌, length, length-append, take, set, get_or, refl, ap, ◌∙◌, arith, mul_left_comm, mul_assoc, add-mul, add-one}
 use native.Mathlib.Nat.{pow-succ'}
 use Rattle.schedule_graph.specs.Number.{number_of}
@@ -84,6 +84,6 @@ alone : (n : ℕ) → number_of [] + n * 10 ^ 0 ≡ n
 unfolding number_of
 alone n = omega arith
 
--- what is pushed where there is no digit
+-- a number that is added to no digits
 pub from_none : (digits : List ℕ) (n : ℕ) → digits ≡ [] → number_of digits + n * 10 ^ length digits ≡ n
 from_none digits n none = ap (λ ds. number_of ds + n * 10 ^ length ds) none ∙ alone n

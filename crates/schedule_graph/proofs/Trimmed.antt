@@ -1,4 +1,4 @@
--- Digits without the zeros at the high end: they are those of the number.
+-- Proof that digits without leading zeros are the decimal digits of their number.
 use Rattle.std.proofs.Common.{◌≡◌, ℕ, zero, suc, ◌+◌, ◌*◌, ◌^◌, ◌/◌, ◌%◌, ◌<◌, ◌≤◌, ◌==◌, Bool, true, false, cond, List, [], ◌∷◌, ◌++◌, length, map, reverse, take, get_or, add-one, All, refl, sym, ap, subst, ◌∙◌, arith}
 use Rattle.std.specs.Str.{bytes_eq}
 use native.Mathlib.Nat.{pow-succ'}
@@ -66,7 +66,7 @@ trimmed_is (d ∷ digits) most small few = at (λ m below. trimmed_is digits m r
         fits zero most few more = omega arith
         fits (suc m) most few more = omega (arith, few)
 
--- ---- where the digits end
+-- ---- the end of the digits
 
 pow_positive : (k : ℕ) → 1 ≤ 10 ^ k
 pow_positive zero = omega arith

@@ -1,4 +1,4 @@
--- Graphs of the states of a plan's runs: each path is a run.
+-- Graphs whose states are positions of a plan's runs, and whose edges are turns of the plan.
 use Rattle.std.specs.Prelude.{◌≡◌, ℕ, List, [], ◌∷◌, map, Some, slice_get}
 use Rattle.std.specs.List.{AllByRecursion}
 use Rattle.realm_plan.specs.Plan.{Plan}

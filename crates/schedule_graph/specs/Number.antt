@@ -1,4 +1,4 @@
--- Numbers as decimal digits.
+-- The number that a list of decimal digits represents, and the decimal digits of a number.
 use Rattle.std.specs.Prelude.{ℕ, zero, suc, ◌+◌, ◌*◌, ◌/◌, ◌%◌, ◌==◌, if◌then◌else◌, List, [], ◌∷◌, map, reverse}
 
 -- the number that has these digits, the lowest first

@@ -1,4 +1,4 @@
--- The paths of a graph by layers, and how many there are.
+-- The paths of a layered graph, and the number of paths from each state.
 use Rattle.std.specs.Prelude.{◌≡◌, ℕ, Bool, not, cond, List, [], ◌∷◌, map, filter, length, sum_by, Some, None, slice_get, slice_index_or}
 use Rattle.std.specs.List.{flat_map, list_any}
 use Rattle.schedule_graph.specs.declared.graph.Edge.{Edge}

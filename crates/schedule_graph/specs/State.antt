@@ -1,4 +1,5 @@
--- Positions of runs that are one state: no further turn distinguishes them.
+-- Equivalence of run positions: each build has the same events, progress and abort flag, and the same way back to its
+-- mark.
 use Rattle.std.specs.Prelude.{◌≡◌, ℕ, Bool, false, List, map, Option, Some, None, option_map}
 use Rattle.host_ledger.specs.declared.mark.Mark.{Mark}
 use Rattle.realm_host.specs.Interleaving.{DifferInInterleaving}

@@ -1,10 +1,10 @@
--- Granules of which none is free.
+-- Proof that no granule is free if none of the free flags is set.
 use Rattle.std.proofs.Common.{◌≡◌, ℕ, zero, suc, List, [], ◌∷◌, Bool, true, false, refl, length}
 use Rattle.std.proofs.Math.Nat.{suc-ne-zero}
 use Rattle.std.specs.List.{filter}
 use Rattle.page_arena.specs.Page.{is_free}
 
--- where no flag says free, none of the granules is
+-- if no flag is set, no granule is free
 pub none_is_free : (flags : List Bool) (granule : ℕ) → length (filter (λ (flag : Bool). flag) flags) ≡ 0 → is_free flags granule ≡ false
 none_is_free [] granule none = refl
 none_is_free (true ∷ flags) granule none = absurd (suc-ne-zero (length (filter (λ (flag : Bool). flag) flags)) none)

@@ -1,4 +1,4 @@
-//! Input and output devices in memory. They count their calls, and can fail at a chosen call.
+//! Input and output devices in memory, which count their calls and can fail at a chosen call.
 ghost use Rattle.std.specs.Prelude.{◌≡◌, false};
 
 use checked_io::Told;
@@ -54,7 +54,7 @@ pub(crate) struct Sink {
 }
 
 impl Sink {
-    /// Whether exactly these bytes were written to the output.
+    /// Whether exactly the given bytes were written to the output.
     pub(crate) fn has(&self, bytes: &[u8]) -> bool {
         self.got.as_slice() == bytes
     }
@@ -182,8 +182,8 @@ pub(crate) struct Outcome<'a> {
 }
 
 impl<'a> Outcome<'a> {
-    /// Creates the expected outcome of a program that prints `text` and succeeds. It prints all of `text` in `writes`
-    /// writes.
+    /// Creates the expected outcome of a program that prints `text` and succeeds. The program prints all of `text` in
+    /// `writes` writes.
     pub(crate) fn printed(text: &'a [u8], writes: u64) -> Outcome<'a> {
         Outcome {
             end: Ok(()),

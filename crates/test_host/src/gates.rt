@@ -1,4 +1,4 @@
-//! Gates (turn schedulers) at which builds wait for one another, or in vain.
+//! Gates (turn schedulers) at which builds wait for one another, or are stopped.
 use builders::{Gate, Stuck};
 use granule_addr::BuildId;
 use std::sync::atomic::{AtomicU64, Ordering};

@@ -1,4 +1,5 @@
-//! Guests: builds that share a host in a test. Each has a seat, and their steps differ only in a fill value.
+//! Guests: builds that share a host in a test. Each guest has a seat, and the guests' steps differ only in a fill
+//! value.
 use crate::steps::{STEPS, guest_steps};
 use crate::tellers::Refusing;
 use builders::{Gate, Ledgers, Report, Seat, SeatTeller, Shared, work};

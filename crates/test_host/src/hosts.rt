@@ -1,4 +1,4 @@
-//! Boots, shares and closes hosts for tests. If a host is not made, the test is aborted, so nothing is dropped there.
+//! Boots, shares and closes hosts for tests. If a host cannot be made, the test is aborted, and no value is dropped.
 ghost use Rattle.std.specs.Prelude.{◌≡◌, [], true, length, replicate};
 ghost use Rattle.granule_addr.specs.Page.{zero_page};
 ghost use Rattle.build_seats.specs.Names.{AreNamed};

@@ -5,8 +5,8 @@
 //! out by hand or by another tool. A proof cannot see a mistake that a definition and the code share.
 //!
 //! Runs: hosts that builds share, workers in threads, and the parts of the programs over devices in memory. The answers
-//! of calls are proved, and what a worker does after a refusal. These tests are for the rest. Each worker has a thread
-//! of its own, threads come to their end, and a device is asked as often as it has to be.
+//! of calls are proved, and so are the operations of a worker after a refusal. These tests are for the rest: each
+//! worker has a thread of its own, each thread ends, and a device is called as often as it has to be.
 //!
 //! Steps are spelled as in a plan, and expected values are rows of tables. One proved function runs the rows of a
 //! table, and names the case and the row that fails. Each function of a test is proved, and a row costs next to

@@ -1,4 +1,4 @@
-//! Lines that tests expect in workers' reports. They are written with plain numbers.
+//! Lines that tests expect in workers' reports, written with plain numbers.
 use crate::expected::{equal, holds_at};
 use builders::{Answer, Asked, ReportLine};
 use granule_addr::RecNo;

@@ -1,4 +1,4 @@
-//! Tests that replay a plan and check its output. The replays are over bytes in memory, and over devices that fail.
+//! Tests that replay a plan and check the output. The replays use devices in memory, some of which fail.
 use crate::devices::{Devices, Outcome};
 use granule_addr::BuildId;
 use realm_plan::PlanFault;

@@ -1,5 +1,5 @@
-//! Tests that run the builds of a plan in threads. The runs are over bytes in memory, over devices that fail, and at
-//! gates.
+//! Tests that run the builds of a plan in threads. The runs use devices in memory, some of which fail, and gates that
+//! let builds wait.
 use crate::devices::{Devices, Outcome};
 use crate::expected::equal;
 use crate::gates::{ForBuild0, MeetingGate};

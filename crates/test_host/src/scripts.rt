@@ -1,5 +1,5 @@
-//! Tests that run scripts of host calls, with both `PlainStore` and `BuddyArena`. They have calls that no plan makes,
-//! or whose answers no plan prints.
+//! Tests that run scripts of host calls, with both `PlainStore` and `BuddyArena`. The scripts have calls that no plan
+//! makes, or whose answers no plan prints.
 use crate::calls::{AcceptedAnswer, Call, Command, No, Script, Which, over_both};
 use realm_host::{GranuleState, Kind, RealmState};
 

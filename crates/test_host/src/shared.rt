@@ -1,5 +1,5 @@
-//! Tests of a host that several builds share. They check the answers that the host's seats get, and the closing of the
-//! host.
+//! Tests of a host that several builds share. The tests check the answers that the host's seats get, and the closing of
+//! the host.
 ghost use Rattle.std.specs.Prelude.{◌≡◌, []};
 ghost use Rattle.build_seats.specs.Names.{AreNamed};
 

@@ -1,6 +1,6 @@
 //! Tests of the words in translation tables, with both `PlainStore` and `BuddyArena`.
 //!
-//! The words come and go with a realm's tables and its page.
+//! The words are written and cleared as a realm's tables and its page are made and removed.
 ghost use Rattle.std.specs.Prelude.{◌≡◌, true, length, replicate};
 ghost use Rattle.granule_addr.specs.Page.{zero_page};
 ghost use Rattle.rmi_monitor.specs.View.{IsTaken};

@@ -7,8 +7,8 @@ use realm_host::{Cmd, Mark, Refusal, Reply, Undone};
 use realm_model::Rmi;
 use std::sync::Wait;
 
-/// A host client that refuses at most one of its worker's requests itself. It does not ask the host that question. It
-/// passes all other questions on to a seat. Questions are numbered from 0.
+/// A host client that itself refuses at most one of its worker's requests, without asking the host. All other requests
+/// are passed on to a seat. Requests are numbered from 0.
 #[derive(Drop)]
 pub struct Refusing<'a, R: Wait, S: PageStore, L: Ledgers> {
     pub teller: SeatTeller<'a, R, S, L>,

@@ -1,5 +1,5 @@
-//! Tests of workers that share a host, each in its own thread. They check the workers' reports, and the build that is
-//! named if a worker is stuck.
+//! Tests of workers that share a host, each in its own thread. The tests check the workers' reports, and the build that
+//! is named if a worker is stuck.
 ghost use Rattle.std.specs.Prelude.{◌≡◌, [], All};
 ghost use Rattle.build_seats.specs.Names.{AreNamed};
 

@@ -17,7 +17,8 @@ pub enum Waiting {
     ForBuild1,
 }
 
-/// A turn scheduler under which three builds wait for one another. It counts the turns that each build has passed.
+/// A turn scheduler under which three builds wait for one another. The scheduler counts the turns that each build has
+/// passed.
 #[derive(Drop)]
 pub struct Turns<'a, C: Clock> {
     clock: &'a C,

@@ -1,4 +1,4 @@
-//! The calls that the test makes to a host.
+//! The calls to a host with which the handling of failed allocations is tested.
 use crate::boot::booted;
 use crate::{Fault, tell};
 use arrayvec::ArrayVec;
@@ -99,7 +99,7 @@ fn realm_command(turn: u8, offset: PageOff) -> Cmd {
     }
 }
 
-/// The number of commands in the sequence of `command`.
+/// The number of commands in the test's sequence, which the function `command` returns one by one.
 pub(crate) const TURNS: u8 = 22;
 
 // Asks for the number of open operations above a mark, and then rolls the build back to the mark.
@@ -141,8 +141,8 @@ fn read_all(host: &Host<BuddyArena>, build: BuildId) -> u32 {
     seen.saturating_add(u32::from(has_realm))
 }
 
-/// Boots a host, and makes the test's calls for its two builds. An abort of one of them begins, and ends after one undo
-/// by a call that undoes the rest; the other stays.
+/// Boots a host, and makes the test's calls for the host's two builds. The abort of the second build begins with one
+/// undo, and ends with a call that undoes the rest. The first build stays.
 pub(crate) fn all_calls(rt: &impl Print, alloc: Global) -> Result<Host<BuddyArena>, Fault> {
     let mut host = booted(rt, alloc)?;
     let mut tally = Tally::new();

@@ -1,10 +1,10 @@
-//! A program that tests the allocations of a host, and the handling of failed ones. It is for two properties: a call
-//! hands its arguments back if an allocation fails, and no call on a host or a seat allocates memory. A plan on
+//! A program that tests the allocations of a host, and the handling of failed allocations. Two properties are tested: a
+//! call hands its arguments back if an allocation fails, and no call on a host or a seat allocates memory. A plan on
 //! standard input is replayed over the plain store instead, and a script of calls made in registers is performed and
 //! measured.
 //!
 //! `tests/test_allocations.py` refuses each allocation of this program in turn. A host is then booted or shared, or a
-//! worker built, at the second try, from what came back of the first. The test counts the allocations between a line
+//! worker built, at the second try, from what the first try handed back. The test counts the allocations between a line
 //! `quiet` and the line after it, and compares the times of the last three such parts.
 #![tactic(auto)]
 

@@ -1,4 +1,5 @@
-//! Scripts of operations on an RMM. A script has a scene, and parts that are performed and timed in each round.
+//! Scripts of operations on an RMM. A script has operations that are performed once at the beginning (the scene), and
+//! parts that are timed in each round.
 //!
 //! Standard output is a sum of the results of all operations. Standard error has a line for each part: the least
 //! processor time of a round, in nanoseconds. `bench/rmm` has the scripts, and plain Rust beside it.
@@ -149,7 +150,7 @@ fn measure(
     Ok(())
 }
 
-/// Whether an input begins with `machine`, as a script does. No plan begins so.
+/// Whether an input begins with `machine`, as every script does and no plan does.
 pub(crate) fn is_script(bytes: &[u8]) -> bool {
     bytes.starts_with(b"machine ")
 }

@@ -1,4 +1,5 @@
--- The lines on checks that failed, one after another.
+-- Proofs that the explanation of a refused call begins with the first failed check, as its lines are appended one by
+-- one.
 use Rattle.std.proofs.Common.{◌≡◌, ℕ, Bool, true, false, List, [], ◌∷◌, ◌++◌, refl, sym, ap, ◌∙◌, subst, append_assoc, append-nil, ◌+◌, ◌<◌, suc, length, get_or, drop, add-one, drop-cons, ◌⊎◌, inl, inr}
 use Rattle.rmm_checks.specs.declared.evaluated.CheckOutcome.{CheckOutcome}
 use Rattle.rmm_checks.specs.declared.evaluated.CheckOutcome.TheVariants.{NotMade, Passed, Failed}
@@ -24,13 +25,13 @@ extends_front old begin new e = extends_on old (old ++ begin) new (begin, refl) 
 
 -- ---- the checks that failed
 
--- nothing is told, since no check failed before those that are left
+-- nothing is appended yet, since no check failed before those that are left
 pub record IsUntold (rows left : List EvaluatedCheck) (is_first : Bool) (begun text : List ℕ) : Type 0 where
   pub is_none : is_first ≡ true
   pub same : first_failed left ≡ first_failed rows
   pub nothing : text ≡ begun
 
--- Nothing is told yet, or the decision of the checks is.
+-- Nothing is appended yet, or the check that decides is.
 abbrev pub Tells : (rows left : List EvaluatedCheck) → (is_first : Bool) (begun text : List ℕ) → Type 0
 Tells rows left is_first begun text = IsUntold rows left is_first begun text ⊎ Extends (begun ++ decision_text (first_failed rows)) text
 
@@ -57,12 +58,12 @@ module _ (rows : List EvaluatedCheck) (row : EvaluatedCheck) (left : List Evalua
   })
   on_by Passed is (inr told) fails other = inr (extends_on _ text new told (extends_same text new (other refl).1))
 
-  -- a check more
+  -- one more check
   pub tells_on : Tells rows (row ∷ left) is_first begun text → (is_failure row.outcome ≡ true → Extends (text ++ failed_text is_first row.condition) new)
       → (is_failure row.outcome ≡ false → (next ≡ is_first) × (new ≡ text)) → Tells rows left next begun new
   tells_on t fails other = on_by row.outcome refl t fails other
 
--- a check more, at its place
+-- one more check, at its place
 pub tells_at : (rows : List EvaluatedCheck) (i : ℕ) (d : EvaluatedCheck) (is_first next : Bool) (begun text new : List ℕ) → i < length rows → Tells rows (drop i rows) is_first begun text
     → (is_failure (get_or rows i d).outcome ≡ true → Extends (text ++ failed_text is_first (get_or rows i d).condition) new)
     → (is_failure (get_or rows i d).outcome ≡ false → (next ≡ is_first) × (new ≡ text)) → Tells rows (drop (i + 1) rows) next begun new

@@ -1,4 +1,4 @@
--- The lines that are taken of the front of a part.
+-- The invariant of the loop that takes the lines of a trace from the front of a part of the input.
 use Rattle.std.proofs.Common.{◌≡◌, ℕ, ◌<◌, true, false, List, [], ◌∷◌, ◌++◌, length, refl, sym, ◌∙◌, ap, subst, append_assoc, append-nil, arith, length-append}
 use Rattle.std.specs.Prelude.{Some, None}
 use Rattle.command_line.specs.declared.rmitrace.TraceSubcommand.{TraceSubcommand}
@@ -10,7 +10,7 @@ use Rattle.trace_program.proofs.Parts.{cut_none, cut_some, no_feed_before}
 use Rattle.trace_program.proofs.Taken.{done_taken, line_taken, part_taken}
 
 module _ (asked : TraceSubcommand) (source : List ℕ) (first : Session) (begun texts : List ℕ) where
-  -- what is taken before a part is taken with the front of the part
+  -- if lines are taken of the bytes before a part, then also of these bytes with the front of the part
   abbrev pub FrontTaken : List ℕ → Session → (line text : List ℕ) → Type 0
   FrontTaken front s line text = (read written : List ℕ) → IsTraceLineTaken asked source read written first begun texts → IsTraceLineTaken asked source (read ++ front) written s line text
 
@@ -41,7 +41,7 @@ pub line_split : (part front rest after : List ℕ) → part ≡ front ++ rest �
 line_split part front rest after split some =
     split ∙ ap (λ (x : List ℕ). front ++ x) (cut_some rest after some) ∙ sym (append_assoc front (before_mark 10 rest ++ 10 ∷ []) after)
 
--- what is after a line is shorter
+-- the rest of a text after a line is shorter
 pub after_shorter : (rest after : List ℕ) → after_mark 10 rest ≡ Some after → length after < length rest
 after_shorter rest after some =
     let all = ap length (cut_some rest after some) in

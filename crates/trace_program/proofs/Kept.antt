@@ -1,11 +1,11 @@
--- The bytes that are kept of a line, part after part.
+-- Proofs that the bytes kept of a line, at most 65,537, do not depend on the parts in which the line is read.
 use Rattle.std.proofs.Common.{◌≡◌, ℕ, ◌+◌, ◌-◌, ◌<◌, ◌≤◌, List, [], ◌∷◌, ◌++◌, length, take, sym, ap, ◌∙◌, subst, arith, append-nil, inl, inr, ltb, ltb-true, ltb-false}
 use Rattle.std.proofs.lemmas.Bool.{cases_Bool}
 use Rattle.std.proofs.lemmas.List.{take_all, take-append-le, length-take}
 use Rattle.std.proofs.Math.Seq.{take-append-add}
 use Rattle.trace_program.specs.Reading.{kept_of_line}
 
--- all of a short list is kept, and as much of the part as there is room for
+-- all of a short list is kept, and as much of the part as fits
 short_kept : (n room : ℕ) (rest part : List ℕ) → length rest + room ≡ n → rest ++ take room part ≡ take n (rest ++ part)
 short_kept n room rest part is = sym (ap (λ k. take k (rest ++ part)) (sym is) ∙ take-append-add rest part room)
 

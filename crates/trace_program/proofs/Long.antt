@@ -1,4 +1,4 @@
--- A check that cannot count a line has read as many bytes.
+-- A proof that a check which cannot count another line has read at least 2^64 - 1 bytes.
 use Rattle.std.proofs.Common.{◌≡◌, ℕ, ◌+◌, ◌-◌, ◌<◌, ◌≤◌, ◌==◌, List, [], ◌∷◌, ◌++◌, length, map, refl, sym, ap, subst, ◌∙◌, arith, zero-le, length-append, inl, inr}
 use Rattle.std.specs.Prelude.{◌^◌, Result, Ok, Err, IsErrAnd}
 use Rattle.std.proofs.lemmas.List.{length-map}

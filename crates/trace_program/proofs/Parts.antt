@@ -1,4 +1,4 @@
--- The parts between line feeds, one byte or one part after another.
+-- Lemmas on the split of a text at line feeds, when a byte or a part is appended to the text.
 use Rattle.std.proofs.Common.{◌≡◌, ℕ, ◌<◌, ◌==◌, Bool, true, false, cond, not, List, [], ◌∷◌, ◌++◌, length, refl, sym, ap, ◌∙◌, subst, append_assoc, append-nil, arith, length-append, true-eqb, inl, inr}
 use Rattle.std.specs.Prelude.{Option, Some, None}
 use Rattle.std.specs.List.{list_all, onto_first}

@@ -1,4 +1,4 @@
--- Calls that are not refused.
+-- A proof that no checks are evaluated for a reply that refuses no call.
 use Rattle.std.proofs.Common.{◌≡◌, ℕ, List, refl, ap}
 use Rattle.std.specs.Prelude.{Option, Some, None, option_and_then}
 use Rattle.rmm_model.specs.Machine.{Machine}

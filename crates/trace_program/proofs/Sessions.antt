@@ -1,10 +1,10 @@
--- Sessions with a line more, and those that are done.
+-- Proofs that a session can take one more line, and that a check which is done ignores further lines.
 use Rattle.std.proofs.Common.{◌≡◌, ℕ, Bool, true, false, List, [], ◌∷◌, ◌++◌, refl, sym, ap, ◌∙◌, subst, append_assoc, append-nil, inl, inr}
 use Rattle.command_line.specs.declared.rmitrace.TraceSubcommand.{TraceSubcommand}
 use Rattle.trace_program.specs.declared.session.Session.{Session}
 use Rattle.trace_program.specs.Session.{IsLineText, IsSession, after_line, is_check_done}
 
--- a session that was done stays so
+-- a test is not both true and false
 pub not_both : (b : Bool) → b ≡ true → b ≡ false → ⊥
 not_both true e f = absurd (cc)
 not_both false e f = absurd (cc)

@@ -1,4 +1,4 @@
--- The lines that are taken, one part of the input after another.
+-- Proofs that the lines of a trace are taken one after another while the input is read in parts.
 use Rattle.std.proofs.Common.{◌≡◌, ℕ, ◌<◌, Bool, true, false, List, [], ◌∷◌, ◌++◌, length, map, refl, sym, ap, ◌∙◌, subst, append_assoc, append-nil, arith}
 use Rattle.std.proofs.lemmas.List.{map-append}
 use Rattle.checked_io.specs.Lines.{lines_in, parts_of, without_empty_last}
@@ -36,7 +36,7 @@ module _ (asked : TraceSubcommand) (source : List ℕ) where
       session = t.session;
     }
 
-    -- a line more in a session
+    -- one more line in a session
     more_session : (lines : List (List ℕ)) (kept whole new : List ℕ) (after : Session) → is_check_done asked s ≡ false → IsSession asked source fresh_session (map kept_of_line lines) (written ++ text) s
         → kept ≡ kept_of_line whole → TakesLine asked source kept s after text new → IsSession asked source fresh_session (map kept_of_line (lines ++ whole ∷ [])) (written ++ new) after
     more_session lines kept whole new after going is keeps k =
@@ -60,7 +60,7 @@ module _ (asked : TraceSubcommand) (source : List ℕ) where
       session = more_session t.lines kept (r.rest ++ part) new after going t.session (keeps r.rest r.is_kept) k;
     }
 
-    -- what is read after it is done changes nothing
+    -- bytes that are read after the check is done change nothing
     pub done_taken : (more : List ℕ) → is_check_done asked s ≡ true → IsTraceLineTaken asked source (read ++ more) written s line text
     done_taken more done = let g = grows_more read more t.lines (record { left = t.left; cut = t.cut; some = t.some }) in record {
       lines = t.lines;

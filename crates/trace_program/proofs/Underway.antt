@@ -1,4 +1,4 @@
--- An input that is being read, and its end.
+-- Proofs on the run of a trace after each read of its input, at the end of the input, and at an error.
 use Rattle.std.proofs.Common.{◌≡◌, ℕ, ◌≤◌, Bool, true, false, not, Result, Ok, Err, IfOk, OnOk, OnErr, List, [], ◌∷◌, ◌++◌, ◌&&◌, length, map, Option, Some, None, refl, sym, ap, ◌∙◌, subst, append_assoc, append-nil, ◌⊎◌, inl, inr}
 use Rattle.std.proofs.lemmas.List.{map-append}
 use Rattle.std.proofs.lemmas.Result.{on_err_weaker}
@@ -25,7 +25,7 @@ consumes_keeps (Some xs) None c front h k = absurd h
 consumes_keeps (Some xs) (Some ys) None front h k = absurd k
 consumes_keeps (Some xs) (Some ys) (Some zs) front h k = h ∙ ap (λ t. front ++ t) (sym k)
 
--- a read that gives nothing
+-- a read that returns no bytes
 consumes_nothing : (left after : Option (List ℕ)) (part : List ℕ) → part ≡ [] → Consumes left after part → Keeps left after
 consumes_nothing None after part none h = tt
 consumes_nothing (Some xs) None part none h = absurd h
@@ -55,12 +55,12 @@ whole_front old new text written = record { front = text; rest = []; split = sym
 pub nothing_front : (old : Option (List ℕ)) (text : List ℕ) → AppendsFront old old text
 nothing_front old text = record { front = []; rest = text; split = refl; grows = appends_none old }
 
--- what is taken of bytes and no text is taken of a text that is empty
+-- a property of lines that are taken with an empty text holds of lines that are taken with no text
 pub from_no_text : (asked : TraceSubcommand) (source : List ℕ) (s : Session) (line text : List ℕ) (P : List ℕ → List ℕ → Type 0) → text ≡ []
     → ((read written : List ℕ) → IsTraceLineTaken asked source read written s line text → P read written) → (read written : List ℕ) → IsTraceLineTaken asked source read written s line [] → P read written
 from_no_text asked source s line text P empty takes read written t = takes read written (subst (λ (x : List ℕ). IsTraceLineTaken asked source read written s line x) (sym empty) t)
 
--- no line is taken, so it is not done
+-- no line is taken, so the check is not done
 none_done : (stops : Bool) → (stops && false) ≡ false
 none_done true = refl
 none_done false = refl
@@ -100,7 +100,7 @@ module _ (asked : TraceSubcommand) (source : List ℕ) (input left old new : Opt
       appended = appends_more old new newer u.written told u.appended appended;
     }
 
-    -- a part more
+    -- one more part
     pub read_more : (count : ℕ) (left_after : Option (List ℕ)) (part : List ℕ) → Consumes left left_after part → count ≤ length (u.read ++ part) → HasRead count input left_after
     read_more count left_after part consumed at_least =
         record { read = u.read ++ part; consumed = consumes_more input left left_after u.read part u.consumed consumed; at_least = at_least }
@@ -129,7 +129,7 @@ module _ (asked : TraceSubcommand) (source : List ℕ) (input left old new : Opt
       written = subst (λ (x : List ℕ). Appends old new x) (sym (append-nil u.written)) u.appended;
     }
 
-    -- a read after which there may be more, or after which it is done
+    -- a read after which the run goes on, or is done
     pub reads_on : (done : Bool) → done ≡ is_check_done asked s → ReadsOn (not done) asked source input left old new s line
     reads_on true is = over_when_done (sym is)
     reads_on false is = (u, sym is)

@@ -1,4 +1,4 @@
--- The counts of the lines of a trace, and the verdict on it.
+-- The number of trace lines with each verdict, and the verdict on a whole trace.
 use Rattle.std.specs.Prelude.{ℕ, ◌+◌, ◌-◌, ◌^◌, ◌≤◌, ◌⊎◌, nat_lt, if◌then◌else◌, List, ◌++◌, codes, decimal}
 use Rattle.trace_program.specs.declared.counts.Counts.{Counts}
 use Rattle.trace_program.specs.declared.counts.LineVerdict.{LineVerdict}

@@ -1,4 +1,4 @@
--- The verdict on a line.
+-- The verdict on a line of a trace: the same answer, an allowed refusal, a wrong answer, or not compared.
 use Rattle.std.specs.Prelude.{ℕ, ◌==◌, nat_le, Bool, true, false, not, ◌&&◌, ◌||◌, if◌then◌else◌, List, [], ◌∷◌, codes, Option, Some, None, unwrap_or}
 use Rattle.std.specs.List.{list_any}
 use Rattle.std.specs.Str.{bytes_eq}

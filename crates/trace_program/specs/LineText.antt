@@ -1,4 +1,4 @@
--- The texts of lines with their answers.
+-- The output text for a trace line: the line with its answer, or rewritten with the names of commands and outputs.
 use Rattle.std.specs.Prelude.{ℕ, ◌==◌, if◌then◌else◌, List, [], ◌∷◌, ◌++◌, codes, drop, length, Option, Some, None, option_and_then}
 use Rattle.std.specs.List.{slice_split}
 use Rattle.rmm_trace.specs.declared.line.RmmTraceLine.{RmmTraceLine}

@@ -1,4 +1,4 @@
--- The reading of a trace.
+-- The run of a trace: the lines read from the input and the text written for them, up to the end or an error.
 use Rattle.std.specs.Prelude.{◌≡◌, ℕ, ◌<◌, ◌≤◌, Bool, true, false, List, [], ◌∷◌, ◌++◌, length, map, take, Option, ◌⊎◌}
 use Rattle.std.specs.Io.KnownBytes.{Appends, Consumes, IsAtEnd}
 use Rattle.checked_io.specs.Lines.{lines_in, parts_of}
@@ -11,8 +11,8 @@ use Rattle.trace_program.specs.declared.session.Session.{Session}
 use Rattle.trace_program.specs.Counting.{summary_text, trace_verdict}
 use Rattle.trace_program.specs.Session.{IsSession, fresh_session, is_check_done}
 
--- The bytes of a line that are kept. They are one more than a question may have, so a line that is too long is seen to
--- be.
+-- The bytes of a line that are kept. They are one more than a question may have, so a line that is too long is
+-- recognized.
 unfoldable pub kept_of_line : List ℕ → List ℕ
 kept_of_line line = take 65537 line
 
@@ -97,7 +97,8 @@ abbrev pub verdict_asked : TraceSubcommand → Session → TraceVerdict
 verdict_asked (asks.Check asked) s = trace_verdict s.counts
 verdict_asked _ s = Agrees
 
--- A run: each line that was read is taken, until it is done. What is written is the text of each line, and the counts of a check.
+-- A run: each line that was read is taken, until it is done. The text of each line is written, and the counts of a
+-- check.
 pub record IsTraceRun (asked : TraceSubcommand) (source : List ℕ) (input left old new : Option (List ℕ)) (verdict : TraceVerdict) : Type 0 where
   pub read : List ℕ
   pub consumed : Consumes input left read
@@ -108,7 +109,7 @@ pub record IsTraceRun (asked : TraceSubcommand) (source : List ℕ) (input left 
   pub is_verdict : verdict ≡ verdict_asked asked last
   pub written : Appends old new (text ++ last_text asked last)
 
--- A run that stops at an error: a prefix of the text for the first lines was written. For a check, the counts come last
+-- A run that stops at an error: a prefix of the text for the first lines was written. For a check, the counts are last
 -- in that text.
 pub record IsCutShort (asked : TraceSubcommand) (source : List ℕ) (input left old new : Option (List ℕ)) : Type 0 where
   pub read : List ℕ

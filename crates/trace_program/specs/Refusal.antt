@@ -1,4 +1,4 @@
--- The reasons for a refused call.
+-- The text that explains a refused call, which begins with the check that decides.
 use Rattle.std.specs.Prelude.{◌≡◌, ℕ, Bool, true, false, List, [], ◌++◌, codes, Option, Some, None}
 use Rattle.rmm_model.specs.declared.answer.FailedCondition.{FailedCondition}
 use Rattle.rmm_model.specs.declared.condition.Condition.{Condition}

@@ -1,4 +1,4 @@
--- A session: the lines of a trace, one after another.
+-- A session that takes the lines of a trace one after another, and the text that is written for each line.
 use Rattle.std.specs.Prelude.{◌≡◌, ℕ, nat_lt, ◌&&◌, if◌then◌else◌, Bool, true, false, List, [], ◌∷◌, ◌++◌, codes, decimal, Option, Some, None, option_and_then, ◌⊎◌}
 use Rattle.command_line.specs.declared.rmitrace.Comparison.{Comparison}
 use Rattle.command_line.specs.declared.rmitrace.TraceSubcommand.{TraceSubcommand}

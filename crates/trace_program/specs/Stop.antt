@@ -1,4 +1,4 @@
--- The exit status of the program.
+-- The exit status of `rmitrace`, by the verdict on the trace or the error that stopped the run.
 use Rattle.std.specs.Prelude.{◌≡◌, ◌⊎◌, ℕ, Result}
 use Rattle.command_line.specs.Ended.{status_of_end}
 use Rattle.command_line.specs.declared.ended.Ended.{Ended}

@@ -9,8 +9,8 @@ use std::fmt;
 /// The verdict on a trace line, by which the line is counted.
 #[derive(Clone, Copy)]
 pub enum LineVerdict {
-    /// A trace line whose answer is not compared with the model's. It is a remark, a command without a written answer,
-    /// or a line that the comparison leaves out.
+    /// A trace line whose answer is not compared: a remark, a command without a written answer, or a line that the
+    /// comparison leaves out.
     NotCompared,
     Same,
     Allowed,
@@ -20,7 +20,7 @@ pub enum LineVerdict {
 /// The verdict on a whole trace, by the counts of its lines.
 #[derive(Clone, Copy)]
 pub enum TraceVerdict {
-    /// A trace that agrees with the model. It has no wrong line, and at least one line with the model's answer.
+    /// A trace that agrees with the model: no line is wrong, and at least one line has the model's answer.
     Agrees,
     /// A trace in which no line has the verdict `Wrong` or `Same`.
     NothingSame,
@@ -28,7 +28,7 @@ pub enum TraceVerdict {
     Differs,
 }
 
-/// The numbers of a trace's lines: of all, and of those with the verdicts `Same`, `Allowed` and `Wrong`.
+/// The number of all lines of a trace, and the numbers of lines with the verdicts `Same`, `Allowed` and `Wrong`.
 #[derive(Clone, Copy)]
 pub struct Counts {
     pub lines: u64,
@@ -54,8 +54,8 @@ impl Counts {
         wrong: 0,
     };
 
-    /// Returns the counts after one more line with the given verdict. `TooLong` if the count of all lines, or that of
-    /// the verdict, is 2^64 - 1.
+    /// Returns the counts after one more line with the given verdict. The error is `TooLong` if the count of all lines,
+    /// or that of the verdict, is 2^64 - 1.
     pub fn with(self, verdict: LineVerdict) -> Result<Counts, TraceError>
         ensures ok { IfOk result (λ counts. counts ≡ with_line_counted self verdict) }
         ensures err { IfErr result (λ e. (e ≡ TooLong) × IsCountFull self verdict) }

@@ -7,7 +7,7 @@ use command_line::Reason;
 use std::alloc::AllocError;
 use thiserror::Error;
 
-/// An error that stops the run of a trace before its end. Its line goes to standard error.
+/// An error that stops the run of a trace before its end. The message of the error goes to standard error.
 #[derive(Clone, Copy, Debug, Error)]
 pub enum TraceError {
     /// A failed allocation.
@@ -16,7 +16,7 @@ pub enum TraceError {
     /// A failed read or write.
     #[error("device")]
     Device,
-    /// A trace that is too long. It takes more than 2^64 - 1 reads, or a check of it has more than 2^64 - 1 lines.
+    /// A trace that is too long: it takes more than 2^64 - 1 reads, or a check of it has more than 2^64 - 1 lines.
     #[error("the trace is too long")]
     TooLong,
 }

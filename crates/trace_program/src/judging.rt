@@ -74,8 +74,8 @@ fn name_place(question: &[TraceWord]) -> usize
     }
 }
 
-/// Rewrites a raw call `smc FID ..` as a call of a named command. `None` if the question is no raw call, or its
-/// function is no command.
+/// Rewrites a raw call `smc FID ..` as a call of a named command. Returns `None` if the question is no raw call, or if
+/// its function is no command.
 pub(crate) fn raw_call(question: &[TraceWord]) -> Option<Sentence>
     ensures { option_map (λ call. call.items) result ≡ raw_call question.now }
 {
@@ -86,8 +86,8 @@ pub(crate) fn raw_call(question: &[TraceWord]) -> Option<Sentence>
     }
 }
 
-/// Returns the index that the trace grammar gives to a line's command name. For a repeat, or a raw call of a command,
-/// it is the index of the inner command's name.
+/// Returns the index of a question's command name in the table of names. For a repeat, or a raw call of a command, the
+/// result is the index of the inner command's name.
 #[tactic(auto, unfolding(crate::specs::Judged::command_place))]
 pub(crate) fn command_place(question: &[TraceWord]) -> usize
     ensures { result ≡ specs.command_place question.now }

@@ -1,12 +1,12 @@
-//! The parts of `rmitrace`, the program that answers and checks traces of RMI calls. They are the text for each line of
-//! a trace, the check of a trace, and the outcomes of a run.
+//! The parts of the program `rmitrace`: the output text for trace lines, the check of a trace, and the outcomes of a
+//! run.
 //!
 //! A `Session` takes the lines of a trace one after another. It has no RMM before the first `platform`, and a new one
 //! from each of these on. `run` reads the lines and writes their texts.
 //!
 //! Proved are the answer of each line, the counts of a check, and the line and the answer in a note. The name of the
 //! check that decides a refused call is proved too. All other words of explanations are tested. Nothing here depends on
-//! the process that it runs in: a caller hands in the request and the devices.
+//! the process that it runs in: a caller passes in the request and the devices.
 #![tactic(auto)]
 
 mod counts;

@@ -115,8 +115,8 @@ impl LineTexts {
     }
 }
 
-/// Returns what follows the question and the written answer of a trace line. It is the comment, if the line has one,
-/// and the blanks before the comment or at the end of the line.
+/// Returns the text that follows the question and the written answer of a trace line: blanks, and the comment if the
+/// line has one.
 #[tactic(auto, unfolding(crate::specs::LineText::tail_of))]
 pub(crate) fn tail(bytes: &[u8]) -> &[u8]
     ensures { result.now ≡ tail_of bytes.now }

@@ -28,8 +28,8 @@ fn answer_of(line: &RmmTraceLine, written: &[u8]) -> Option<Sentence>
     }
 }
 
-/// Appends a trace line, and rewrites a raw call in it with names. The names are those of the call's command and
-/// outputs. A line that is not raw or cannot be named is appended as it is.
+/// Appends a trace line, with a raw call rewritten by the names of its command and outputs. A line that is not raw or
+/// cannot be named is appended as it is.
 #[tactic(auto, unfolding(crate::specs::LineText::named_text))]
 pub(crate) fn push_named(
     text: &mut LineTexts,

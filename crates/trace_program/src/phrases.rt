@@ -360,7 +360,7 @@ const COMMAND_REQUIREMENTS: [(usize, Condition, &str); 34] = [
     ),
 ];
 
-/// Returns the text of the requirement that a command's check tests. The text is empty if the check has none. The
+/// Returns the text of the requirement that a command's check tests, or an empty text if the check has none. The
 /// command is given by the index of its name in the grammar.
 pub(crate) fn requirement(command: usize, condition: Condition) -> &'static str {
     for row in &COMMAND_REQUIREMENTS {

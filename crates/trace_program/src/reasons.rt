@@ -150,7 +150,7 @@ pub(crate) fn checks_text(
     Ok(text)
 }
 
-/// Returns a line of help that suggests the word that was probably meant. The text is empty if no word is near.
+/// Returns a line of help that suggests the word that was probably meant, or an empty text if no word is near.
 pub(crate) fn hint(alloc: Global, bytes: &[u8], indent: &str) -> Result<String, AllocError> {
     match nearest_word(alloc, bytes)? {
         Some(word) => format!(in alloc; "{indent}help: did you mean {word}?\n"),
@@ -158,8 +158,7 @@ pub(crate) fn hint(alloc: Global, bytes: &[u8], indent: &str) -> Result<String, 
     }
 }
 
-/// Returns the first line of a note on a trace line. It has the trace's name, the number of the noted line, and the
-/// verdict.
+/// Returns the first line of a note on a trace line: the trace's name, the number of the line, and the verdict.
 pub(crate) fn heading(
     alloc: Global,
     source: &str,

@@ -1,4 +1,4 @@
--- The number of paths of a plan's graph is that of its schedules.
+-- Proofs that the state graph of a plan has exactly as many paths as the plan has schedules.
 use Rattle.std.proofs.Common.{ℕ, Bool, List, [], map, length, sym, ◌∙◌}
 use Rattle.std.proofs.lemmas.List.{length-map}
 use Rattle.realm_plan.specs.Plan.{Plan}

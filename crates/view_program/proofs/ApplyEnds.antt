@@ -1,4 +1,4 @@
--- The ends of the application of a history.
+-- Proofs about the outcomes of applying a history: all of the map, a prefix, or nothing is written.
 use Rattle.std.proofs.Common.{◌≡◌, ◌↔◌, ◌+◌, ℕ, length, List, [], ◌∷◌, Option, Some, None, IfSome, Ok, Err, Bool, true, false, refl, ap, ◌∙◌, arith}
 use Rattle.std.specs.Io.KnownBytes.{Appends, prepend_known}
 use Rattle.host_ledger.specs.View.{HostView}
@@ -35,7 +35,7 @@ pub opens_none_end : (input : Option (List ℕ)) → IfSome input (λ bytes. lin
 opens_none_end None end = tt
 opens_none_end (Some xs) end = rw end tt
 
--- ---- the lines behind it
+-- ---- the lines after it
 
 module _ (first : List ℕ) (o : Opening) (opens : IsOpeningText first o) where
   pub is_history_in : (input ahead : Option (List ℕ)) (host : HostView) → IsLine input first ahead → AreLinesTaken ahead (host_of_opening o) host → IsHistoryIn input o host
@@ -84,7 +84,7 @@ module _ (first : List ℕ) (o : Opening) (opens : IsOpeningText first o) where
 -- ---- the end
 
 module _ (erase : Option ℕ) (unread : Bool) (input : Option (List ℕ)) where
-  -- where there is no history, nothing is written
+  -- if there is no history, nothing is written
   pub no_history : (output : Option (List ℕ)) (fault : ViewError) → IsNoHistoryIn input fault → (fault ≡ Device → unread ≡ true) → IsApplyEnd erase unread input output output (Err fault)
   no_history output (NoPlan errors) none read = absurd none
   no_history output (Plan fault) none read = absurd none
@@ -118,7 +118,7 @@ module _ (erase : Option ℕ) (unread : Bool) (input : Option (List ℕ)) where
       → Appends old new text → IsMapPrinted erase input old new
   printed_map old new o host text history map written = record { text = text; map = record { o = o; host = host; history = history; map = map }; written = written }
 
--- where a history was read, no read failed
+-- if a history was read, no read failed
 pub read_well : {A : Type 0} (failed : Bool) (it : A) → (failed ≡ true) ↔ (Ok it ≡ Err Device) → failed ≡ false
 read_well false it told = refl
 read_well true it told = let failed = told.0 refl in absurd (cc)

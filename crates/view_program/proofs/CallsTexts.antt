@@ -1,4 +1,4 @@
--- The text of the calls of a run that gets one more turn.
+-- Proofs that the text of a run's RMM calls grows by the calls of each further turn.
 use Rattle.std.proofs.Common.{◌≡◌, ℕ, ◌+◌, ◌<◌, ◌≤◌, List, [], ◌∷◌, ◌++◌, length, take, get_or, Option, refl, sym, ap, ◌∙◌, subst}
 use Rattle.std.proofs.lemmas.List.{take_all, take_more}
 use Rattle.command_line.specs.declared.realmview.CallsForm.{CallsForm}

@@ -1,4 +1,4 @@
--- The ends of a check.
+-- Proofs about the outcomes of the subcommand `check`: all of the report, a prefix, or nothing is written.
 use Rattle.std.proofs.Common.{◌≡◌, ◌↔◌, ℕ, List, Option, Some, None, Ok, Err, Bool, true, false, refl, sym, ap, ◌∙◌, subst, string_bytes}
 use Rattle.std.specs.Prelude.{IfSome, is_ok}
 use Rattle.realm_plan.specs.Plan.{plan_of}
@@ -14,7 +14,7 @@ use Rattle.view_program.specs.Stop.{view_fault_of_read}
 use Rattle.view_program.specs.Checked.{verdict_of, IsReportOn, IsVerdictOn, AreErrorsOf, AreErrorsOfBytes, IsCheckEnd}
 use Rattle.view_program.specs.declared.fault.ViewError.TheVariants.{Device}
 
--- what is told of the bytes that were kept is told of the input
+-- the report on the bytes that were kept is one on the input
 pub report_from_kept : (source : List ℕ) (known : Option (List ℕ)) (bytes : List ℕ) (report : LintReport) → IfSome known (λ xs. bytes ≡ kept_of xs) → IsReport source bytes report
     → IsReportOn source known report
 report_from_kept source None bytes report kept is = tt
@@ -49,7 +49,7 @@ pub cut_report : (source : List ℕ) (unread : Bool) (input old new : Option (Li
     → IsCheckEnd source unread input old new (Err Device)
 cut_report source unread input old new report read of_input written = rw read (record { report = report; of_input = of_input; written = written })
 
--- where the bytes were read, no read failed
+-- if the bytes were read, no read failed
 pub bytes_read_well : {A : Type 0} (failed : Bool) (bytes : A) → (failed ≡ true) ↔ (Ok bytes ≡ Err read_error.Device) → failed ≡ false
 bytes_read_well false bytes told = refl
 bytes_read_well true bytes told = let failed = told.0 refl in absurd (cc)

@@ -1,4 +1,4 @@
--- The possible choices, and one more choice.
+-- Lemmas on the builds that can be chosen for a turn, and on one more choice in a run.
 use Rattle.std.proofs.Common.{◌≡◌, ℕ, zero, suc, ◌<◌, Bool, true, false, List, [], ◌∷◌, ◌++◌, length, ◌+◌, Some, refl, sym, subst, ◌∙◌, cond, arith}
 use Rattle.std.specs.List.{find, range_with_len}
 use Rattle.std.proofs.lemmas.List.FromFn.{get_or-map-range_with_len}

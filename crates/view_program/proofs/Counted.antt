@@ -1,4 +1,4 @@
--- The tallies once one more outcome is counted.
+-- Proofs that tallies of outcomes stay correct when one more outcome is counted.
 use Rattle.std.proofs.Common.{◌≡◌, ℕ, ◌+◌, Bool, true, false, ◌||◌, cond, if◌then◌else◌, List, [], ◌∷◌, ◌++◌, map, length, take, drop, refl, ap, sym, ◌∙◌}
 use Rattle.std.proofs.Common.{append_assoc, append-nil, arith}
 use Rattle.std.specs.Prelude.{count_by}
@@ -33,7 +33,7 @@ or_falses true b no_a no_b = absurd cc
 or_falses false b no_a no_b = no_b
 
 module _ {K : Type 0} (same : K → K → Bool) where
-  -- ---- what is first
+  -- ---- first sightings
 
   firsts-push :
       (earlier seen : List (Sighting K)) (s : Sighting K)
@@ -47,7 +47,7 @@ module _ {K : Type 0} (same : K → K → Bool) where
       ∙ ap (λ es. firsts same earlier (t ∷ seen) ++ (if is_shown same es s.outcome then [] else s ∷ [])) (append_assoc earlier (t ∷ []) seen)
 
   module _ (equal : IsEquivalence same) where
-    -- what is the same as an outcome is shown where the outcome is
+    -- of two outcomes that are the same, one is shown exactly if the other is
     shown_alike : (x y : K) → same x y ≡ true → (earlier : List (Sighting K)) → is_shown same earlier x ≡ is_shown same earlier y
     shown_alike x y is [] = refl
     shown_alike x y is (e ∷ earlier) =
@@ -151,7 +151,7 @@ module _ {K : Type 0} (same : K → K → Bool) where
           map-append count_of_tally bumped (tally ∷ []) ∙ ap (λ c. map count_of_tally bumped ++ c ∷ []) is
           ∙ ap (λ b. map count_of_tally bumped ++ (if b then [] else record { outcome = s.outcome; count = 1; first = s.schedule } ∷ [])) (sym new) ∙ after
 
--- what was lent whole has come back
+-- a borrow of a whole list, written back, is the new list
 pub written_back : {X : Type 0} (n : ℕ) (old new : List X) → n ≡ length old → length new ≡ length old → take n (new ++ drop (length new) old) ≡ new
 written_back n old new is all = ap (λ k. take k (new ++ drop (length new) old)) (is ∙ sym all) ∙ take-append_seam new (drop (length new) old)
 

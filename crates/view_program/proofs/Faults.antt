@@ -1,4 +1,4 @@
--- The fault of a line that cannot be read.
+-- Proofs that a failed allocation or read is a correct reason not to apply the lines of a history.
 use Rattle.std.proofs.Common.{List, ℕ, Option}
 use Rattle.host_ledger.specs.View.{HostView}
 use Rattle.checked_io.specs.declared.told.ReadError.{ReadError}

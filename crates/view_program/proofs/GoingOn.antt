@@ -1,4 +1,4 @@
--- A run that goes on with the lowest build that has a step left.
+-- The loop invariant of a run in which each turn goes to the lowest-numbered build with a step left.
 use Rattle.std.proofs.Common.{◌≡◌, replicate, Bool, None, sym, subst, append_assoc, append-nil, List, [], ◌∷◌, ◌++◌, Some, All, refl, ap, ◌∙◌}
 use Rattle.std.proofs.lemmas.List.Elements.{All-nil, All-push}
 use Rattle.host_ledger.specs.View.{HostView}

@@ -1,4 +1,4 @@
--- The uniqueness of a history's reading: lines that are a history do not stop.
+-- Proofs that lines can be read as a history in one way only, and that applying a history stops at no line.
 use Rattle.std.proofs.Common.{◌≡◌, ℕ, List, [], ◌∷◌, ◌++◌, refl, sym, ap, ◌∙◌, subst}
 use Rattle.realm_model.specs.declared.act.Event.{Event}
 use Rattle.host_ledger.specs.View.{HostView, with_event}
@@ -23,7 +23,7 @@ taken_once old [] a b taken other = taken ∙ sym other
 taken_once old (line ∷ more) a b taken other =
     taken_once other.0 more a b (subst (λ (mid : HostView). AreTaken mid more a) (one_taken old line taken.0 other.0 taken.1 other.1) taken.2) other.2
 
--- where more lines are taken, so is the one behind those before it
+-- if a list of lines is taken, so is each of its lines after the lines before it
 record IsNext (host : HostView) (line : List ℕ) : Type 0 where
   new : HostView
   taken : IsLineTaken host line new

@@ -1,4 +1,4 @@
--- The text of a schedule, and of a plan with one.
+-- Lemmas on the text of a schedule, and on a plan's text in which the schedule is replaced.
 use Rattle.std.proofs.Common.{◌≡◌, ℕ, ◌+◌, ◌<◌, List, [], ◌∷◌, ◌++◌, length, get_or, take, drop, sym, ap, ◌∙◌, arith, subst, inl, inr, Option, None, Some, Ok, true, ltb}
 use Rattle.std.specs.Prelude.{IfSome}
 use Rattle.std.proofs.lemmas.Bool.{cases_Bool, lt-ltb}

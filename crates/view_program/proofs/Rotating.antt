@@ -1,4 +1,4 @@
--- A run in which builds take turns in rotation.
+-- The loop invariant of a run in which builds take turns in rotation, and proofs about it.
 use Rattle.std.proofs.Common.{◌≡◌, ℕ, ◌+◌, Bool, true, false, List, [], ◌∷◌, ◌++◌, Some, None, refl, sym, subst}
 use Rattle.std.specs.Prelude.{◌&&◌, nat_le, Option}
 use Rattle.std.specs.List.{range_with_len}
@@ -9,7 +9,7 @@ use Rattle.view_program.specs.Rotation.{in_rotation, lowest_from, AreInRotation,
 use Rattle.view_program.specs.declared.schedules.choice.Choice.{Choice}
 use Rattle.view_program.proofs.Chosen.{found_is, lowest_is, AreChosen-more}
 
--- ---- whose turn it is
+-- ---- the build that has the turn
 
 both : (a b : Bool) → (a && b) ≡ true → b ≡ true
 both true b is = is
@@ -32,14 +32,14 @@ none_of : (here lowest : Option ℕ) → option_or here lowest ≡ None → lowe
 none_of None lowest is = is
 none_of (Some x) lowest is = absurd cc
 
--- where it is nobody's turn, none has a step left
+-- if no build has the turn, none has a step left
 pub none_lowest : (from : ℕ) (left : List Bool) → in_rotation from left ≡ None → lowest_of left ≡ None
 unfolding in_rotation
 none_lowest from left none = none_of (lowest_from from left) (lowest_of left) none
 
 -- ---- so far
 
--- where the rotation has come to behind these turns
+-- the number that the rotation has reached after these turns
 abbrev pub reached : ℕ → List Choice → ℕ
 reached from [] = from
 reached from (choice ∷ choices) = reached (choice.build + 1) choices

@@ -1,4 +1,4 @@
--- The derived `==` of ends of steps, which decides `≡`.
+-- Proof that the derived `==` of step outcomes decides equality.
 use Rattle.std.proofs.Common.{◌≡◌, Bool, Option, Some, None, refl, ap}
 use Rattle.std.specs.Bool.{Decides}
 use Rattle.std.specs.Option.{option_eq}

@@ -1,4 +1,4 @@
--- Lines that a host applies, one after another.
+-- The loop invariant of applying a history's lines to a host one after another, and proofs about it.
 use Rattle.std.proofs.Common.{◌≡◌, ◌↔◌, Bool, true, false, Ok, Err, ℕ, ◌+◌, ◌<◌, List, [], ◌∷◌, ◌++◌, length, length-append, Option, Some, None}
 use Rattle.std.proofs.Common.{IfSome, refl, sym, ap, ◌∙◌, append_assoc, arith, subst}
 use mathlib.Core.List.{append-nil}
@@ -127,7 +127,7 @@ module _ (start now : Option (List ℕ)) (old mid : HostView) (s : SoFar start n
   pub too_long : (number : ℕ) → IfSome now (HasLongLine 256) → number ≡ length mid.history + 2 → AreNotTaken start old (NoEvent number)
   too_long number is same = cut_long start now number s.took is same
 
--- what was given was read
+-- if there is a result, no read failed
 pub unfailed : {A E : Type 0} (failed : Bool) (it : A) (error : E) → (failed ≡ true) ↔ (Ok it ≡ Err error) → failed ≡ false
 unfailed false it error told = refl
 unfailed true it error told = let failed = told.0 refl in absurd (cc)

@@ -1,4 +1,4 @@
--- The texts of turns, with one turn more.
+-- Lemmas on the text of a run's turns, when one more turn is appended.
 use Rattle.std.proofs.Common.{◌≡◌, ℕ, Bool, List, [], ◌∷◌, ◌++◌, refl, sym, ap, ◌∙◌, append_assoc}
 use Rattle.std.proofs.lemmas.List.{append-nil}
 use Rattle.explain.specs.declared.explained.ExplainedTurn.{ExplainedTurn}

@@ -1,4 +1,4 @@
--- The bound of turns, which each turn lowers.
+-- Proofs that each turn of a run lowers the bound on the number of further turns.
 use Rattle.std.proofs.Common.{◌≡◌, ◌≢◌, ℕ, zero, suc, ◌+◌, ◌-◌, ◌*◌, ◌^◌, ◌<◌, ◌≤◌, ◌==◌, if◌then◌else◌, Bool, true, false, List, [], ◌∷◌, length, Option, Some, None, Result, Ok, Err, ◌⊎◌}
 use Rattle.std.proofs.Common.{inl, inr, slice_set, slice_index_or, replicate, ap, sym, subst, ◌∙◌, refl, arith}
 use Rattle.std.specs.Prelude.{nat_le, nat_lt, slice_get, is_some, option_and_then}
@@ -320,7 +320,7 @@ moved_left gives_up answer after =
 stays_at : (gives_up : Bool) (answer : TurnAnswer) (after : PlanCursor) → (after.left == 0) ≡ false → moved_on gives_up answer after ≡ after
 stays_at gives_up answer after some = rw some refl
 
--- The places behind a turn: that of its build, and those of others.
+-- The places after a turn: that of its build, and those of others.
 module _ (places : List PlanCursor) (build : ℕ) (after : PlanCursor) (new : List PlanCursor) (inside : build < length places) (is_new : new ≡ slice_set places build after) where
   place_of-same : place_of new build ≡ after
   place_of-same = ap (λ ps. place_of ps build) is_new ∙ get_or-set_same places build after first_place inside
@@ -471,7 +471,7 @@ accepted_or_at_rest host build place (WidthLeftOut rd root) answer new after ste
 moved_done : (gives_up : Bool) (answer : TurnAnswer) (after : PlanCursor) → after.left ≡ 0 → after.done < (moved_on gives_up answer after).done
 moved_done gives_up answer after none = rw none (number_rises gives_up (is_refusal answer) after.done)
 
--- Where as many steps are done as before, the turn was not refused.
+-- If as many steps are done as before, the turn was not refused.
 accepted_of :
     (plan : Plan) (from : Position) (turn : Turn) (to : Position) (step : Option PlanStep)
     → AreSteady plan from.places → turn.build < 8 → step_after plan turn.build (place_of from.places turn.build).done ≡ step
@@ -503,7 +503,7 @@ accepted_where_it_stays plan from turn to steady inside is stays =
       | inr other ↦ absurd (let o = other.0 in cc)
     ])
 
--- ---- where no step is done
+-- ---- before any step is done
 
 first_at : (count build : ℕ) → slice_index_or (replicate count first_place) build first_place ≡ first_place
 first_at zero build = refl

@@ -1,4 +1,4 @@
--- Histories that are applied, line by line, to the machine that their first line describes, and their maps.
+-- Histories that are applied line by line to the machine described in their first line, and the resulting maps.
 use Rattle.std.specs.Prelude.{◌≡◌, ◌+◌, ◌<◌, ◌≤◌, ℕ, List, [], ◌∷◌, ◌++◌, length, Option, Some, None, IfSome}
 use Rattle.realm_model.specs.declared.act.Event.{Event}
 use Rattle.realm_model.specs.History.{IsLegal}
@@ -91,8 +91,8 @@ pub record StopsAt (IsReason : HostView → List ℕ → Type 0) (lines : List (
   pub number_is : number ≡ length before + 1
   pub reason : IsReason host line
 
--- The error is a reason why the input, if it is known, is no history. A failure of allocation or of a device is no
--- matter of its lines.
+-- The error is a reason why the input, if it is known, is no history. A failure of allocation or of a device does not
+-- depend on its lines.
 abbrev pub IsNoHistoryIn : Option (List ℕ) → ViewError → Type 0
 IsNoHistoryIn input NoOpening = IfSome input (λ bytes. OpensNone (lines_in bytes))
 IsNoHistoryIn input (NoEvent number) = IfSome input (λ bytes. StopsAt (λ host line. IsNoEvent line) (lines_in bytes) number)

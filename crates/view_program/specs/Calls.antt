@@ -1,4 +1,4 @@
--- The text of the calls of a plan's run.
+-- The text of the RMM calls of a plan's run, as a trace or as rows of a C table.
 use Rattle.std.specs.Prelude.{◌≡◌, ◌⊎◌, ◌≤◌, ℕ, Bool, true, false, List, [], ◌∷◌, ◌++◌, length, replicate, codes, slice_get, Option, Some, None, IfSome}
 use Rattle.std.specs.List.{flat_map}
 use Rattle.command_line.specs.declared.realmview.CallsForm.{CallsForm}

@@ -1,4 +1,4 @@
--- The report on bytes as a plan, the outcome of writing it, and the errors of bytes that are no plan.
+-- The report of the subcommand `check` on an input, and the outcomes of writing the report.
 use Rattle.std.specs.Prelude.{◌≡◌, Bool, true, false, List, ℕ, Option, IfSome, Result, Ok, Err, is_ok, string_bytes}
 use Rattle.std.specs.Io.KnownBytes.{Appends, Keeps}
 use Rattle.realm_plan.specs.Plan.{plan_of}

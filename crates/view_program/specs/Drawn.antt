@@ -1,4 +1,4 @@
--- Schedules drawn at random: at each turn, a number of a stream says which of the builds with a step left has it.
+-- Schedules drawn at random: for each turn, a pseudorandom number selects one of the builds with a step left.
 use Rattle.std.specs.Prelude.{◌≡◌, ℕ, ◌%◌, Bool, List, [], ◌∷◌, length, filter, Option, Some, None, slice_get, string_bytes}
 use Rattle.std.specs.List.{range_with_len}
 use Rattle.rand_core.specs.Stream.{Stream, next_u32}

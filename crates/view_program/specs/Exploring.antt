@@ -1,4 +1,4 @@
--- The outcome of one more schedule.
+-- The condition that totals count one more run: its schedule, its step outcomes and its final map.
 use Rattle.std.specs.Prelude.{◌≡◌, List, [], ◌∷◌, ◌++◌, length, string_bytes}
 use Rattle.std.specs.declared.alloc.Global.{Global}
 use Rattle.std.specs.declared.string.String.{String}

@@ -1,4 +1,4 @@
--- The history of a plan as text.
+-- The history of a plan's run as text, complete or without one build's events.
 use Rattle.std.specs.Prelude.{◌≡◌, ◌<◌, ℕ, List, [], length, Option, Some, None}
 use Rattle.host_ledger.specs.View.{HostView}
 use Rattle.history_text.specs.Histories.{history_text, shown}

@@ -1,4 +1,4 @@
--- The document of a plan's run.
+-- The JSON document of a plan's run.
 use Rattle.std.specs.Prelude.{ℕ, List}
 use Rattle.host_ledger.specs.View.{HostView}
 use Rattle.realm_plan.specs.Plan.{Plan}

@@ -1,4 +1,4 @@
--- Builds that have nothing open.
+-- The property that a build without open operations does not affect the host's map.
 use Rattle.std.specs.Prelude.{◌≡◌, ℕ, List, []}
 use Rattle.realm_model.specs.History.{IsLegal}
 use Rattle.host_ledger.specs.View.{HostView, open_of}

@@ -1,4 +1,4 @@
--- The text of the outcomes of schedules that are drawn.
+-- The text of the outcomes of randomly drawn schedules.
 use Rattle.std.specs.Prelude.{ℕ, List, [], ◌∷◌, ◌++◌, codes, string_bytes}
 use Rattle.std.specs.List.{flat_map}
 use Rattle.std.specs.declared.alloc.Global.{Global}

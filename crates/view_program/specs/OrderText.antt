@@ -1,4 +1,4 @@
--- The text of a schedule, and the text of a plan with another schedule.
+-- The text of a schedule, and the text of a plan whose schedule is replaced.
 use Rattle.std.specs.Prelude.{◌≡◌, ℕ, ◌+◌, ◌%◌, ◌==◌, nat_eq, nat_lt, Bool, false, if◌then◌else◌, List, [], ◌∷◌, ◌++◌, length, codes}
 use Rattle.std.specs.List.{ends_with}
 use Rattle.std.specs.Fmt.{decimal}
@@ -38,7 +38,7 @@ abbrev pub line_break_after : List ℕ → List ℕ
 line_break_after [] = []
 line_break_after (byte ∷ bytes) = if ends_with nat_eq (byte ∷ bytes) (10 ∷ []) then [] else codes "\n"
 
--- a line with the key and the schedule, below what comes before it
+-- a line with the key and the schedule, below the text before it
 abbrev pub order_line : List ℕ → List ℕ → List ℕ
 order_line front order = line_break_after front ++ (codes "order = " ++ (order_array order ++ codes "\n"))
 

@@ -1,4 +1,4 @@
--- The page of a plan's run.
+-- The browser page that shows a plan's run, and the data of the page.
 use Rattle.std.specs.Prelude.{◌≡◌, ℕ, List, length}
 use Rattle.std.specs.List.{range_with_len, AllZip}
 use Rattle.host_ledger.specs.View.{HostView}

@@ -1,4 +1,4 @@
--- The printing of the map of a history, and the outcome of each subcommand.
+-- The outcomes of printing the map of a history, and the outcome of each subcommand of `realmview`.
 use Rattle.std.specs.Prelude.{◌≡◌, ℕ, ◌+◌, ◌≤◌, Bool, true, false, List, Option, None, IfSome, Result, Ok, Err, string_bytes}
 use Rattle.std.specs.Io.KnownBytes.{Appends, Keeps}
 use Rattle.host_ledger.specs.View.{HostView}
@@ -108,7 +108,7 @@ abbrev pub AreFewReads : ViewSubcommand → (old new : ℕ) → Type 0
 AreFewReads (Apply erase) old new = Unit {0}
 AreFewReads asked old new = new ≤ old + 1048578
 
--- A known input is read once, but for a history, of which that is in no clause.
+-- A known input is read once. For a history, no clause states that.
 abbrev pub ReadsOnceFor : ViewSubcommand → Option (List ℕ) → (old new : ℕ) → Type 0
 ReadsOnceFor (Apply erase) input old new = Unit {0}
 ReadsOnceFor asked input old new = ReadsOnce input old new

@@ -1,4 +1,4 @@
--- Plans with another schedule, which has all the turns that their builds need.
+-- Plans whose schedule is replaced by one with all the turns that their builds need.
 use Rattle.std.specs.Prelude.{◌≡◌, ◌<◌, ◌⊎◌, ℕ, Bool, true, false, List, length, Option, IfSome, Result, Ok, Err, string_bytes}
 use Rattle.std.specs.Io.KnownBytes.{Appends, Keeps}
 use Rattle.realm_plan.specs.Plan as plan

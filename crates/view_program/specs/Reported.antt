@@ -1,4 +1,4 @@
--- The ends of a run's steps, by the lines of the run.
+-- The outcomes of a run's steps, as the lines of the run's output report them.
 use Rattle.std.specs.Prelude.{◌≡◌, ◌⊎◌, ℕ, List, [], ◌∷◌, map, None}
 use Rattle.std.specs.List.{All, flat_map}
 use Rattle.host_ledger.specs.View.{HostView}

@@ -13,7 +13,7 @@ use Rattle.plan_states.specs.declared.step_end.EndOfStep.{EndOfStep}
 abbrev pub lowest_from : ℕ → List Bool → Option ℕ
 lowest_from from left = find (λ build. nat_le from build && could left build) (range_with_len 0 8)
 
--- The build whose turn it is when the rotation has come to `from`. It is the lowest from there on that has a step left,
+-- The build whose turn it is when the rotation has reached `from`. It is the lowest from there on that has a step left,
 -- or else the lowest of all.
 unfoldable pub in_rotation : ℕ → List Bool → Option ℕ
 in_rotation from left = option_or (lowest_from from left) (lowest_of left)

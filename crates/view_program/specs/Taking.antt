@@ -1,4 +1,4 @@
--- Events that a host applies from the next lines.
+-- The result of applying the next lines of a history to a host: all are applied, or one is not.
 use Rattle.std.specs.Prelude.{◌≡◌, ◌+◌, ℕ, List, ◌∷◌, ◌++◌, length, Option, IfSome}
 use Rattle.host_ledger.specs.View.{HostView}
 use Rattle.checked_io.specs.Lines.{lines_in}

@@ -1,4 +1,4 @@
--- Tallies of outcomes: the number of schedules that have each, and the first of them.
+-- Tallies of outcomes: for each outcome, the number of schedules that have it, and the first such schedule.
 use Rattle.std.specs.Prelude.{ℕ, ◌+◌, Bool, if◌then◌else◌, List, [], ◌∷◌, ◌++◌, map, count_by}
 use Rattle.std.specs.List.{list_any}
 use Rattle.plan_states.specs.Tallies.{PathCount}

@@ -34,8 +34,8 @@ never_line (Leased granules) = never_leased_line granules
 
 -- ---- texts
 
--- The text is the source with this schedule in it. Read back, it is the plan with this schedule, whose last turn answers
--- the question.
+-- The text is the source with this schedule in it. Read back, it is the plan with this schedule, whose last turn
+-- answers the question.
 pub record IsPlanTo (question : TurnQuestion) (source : List ℕ) (plan : Plan) (schedule text : List ℕ) : Type 0 where
   pub is_text : IsWithOrder schedule source text
   pub is_plan : plan_of text ≡ Ok (with_schedule schedule plan)

@@ -1,4 +1,4 @@
--- Counts of the ends of steps and of final maps, over runs of a plan.
+-- Counts of step outcomes and of final maps over several runs of a plan.
 use mathlib.Core.Bool.{beq}
 use Rattle.std.specs.Prelude.{◌≡◌, ℕ, ◌==◌, nat_eq, Bool, not, ◌&&◌, List, map, filter, length, is_some, string_bytes}
 use Rattle.std.specs.List.{flat_map, list_any, range_with_len}

@@ -1,4 +1,4 @@
--- A bound of the turns that a run can still have.
+-- An upper bound on the number of turns that a run can still have.
 use Rattle.std.specs.Prelude.{◌≡◌, ℕ, ◌+◌, ◌-◌, ◌*◌, ◌^◌, ◌==◌, if◌then◌else◌, nat_lt, Bool, true, false, List, ◌∷◌, length, Option, Some, None}
 use Rattle.realm_plan.specs.declared.step.PlanStep.{PlanStep}
 use Rattle.realm_plan.specs.Plan.{Plan}

@@ -1,4 +1,4 @@
--- The run of a plan with the reasons of its refusals, as text.
+-- The text of a plan's run, with the reason for each refusal.
 use Rattle.std.specs.Prelude.{◌≡◌, ℕ, Bool, List, [], ◌∷◌, ◌++◌, map, string_bytes, Option, Some, None}
 use Rattle.std.specs.List.{filter_map, flat_map, range_with_len}
 use Rattle.host_ledger.specs.View.{HostView}
@@ -11,7 +11,7 @@ use Rattle.explain.specs.declared.explained.ExplainedTurn.{ExplainedTurn}
 use Rattle.explain.specs.declared.explained.Explanation.{Explanation}
 use Rattle.realm_program.specs.Replay.{opening_host}
 
--- the lines of a reason, with each check that passed if all are asked for; there are none where there is no reason
+-- the lines of a reason, with each check that passed if all are asked for; none if there is no reason
 abbrev pub AreLinesBelow : Bool → Option Explanation → List ℕ → Type 0
 AreLinesBelow all None below = below ≡ []
 AreLinesBelow all (Some reason) below = AreReasonLines reason all below

@@ -16,7 +16,7 @@ use std::io::{Read, Write};
 pub enum ViewOutcome {
     /// A subcommand that succeeded.
     Done,
-    /// An input of `check` that is not a plan. Its errors have been written.
+    /// An input of `check` that is not a plan, and whose errors have been written.
     HasErrors,
 }
 

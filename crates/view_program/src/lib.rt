@@ -1,13 +1,13 @@
-//! The library of the program `realmview`, which shows plans and histories. It has the program's texts, its
-//! subcommands, and the reasons why it stops.
+//! The library of the program `realmview`, which shows plans and histories. The library has the program's texts,
+//! subcommands, and reasons to stop.
 //!
 //! `Histories`, `Reasons`, `Documents`, `Pages`, `Calls` and `Exploring` are the texts of plans that `print` writes.
-//! `apply` goes from the lines of a history to the map of its machine. `check` goes from bytes to the findings on them
-//! as a plan, and `reorder` from a plan to the same plan with another schedule. Each of them is for any reader and any
-//! writer, and `run` performs what the command line asks for. `schedules` runs the schedules of a plan.
+//! `apply` reads the lines of a history, and writes the map of its machine. `check` writes the findings on bytes as a
+//! plan, and `reorder` writes a plan with another schedule. Each of them works with any reader and any writer, and
+//! `run` performs what the command line asks for. `schedules` runs the schedules of a plan.
 //!
-//! Each text takes what it has of a run from a host. Nothing here depends on the process that it runs in: a caller hands
-//! in the words and the devices.
+//! All that a text states of a run is read from a host. Nothing here depends on the process that it runs in: a caller
+//! hands in the words and the devices.
 #![tactic(auto)]
 
 mod applying;

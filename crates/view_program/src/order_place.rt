@@ -23,7 +23,7 @@ pub struct OrderPlace {
 enum KeyReadError {
     /// A failed allocation.
     Memory,
-    /// An item other than the expected one.
+    /// A text in which the next item is not the expected one.
     Unread,
 }
 

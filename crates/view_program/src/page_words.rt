@@ -6,8 +6,8 @@ use realm_program::boot;
 use serde::Serialize;
 use std::alloc::{AllocError, Global};
 
-/// A refused turn, with its error message and its help message. Turns are counted from 0, as in the document of the run.
-/// `help` is empty if there is no help.
+/// A refused turn, with its error message and its help message. Turns are counted from 0, as in the document of the
+/// run. `help` is empty if there is no help.
 #[derive(Serialize)]
 pub(crate) struct RefusedTurn {
     turn: usize,

@@ -122,9 +122,9 @@ fn never_text(alloc: Global, asked: ScheduleQuestion) -> Result<String, AllocErr
 /// Returns a plan's text with the shortest schedule whose last turn answers the question `asked`. If there is no such
 /// schedule, or if there are more than `most` states, returns a line that says so.
 ///
-/// Errors. `Memory`: allocation failed. `Mismatch`: with its new schedule the plan has too many turns or bytes. Or a run
-/// contradicts an earlier run, a turn is missing in the graph, or the graph lists a step outcome or a map twice. These
-/// never happen on a host that gives the same answers to the same calls.
+/// Errors. `Memory`: allocation failed. `Mismatch`: with its new schedule the plan has too many turns or bytes. Or a
+/// run contradicts an earlier run, a turn is missing in the graph, or the graph lists a step outcome or a map twice.
+/// These never happen on a host that gives the same answers to the same calls.
 pub(crate) fn answer_text(
     alloc: Global,
     plan: &Plan,

@@ -154,12 +154,12 @@ fn reordered(
 
 /// Reads a plan, and writes it with a new schedule. The schedule gives each build all the turns that it needs. The
 /// turns include those of aborts and rollbacks. The value of `order` is replaced, and the rest of the text is as it
-/// was. The text is read back before it is written: it has to be the plan with the new schedule. In the run with the new
-/// schedule, each turn is of a build with a step left, and in the end no build has one.
+/// was. The text is read back before it is written: it has to be the plan with the new schedule. In the run with the
+/// new schedule, each turn is of a build with a step left, and in the end no build has one.
 ///
 /// The text is complete before any of it is written. Errors. `NoPlan`, with the errors of an input that is no plan.
 /// `OrderOutsideLimits`: the plan would have too many turns or bytes. `Memory`: allocation failed. `Device`: a read
-/// failed and nothing is written, or a write failed and a prefix of the text is written. `Mismatch` never comes on a
+/// failed and nothing is written, or a write failed and a prefix of the text is written. `Mismatch` never occurs on a
 /// host that gives the same answers to the same calls.
 pub fn reorder<R: Read, W: Write>(
     alloc: Global,

@@ -18,8 +18,8 @@ use run_json::{Document, WorldItem, json_text, page_of, world_item};
 use serde::Serialize;
 use std::alloc::{AllocError, Global};
 
-/// The data of a browser page that shows a plan's run and its refused turns. For each build, they also have the machine
-/// as it would be without that build's events. The title of the plan is empty if it has none.
+/// The data of a browser page that shows a plan's run and its refused turns. For each build, the data also have the
+/// machine as it would be without that build's events. The title of the plan is empty if it has none.
 #[derive(Serialize)]
 struct PageData {
     run: Document,

@@ -13,7 +13,7 @@ use checked_io::Told;
 use std::alloc::Global;
 use std::io::{Read, Write};
 
-/// Performs the requested subcommand of `realmview`. Its input is any reader, and its output is any writer. Findings on
+/// Performs the requested subcommand of `realmview`. The input is any reader, and the output is any writer. Findings on
 /// a plan name the input by `source`. `progress` receives the progress of an exploration of schedules.
 pub fn run<R: Read, W: Write, P: Progress>(
     alloc: Global,

@@ -184,7 +184,7 @@ exited : step eight (with_rec_pages (active with_data running) written) (by 0 (E
 unfolding named outcome_of fits updated_all check realm_from with_realm starting_tables
 exited = step_by eight _ _ (by 0 (Exit 0)) _ refl (rec_there (active with_data running) 0 _ (rec Running) (latest (ready rec) (rec Running))) refl
 
--- ---- and what was made last goes first
+-- ---- the undo, the newest first
 
 unmade : step eight (with_rec_pages (active with_data stopped) written) (by 0 (UnRec 6 (record { items = 7 ∷ [] }) 0)) ≡ Some
     (late (active with_data gone) (of_realm InData written) delegated delegated)
@@ -193,8 +193,8 @@ unmade = step_by eight _ _ (by 0 (UnRec 6 (record { items = 7 ∷ [] }) 0)) _
     (ap (λ o. elim o [ Some r ↦ r.granule == 6 && bytes_eq r.auxiliaries (7 ∷ []) | None ↦ false ]) (latest (running rec) (rec Ready)))
     (rec_there (active with_data stopped) 0 _ (rec Ready) (latest (running rec) (rec Ready))) refl
 
--- A page is destroyed: if it was RAM, it is DESTROYED. One of zeros comes, and the RIPAS stays; the realm is ACTIVE,
--- and it is not measured.
+-- A page is destroyed: if its RIPAS was RAM, it becomes DESTROYED. A page of zeros is mapped, and the RIPAS stays; the
+-- realm is ACTIVE, and is not measured.
 module _ (rows : Rows) (ipa : ℕ) (ripas : RipasOf) (inside : is_protected_at ipa 39 ≡ true) where
   emptied : (bytes : List ℕ) → step eight (late (active (with_page rows ipa ripas) gone) (of_realm InData bytes) delegated delegated) (by 0 (UnData 4 ipa))
       ≡ Some (late (active (without_page rows ipa ripas) gone) delegated delegated delegated)

@@ -1,4 +1,4 @@
--- Pages of two builds.
+-- Examples of two builds that take, fill, delegate and give back pages.
 use Rattle.std.proofs.Common.{◌≡◌, true, false, ◌&&◌, List, [], ◌∷◌, Some, None, refl, ap, lit≤}
 use Rattle.std.specs.Prelude.{is_some, slice_index, ◌==◌}
 use Rattle.std.proofs.lemmas.List.{get_or-replicate}
@@ -15,7 +15,7 @@ use Rattle.realm_model.specs.History.{after, replay, open_entries, pages_of, era
 use Rattle.realm_model.specs.Undoing.{by}
 use Rattle.realm_model.proofs.Examples.Worlds.{machine_of, page, delegated, states, free, pages_seen, step_by, and_then, at_end}
 
--- ---- two builds want the one page of a machine
+-- ---- two builds ask for the one page of a machine
 
 abbrev one_taken : List Event
 one_taken = by 0 (Take 0 0) ∷ []
@@ -50,7 +50,7 @@ cleared-state : states (replay (machine_of 1) cleared) ≡ Some (Undelegated ∷
 unfolding after step named outcome_of fits updated_all check
 cleared-state = refl
 
--- it is zero then, whatever was filled in
+-- the page is zero afterwards, whatever was filled in
 cleared-zero : pages_seen (replay (machine_of 1) cleared) ≡ Some (zero_page ∷ [])
 unfolding after step named outcome_of fits updated_all check
 cleared-zero = refl
@@ -59,7 +59,7 @@ cleared-open : open_entries 0 cleared ≡ Take 0 0 ∷ []
 unfolding open_entries reverse_of is_reverse
 cleared-open = refl
 
--- ---- what each of these acts does, in full
+-- ---- the whole effect of each of these operations
 
 abbrev bare : World
 bare = record { machine = page zero_page ∷ page zero_page ∷ []; leases = None ∷ Some 0 ∷ [] }
@@ -101,7 +101,7 @@ untaken-world : step (machine_of 2) filled (by 0 (UnTake 0 1)) ≡ Some (opening
 unfolding step named outcome_of fits updated_all check
 untaken-world = refl
 
--- and all of them in turn
+-- all of these operations, one after another
 in_turn-world : replay (machine_of 2) (by 0 (Take 0 1) ∷ by 0 (Fill 1 255) ∷ by 0 (Peek 1 4095 255) ∷ by 0 (Delegate 1) ∷ by 0 (Undelegate 1) ∷ by 0 (UnTake 0 1) ∷ [])
     ≡ Some (opening (machine_of 2))
 unfolding step named outcome_of fits updated_all check
@@ -142,7 +142,7 @@ foreign : replay (machine_of 2) (by 0 (Take 0 0) ∷ by 1 (Take 0 1) ∷ by 1 (D
 unfolding after step named outcome_of fits updated_all check
 foreign = refl
 
--- nor one that nobody leases
+-- a granule that nobody leases can't be delegated
 unleased : replay (machine_of 2) (by 0 (Take 0 0) ∷ by 0 (Delegate 1) ∷ []) ≡ None
 unfolding after step named outcome_of fits updated_all check
 unleased = refl

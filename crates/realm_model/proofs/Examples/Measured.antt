@@ -1,4 +1,4 @@
--- Measurements: of the old one and the bytes of the event.
+-- Examples of realm measurements, and of the bytes of the events that extend them.
 use Rattle.std.proofs.Common.{◌≡◌, ℕ, List, [], ◌∷◌, ◌++◌, refl}
 use Rattle.std.specs.Prelude.{replicate}
 use Rattle.sha2.specs.Sha256.{sha256}

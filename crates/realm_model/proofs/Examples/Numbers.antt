@@ -1,4 +1,4 @@
--- A realm with numbers that are not 0: its build, its RD, the IPA granule of its data, and a REC beside another.
+-- An example of a realm whose build, RD and data IPA granule have numbers other than 0, and which has two RECs.
 use Rattle.std.proofs.Common.{◌≡◌, ℕ, false, ◌&&◌, List, [], ◌∷◌, ◌++◌, map, Some, None, set, refl, ap, ◌∙◌, lit≤}
 use Rattle.std.specs.FinMap.{get, insert, remove, empty, get-insert, get-remove}
 use Rattle.std.specs.Cmp.{nat_cmp_total}
@@ -179,7 +179,7 @@ exited : step (machine_of 8) (whole (active with_data running) (data_page writte
 unfolding named outcome_of fits updated_all check realm_from with_realm starting_tables
 exited = step_by (machine_of 8) _ _ (by 1 (Exit 1)) _ refl (rec_there (active with_data running) 1 _ (rec 7 Running) (latest_second both (rec 7 Running))) refl
 
--- ---- and what was made last goes first
+-- ---- the undo, the newest first
 
 unmade-second : step (machine_of 8) (whole (active with_data stopped) (data_page written) rec_page rec_page) (by 1 (UnRec 7 (record { items = [] }) 1))
     ≡ Some (whole (active with_data one_again) (data_page written) rec_page delegated)

@@ -1,4 +1,4 @@
--- Two builds, in one schedule and in another.
+-- Examples of the same events of two builds in different schedules.
 use Rattle.std.proofs.Common.{◌≡◌, zero, suc, List, [], ◌∷◌, Some, None, inl, inr, refl, sym, ◌∙◌, arith}
 use Rattle.granule_addr.specs.Page.{zero_page, page_of}
 use Rattle.realm_model.specs.declared.act.Act.TheVariants.{Take, UnTake, Fill, Delegate, Realm, UnRealm}
@@ -60,11 +60,11 @@ handed_on-legal = record { steps = refl; in_turn = (λ r. cc, (λ r. refl, (λ r
 handed_on-gives : GivesTo (UnTake 0 0) (Take 0 0)
 handed_on-gives = inl (0, Contains-from_in (0 ∷ []) 0 refl, Contains-from_in (0 ∷ []) 0 refl)
 
--- it can't be taken before
+-- the page can't be taken before it is given back
 too_early : replay (machine_of 1) (by 0 (Take 0 0) ∷ by 1 (Take 0 0) ∷ by 0 (UnTake 0 0) ∷ []) ≡ None
 unfolding after step named outcome_of fits updated_all check
 too_early = refl
 
--- so is the VMID of a realm that ends
+-- the VMID of a realm that is destroyed is given back too
 vmid_given : GivesTo (UnRealm 0 start 1) (Realm 2 start 1)
 vmid_given = inr (1, Contains-from_in (1 ∷ []) 1 refl, Contains-from_in (1 ∷ []) 1 refl)

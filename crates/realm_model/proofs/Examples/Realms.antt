@@ -1,4 +1,4 @@
--- Realms and RECs.
+-- Examples of the creation of realms and RECs.
 use Rattle.std.proofs.Common.{◌≡◌, ℕ, false, List, [], ◌∷◌, Some, refl}
 use Rattle.std.specs.Prelude.{is_some}
 use Rattle.realm_model.specs.declared.act.Act.TheVariants.{Take, Fill, Delegate, Realm, Activate, Rec}

@@ -1,4 +1,4 @@
--- A REC that runs, stops and is destroyed, and with it all that its build had.
+-- An example of a REC that runs, stops and is destroyed, and of the undo of all operations of its build.
 use Rattle.std.proofs.Common.{◌≡◌, ℕ, true, false, cond, ◌&&◌, ◌||◌, not, List, [], ◌∷◌, ◌++◌, length, Some, None, Err, refl, sym, ap, ◌∙◌}
 use Rattle.std.specs.Prelude.{◌==◌, is_some, option_and_then}
 use Rattle.std.specs.FinMap.{get, insert, empty, len, get-insert, get-remove, get-empty}
@@ -96,12 +96,12 @@ runs-refused : outcome_in (machine_of 4) (world running (of_realm InRec zero_pag
 unfolding named outcome_of check realm_from with_realm starting_tables
 runs-refused = rec_there (realm running) 0 _ (rec Running) (latest (ready rec) (rec Running))
 
--- it stops
+-- the REC stops
 stops : step (machine_of 4) (world running (of_realm InRec zero_page)) (by 0 (Exit 0)) ≡ Some (world stopped (of_realm InRec zero_page))
 unfolding named outcome_of fits updated_all check realm_from with_realm starting_tables
 stops = step_by (machine_of 4) _ _ (by 0 (Exit 0)) _ refl (rec_there (realm running) 0 _ (rec Running) (latest (ready rec) (rec Running))) refl
 
--- it is gone, and its granule is DELEGATED
+-- the REC is destroyed, and its granule is DELEGATED
 goes : step (machine_of 4) (world stopped (of_realm InRec zero_page)) (by 0 unmade) ≡ Some (world gone delegated)
 unfolding named outcome_of fits updated_all check realm_from with_realm starting_tables
 goes = step_by (machine_of 4) _ _ (by 0 unmade) _
@@ -164,7 +164,7 @@ marked-back : rolling_back (mark_at 0 on_four) stopped_again ≡ by 0 unmade ∷
 unfolding open_entries reverse_of is_reverse
 marked-back = refl
 
--- the history that went back to the mark, and where it led
+-- the history that is rolled back to the mark, and the world that it leads to
 marked-world : replay (machine_of 4) (stopped_again ++ rolling_back (mark_at 0 on_four) stopped_again) ≡ Some (world gone delegated)
 marked-world =
     ap (λ es. replay (machine_of 4) (stopped_again ++ es)) marked-back
@@ -181,11 +181,12 @@ marked-legal = record {
   in_turn = joined [] stopped_again (by 0 unmade ∷ []) (forward [] stopped_again refl) (λ r. refl, tt);
 }
 
--- of that history what stays of the build is what the mark saw: the REC, its runs and the activation are left out
+-- without the build's events after the mark, that history is the one of the mark: the REC, its runs and the activation
+-- are left out
 marked-left : erase_after 0 (mark_at 0 on_four).place (stopped_again ++ by 0 unmade ∷ []) ≡ on_four
 marked-left = refl
 
--- not while it runs
+-- the REC runs, so the build can't be rolled back yet
 marked-runs : list_any (is_running (realm_of 0 (world running (of_realm InRec zero_page)))) (above (mark_at 0 on_four) (entered ++ by 0 (Enter 0) ∷ [])) ≡ true
 unfolding realm_from open_entries reverse_of is_reverse starting_tables
 marked-runs = ap (λ o. is_rec_running o || false) (latest (ready rec) (rec Running))

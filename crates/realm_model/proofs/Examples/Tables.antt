@@ -79,7 +79,7 @@ module _ (width : ℕ) where
   unfolding root_rows
   beside_root q apart = get-put_rows_other (λ _. unassigned Empty) empty 1 0 (512 * start_count width) q apart ∙ get-empty place_cmp q
 
--- where that is one
+-- the rows of one starting table
 
 root-first : get start_rows (1, 0) ≡ Some (vacant Empty)
 root-first = root-row 39 0 (lit≤ tt)
@@ -138,7 +138,7 @@ made : step (machine_of 4) (world start_rows delegated) (by 0 (Rtt 2 0 2)) ≡ S
 unfolding named outcome_of fits updated_all check realm_from with_realm
 made = step_by (machine_of 4) _ _ (by 0 (Rtt 2 0 2)) _ refl (end_there start_rows 0 1 _ _ root-walk) refl
 
--- ---- it is gone
+-- ---- the table is destroyed
 
 abbrev untabled : Rows
 untabled = without_table tabled 2 0
@@ -169,7 +169,7 @@ gone = step_by (machine_of 4) _ _ (by 0 (UnRtt 2 0 2)) _
     (check_true _ _ _ refl ∙ end_there tabled 0 1 _ _ (walk_there tabled 0 1 (leads 2) (lit≤ tt) tabled-above) ∙ check_true _ _ _ refl ∙ check_true _ _ _ refl ∙ check_true _ _ _ unused)
     refl
 
--- ---- and made again: its rows have the RIPAS that is above
+-- ---- the table is created again: its rows have the RIPAS of the row above
 
 clone : step (machine_of 4) (world untabled delegated) (by 0 (Rtt 2 0 2)) ≡ Some (world (with_table untabled 2 0 2 Destroyed) table_page)
 unfolding named outcome_of fits updated_all check realm_from with_realm

@@ -51,7 +51,7 @@ made : step (machine_of 4) (world tabled table_page delegated) (by 0 (Rtt 3 2621
 unfolding named outcome_of fits updated_all check realm_from with_realm
 made = step_by (machine_of 4) _ _ (by 0 (Rtt 3 262144 2)) _ refl (end_there tabled 262144 1 _ _ (walk_there tabled 262144 1 (vacant Empty) (lit≤ tt) tabled-beside)) refl
 
--- ---- the first is gone
+-- ---- the first table is destroyed
 
 abbrev second_left : Rows
 second_left = without_table two 2 0
@@ -88,7 +88,7 @@ gone = step_by (machine_of 4) _ _ (by 0 (UnRtt 2 0 2)) _
     (check_true _ _ _ refl ∙ end_there two 0 1 _ _ (walk_there two 0 1 (leads 2) (lit≤ tt) two-above) ∙ check_true _ _ _ refl ∙ check_true _ _ _ refl ∙ check_true _ _ _ unused)
     refl
 
--- ---- the second is gone
+-- ---- the second table is destroyed
 
 abbrev first_left : Rows
 first_left = without_table two 2 262144

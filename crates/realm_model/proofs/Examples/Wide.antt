@@ -39,12 +39,12 @@ askew : is_some (replay (machine_of 8) (wide 0 2 41)) ≡ false
 unfolding after step named outcome_of fits updated_all check realm_from starting_tables
 askew = refl
 
--- none of them is the RD, not the last one either
+-- no starting table is the RD, not even the last one
 rd_apart : (is_some (replay (machine_of 8) (wide 4 4 41)) ≡ false) × (is_some (replay (machine_of 8) (wide 7 4 41)) ≡ false)
 unfolding after step named outcome_of fits updated_all check realm_from starting_tables
 rd_apart = (refl, refl)
 
--- each of them is DELEGATED
+-- each granule is DELEGATED
 abbrev but_one : ℕ → List Event
 but_one g = by 0 (Take 3 0) ∷ map (λ k. by 0 (Delegate k)) (filter (λ k. not (k == g)) (0 ∷ 4 ∷ 5 ∷ 6 ∷ 7 ∷ [])) ++ by 0 (Realm 0 (root_at 4 41) 1) ∷ []
 
@@ -56,13 +56,13 @@ but_last : is_some (replay (machine_of 8) (but_one 7)) ≡ false
 unfolding after step named outcome_of fits updated_all check realm_from starting_tables
 but_last = refl
 
--- and each of them is the build's
+-- each granule is the build's
 others_table : is_some (replay (machine_of 8) (by 0 (Take 2 0) ∷ by 0 (Take 1 4) ∷ by 0 (Take 0 6) ∷ by 1 (Take 0 7)
     ∷ map (λ k. by 0 (Delegate k)) (0 ∷ 4 ∷ 5 ∷ 6 ∷ []) ++ by 1 (Delegate 7) ∷ by 0 (Realm 0 (root_at 4 41) 1) ∷ [])) ≡ false
 unfolding after step named outcome_of fits updated_all check realm_from starting_tables
 others_table = refl
 
--- two realms have two VMIDs
+-- two realms have different VMIDs
 abbrev two_realms : ℕ → List Event
 two_realms vmid = by 0 (Take 1 0) ∷ by 1 (Take 1 2) ∷ by 0 (Delegate 0) ∷ by 0 (Delegate 1) ∷ by 1 (Delegate 2) ∷ by 1 (Delegate 3)
     ∷ by 0 (Realm 0 (root_at 1 39) 1) ∷ by 1 (Realm 2 (root_at 3 39) vmid) ∷ []

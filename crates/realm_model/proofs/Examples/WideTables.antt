@@ -120,7 +120,7 @@ filled = insert lower (3, second) page_row
 filled-first : get filled (3, second) ≡ Some page_row
 filled-first = get-insert place_total lower (3, second) page_row (3, second)
 
--- ---- the rows on the way back: what they own is what rows owned on the way there
+-- ---- the rows on the way back own the same as the rows on the way there
 
 abbrev emptied : Rows
 emptied = insert filled (3, second) (vacant Empty)
@@ -202,7 +202,7 @@ raised : step eight (world wide delegated delegated delegated) (by 0 (Rtt 1 seco
 unfolding named outcome_of fits updated_all check realm_from with_realm
 raised = step_by eight _ _ (by 0 (Rtt 1 second 2)) _ refl (end_there wide second 1 _ _ (walk_there wide second 1 (vacant Empty) (lit≤ tt) wide-second)) refl
 
--- the realm can't go now
+-- the realm can't be destroyed now
 stands : outcome_in eight (world upper table_page delegated delegated) (by 0 (UnRealm 0 four 1)) ≡ Err (record { status = OfRealm; index = 0 })
 unfolding named outcome_of check realm_from with_realm
 stands = refused _ _ (λ i. eq-eqb (len no_recs) 0 (len-empty nat_cmp RecRow) i && not (not (upper-table i)))

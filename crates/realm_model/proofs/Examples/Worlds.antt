@@ -1,4 +1,4 @@
--- Worlds as they are written down, and views of them.
+-- The worlds that the examples use, and functions that extract parts of a world.
 use Rattle.std.proofs.Common.{◌≡◌, ℕ, true, false, cond, List, [], ◌∷◌, ◌++◌, map, Option, Some, None, Ok, refl, sym, ap, ◌∙◌, subst}
 use Rattle.std.specs.Prelude.{option_map, option_and_then}
 use Rattle.std.specs.List.{list_any}
@@ -66,7 +66,7 @@ Recs = FinMap nat_cmp RecRow
 pub latest : (recs : Recs) (rec : RecRow) → get (insert recs 0 rec) 0 ≡ Some rec
 latest recs rec = get-insert nat_cmp_total recs 0 rec 0
 
--- the RECs of a realm that has one, of number 0: it is made, runs, stops and is gone
+-- the RECs of a realm that has one, of number 0: it is made, runs, stops and is destroyed
 abbrev pub OneRec : Type 0
 OneRec = (RecState → RecRow) → Recs
 
@@ -100,14 +100,14 @@ pages_seen w = option_map (λ (w : World). map (λ (c : Cell). c.bytes) w.machin
 
 -- ---- steps
 
--- a step whose command looks at rows or RECs, which are not computed
+-- a step whose command depends on rows or RECs, which are not computed
 pub step_by : (limits : Limits) (w v : World) (e : Event) (us : List Update) → is_allowed limits w e ≡ true → outcome_in limits w e ≡ Ok us → updated_all e.build us w ≡ Some v
     → step limits w e ≡ Some v
 unfolding step
 step_by limits w v e us allowed outcome did =
     ap (λ t. cond t (after_outcome e.build (outcome_in limits w e) w) None) allowed ∙ ap (λ o. after_outcome e.build o w) outcome ∙ did
 
--- one step, and what comes after
+-- one step, and the steps after it
 pub and_then : (limits : Limits) (w x : World) (o : Option World) (e : Event) (es : List Event) → step limits w e ≡ Some x → after limits es x ≡ o → after limits (e ∷ es) w ≡ o
 unfolding after
 and_then limits w x o e es stepped rest = ap (option_and_then (after limits es)) stepped ∙ rest
@@ -116,7 +116,7 @@ pub at_end : (limits : Limits) (w : World) → after limits [] w ≡ Some w
 unfolding after
 at_end limits w = refl
 
--- ---- what is in turn: events that are no reverses, and then others
+-- ---- events in turn: those that are no reverses, and then others
 
 pub forward : (before es : List Event) → list_any (λ (x : Event). is_reverse x.act) es ≡ false → AllInTurn before es
 forward before [] none = tt

@@ -1,5 +1,4 @@
--- The rows that a command requires in the tables of a realm, and the level that it is else refused with. RMM 1.0,
--- RMI_ERROR_RTT.
+-- The rows that commands require in a realm's tables, and the levels that refusals report. RMM 1.0, RMI_ERROR_RTT.
 use Rattle.std.specs.Prelude.{ℕ, ◌-◌, not}
 use Rattle.realm_model.specs.Rows.{Row, Rows, is_unassigned, is_assigned, is_table, all_rows, is_table_unused}
 use Rattle.realm_model.specs.Update.{Outcome}

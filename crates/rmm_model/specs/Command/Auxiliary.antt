@@ -1,4 +1,4 @@
--- Auxiliary granules of RECs. RMM 1.0, REC attribute aux.
+-- The auxiliary granules of a REC, and the machine after they are wiped. RMM 1.0, REC attribute aux.
 use Rattle.std.specs.Prelude.{ℕ, zero, suc, Option, Some, None}
 use Rattle.granule_addr.specs.Page.{zero_page}
 use Rattle.rmm_model.specs.declared.granule.RmmGranule.{RmmGranule}

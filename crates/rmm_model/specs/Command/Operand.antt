@@ -1,4 +1,4 @@
--- Checks of operands that commands share. RMM 1.0, failure conditions of RMI commands.
+-- The checks of operands that several RMI commands have in common. RMM 1.0, failure conditions of RMI commands.
 use Rattle.std.specs.Prelude.{ℕ, ◌-◌, ◌%◌, ◌==◌, ◌&&◌, Bool, not, nat_le, List, [], ◌∷◌, ◌++◌, is_none, unwrap_or}
 use Rattle.rmi_abi.specs.declared.registers.SmcResult.{SmcResult}
 use Rattle.rmi_abi.specs.declared.settings.RmmSettings.{RmmSettings}

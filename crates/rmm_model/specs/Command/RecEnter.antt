@@ -1,4 +1,4 @@
--- RMI_REC_ENTER.
+-- The command RMI_REC_ENTER: its checks, its answer and its effect, with the guest's steps and the host's interrupts.
 use Rattle.std.specs.Prelude.{ℕ, zero, suc, ◌+◌, ◌-◌, ◌==◌, ◌&&◌, Bool, true, false, not, List, [], ◌∷◌, ◌++◌, Option, Some, None, if◌then◌else◌}
 use Rattle.page_arena.specs.Word.{word_of_page}
 use Rattle.rmi_abi.specs.declared.rec_run.ExitReason.{ExitReason}

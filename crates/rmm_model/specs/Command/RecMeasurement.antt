@@ -1,4 +1,4 @@
--- The measurement of a realm after a REC. RMM 1.0, RMI_REC_CREATE and RmmMeasurementDescriptorRec.
+-- The measurement of a realm after the creation of a REC. RMM 1.0, RMI_REC_CREATE and RmmMeasurementDescriptorRec.
 use Rattle.std.specs.Prelude.{ℕ, ◌||◌, Bool, List, if◌then◌else◌}
 use Rattle.rmi_abi.specs.declared.settings.RmmSettings.{RmmSettings}
 use Rattle.rmi_abi.specs.RecParams.{is_runnable_in}

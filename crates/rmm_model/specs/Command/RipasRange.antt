@@ -1,4 +1,5 @@
--- Changes of the RIPAS of a range, as far as one table goes. RMM 1.0, RMI_RTT_INIT_RIPAS and RMI_RTT_SET_RIPAS.
+-- The change of the RIPAS of a range, within the entries of one table, and the checks of the range. RMM 1.0,
+-- RMI_RTT_INIT_RIPAS and RMI_RTT_SET_RIPAS.
 use Rattle.std.specs.Prelude.{ℕ, ◌+◌, ◌-◌, ◌/◌, not, nat_le, List, [], ◌∷◌, if◌then◌else◌}
 use Rattle.rmm_model.specs.declared.condition.Condition.{Condition}
 use Rattle.rmm_model.specs.declared.condition.Condition.TheVariants.{Size, BaseAlign, RtteState, NoProgress}

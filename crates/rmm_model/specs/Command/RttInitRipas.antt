@@ -1,4 +1,4 @@
--- RMI_RTT_INIT_RIPAS.
+-- The command RMI_RTT_INIT_RIPAS: its checks, its answer and its effect.
 use Rattle.std.specs.Prelude.{ℕ, zero, suc, ◌+◌, ◌-◌, ◌*◌, not, false, List, [], ◌∷◌, ◌++◌}
 use Rattle.rmi_abi.specs.declared.hash.HashAlgorithm.{HashAlgorithm}
 use Rattle.rmi_abi.specs.declared.settings.RmmSettings.{RmmSettings}

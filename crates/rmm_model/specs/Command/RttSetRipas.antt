@@ -1,4 +1,4 @@
--- RMI_RTT_SET_RIPAS.
+-- The command RMI_RTT_SET_RIPAS: its checks, its answer and its effect.
 use Rattle.std.specs.Prelude.{ℕ, ◌+◌, ◌*◌, ◌==◌, ◌&&◌, ◌||◌, Bool, true, not, nat_le, Some, List, [], ◌∷◌, ◌++◌}
 use Rattle.rmm_model.specs.declared.condition.Condition.TheVariants.{Size, TopGranAlign, BaseBound, TopBound, RdState, RecAlign, RecBound, RecGranState, RecState, RecOwner}
 use Rattle.rmm_model.specs.declared.entry.Changeable.{Changeable}

@@ -1,6 +1,6 @@
 //! The build that is chosen for a turn, among those with a step left.
 
-/// The build that takes a turn. `left` has the builds that had a step left for the turn.
+/// The build that is chosen for a turn. `left` says for each build whether it had a step left before the turn.
 #[derive(Clone, Copy)]
 pub struct Choice {
     pub build: usize,

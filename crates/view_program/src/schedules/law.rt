@@ -38,16 +38,16 @@ pub fn a_run_is_one_of_the_plan()
         → (text : List ℕ) × IsReportedRun (record plan { order = chosen_schedule choices }) host to [] text }
 {}
 
-/// The step outcomes that a plan's run records are those in its output lines. The sequence is the same. Each outcome is
-/// that of a turn of the same build, with the refusal in its line.
+/// Proves that the step outcomes recorded in a plan's run are those in the run's output lines, in the same sequence.
+/// Each outcome is that of a turn of the same build, with the refusal in its line.
 pub fn ends_are_reported()
     ensures { (plan : Plan) (host : HostView) (choices : List Choice) (to : HostView) (ends : List EndOfStep)
         → IsChosenRun plan host choices to ends
         → AreTold (record plan { order = chosen_schedule choices }) host to ends }
 {}
 
-/// Two step outcomes are counted as the same if and only if they are equal. Equal outcomes are of the same step of the
-/// same build, with the same refusal and its numbers, or with none.
+/// Proves that two step outcomes are counted as the same if and only if they are equal. Equal outcomes are of the same
+/// step of the same build, with the same refusal and its numbers, or with none.
 pub fn end_texts_are_injective()
     ensures { (one other : EndOfStep) → (same_end one other ≡ true) ↔ (one ≡ other) }
 {}

@@ -21,7 +21,7 @@ fn lowest_from(from: usize, left: &[bool; 8]) -> Option<usize>
     (0..8).find(|build| *build >= from && left[*build])
 }
 
-// The build whose turn it is when the rotation has come to `from`.
+// The build whose turn it is when the rotation has reached `from`.
 fn in_rotation(from: usize, left: &[bool; 8]) -> Option<usize>
     ensures { result ≡ in_rotation from left.now }
 {

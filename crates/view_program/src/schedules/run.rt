@@ -38,7 +38,7 @@ pub(crate) fn builds_left(plan: &Plan, places: &[PlanCursor; 8]) -> [bool; 8]
     left
 }
 
-/// Finds the build with the lowest number that has a step left.
+/// Finds the lowest-numbered build that has a step left.
 #[tactic(auto, unfolding(crate::specs::Chosen::lowest_of))]
 pub(crate) fn lowest_of(left: &[bool; 8]) -> Option<usize>
     ensures { result ≡ lowest_of left.now }
@@ -106,9 +106,9 @@ fn go_on<S: PageStore>(
     Ok(())
 }
 
-/// Runs the builds of a plan on a host, one after another. Each turn goes to the lowest build that has a step left. The
-/// choices are then those of the whole schedule, and the outcome of each step is recorded. The one error is that
-/// allocation failed; the run is then cut short.
+/// Runs the builds of a plan on a host, one after another. Each turn goes to the lowest-numbered build that has a step
+/// left. The choices are then those of the whole schedule, and the outcome of each step is recorded. The one error is
+/// that allocation failed; the run is then cut short.
 pub(crate) fn run_one_by_one<S: PageStore>(
     host: &mut Host<S>,
     plan: &Plan,

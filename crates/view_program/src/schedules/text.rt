@@ -33,8 +33,8 @@ fn push_maps(
     Ok(())
 }
 
-/// Appends the text of the outcomes of randomly drawn schedules. It has the number of schedules, the outcomes of steps,
-/// and the final maps. The one error is that allocation failed; the text may then have a part of it.
+/// Appends the text of the outcomes of randomly drawn schedules. The text has the number of schedules, the outcomes of
+/// steps, and the final maps. The one error is that allocation failed; the text may then have a part of it.
 pub fn push_drawn(text: &mut String, plan: &Plan, totals: &Totals) -> Result<(), AllocError>
     ensures { OnOk result (string_bytes text.new ≡ string_bytes text.old ++ drawn_text (plan_view plan.now) totals.now) }
 {

@@ -13,8 +13,8 @@ use realm_program::boot;
 use std::alloc::{AllocError, Global};
 
 /// Returns a schedule in which the builds with a step left take turns in rotation. The schedule has the index of each
-/// turn's build. It is the schedule of a run on a fresh host. The plan's own schedule is not used. The one error is that
-/// allocation failed.
+/// turn's build. It is the schedule of a run on a fresh host. The plan's own schedule is not used. The one error is
+/// that allocation failed.
 pub fn schedule_in_rotation(alloc: Global, plan: &Plan) -> Result<Vec<usize>, AllocError>
     ensures { IfOk result (λ schedule. IsWholeSchedule (AreInRotation 0) (plan_view plan.now)
         (opening_host (plan_view plan.now)) schedule.items) }

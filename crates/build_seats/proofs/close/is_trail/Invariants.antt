@@ -2,7 +2,7 @@ use Rattle.std.specs.Prelude.{◌≡◌, ◌≤◌, ◌↔◌, drop, length}
 use Rattle.realm_model.specs.History.{events_of}
 use Rattle.build_seats.proofs.close.is_trail.Given as goal
 
--- what is left of both agrees exactly where the whole does
+-- what is left of both agrees exactly if the whole does
 abbrev pub invariant-loop-event : goal.invariant-loop-event
 invariant-loop-event l =
     (l.at ≤ length l.trail)

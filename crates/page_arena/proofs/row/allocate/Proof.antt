@@ -1,4 +1,5 @@
--- `allocate`: an empty row of the new block, with the right to give it back. Assumes `Logic`.
+-- The proof of `allocate`, which returns an empty row in a new allocation, with the right to free the memory. Assumes
+-- the separation logic `Logic`.
 use Rattle.page_arena.proofs.Steps.{◌*◌, ◌<◌, ◌^◌, ◌∷◌, ◌∵◌, ◌⊛◌, ◌$◌, !, Ended, Stays, Val, [], agg, ap, arith, align_word, alloc_all, and_then}
 use Rattle.page_arena.proofs.Steps.{at_ret, await, bin, block_ptr, done, drop, ends_at, enter, env, exec, fact, first, fjoin, flft, fld, framed}
 use Rattle.page_arena.proofs.Steps.{free_all, fsplit, get, get_in, get_tag, Goes-dropped, heard, inst_fn, is, join, keep, lands_as, later}

@@ -36,12 +36,12 @@ use Rattle.rmm_model.specs.Machine.{Machine, number_of, page_in}
 use Rattle.rmm_answers.specs.Call.{is_refused}
 use Rattle.rmm_answers.proofs.law.refusals_change_nothing.Goals as goal
 
--- a REC that is entered leaves or runs on
+-- the answer for an entered REC is no refusal, whether the REC leaves or runs on
 entered : (leaves : Bool) → is_refused (number (entered_answer leaves).word) ≡ false
 entered true = refl
 entered false = refl
 
--- the own answer of no command refuses
+-- the answer of a command whose checks pass is no refusal
 own : (call : Call) (m : Machine) → is_refused (number (command_of call m).answer.word) ≡ false
 unfolding version features granule_delegate granule_undelegate realm_create realm_activate rec_aux_count rtt_read_entry rtt_create rtt_destroy realm_destroy rtt_fold rtt_map_unprotected rtt_unmap_unprotected data_create data_create_unknown data_destroy rtt_init_ripas rtt_set_ripas rec_create rec_destroy rec_enter psci_complete
 own (Version requested) m = refl

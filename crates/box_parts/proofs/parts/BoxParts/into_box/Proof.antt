@@ -1,4 +1,4 @@
--- `into_box` hands what the parts own to `from_raw`.
+-- A proof that `BoxParts::into_box` meets its contract: the ownership of the parts passes to `from_raw`.
 use mathlib.Core.Path.{◌≡◌, refl, sym, subst, ap}
 use mathlib.Core.List.{List, [], ◌∷◌, ◌++◌}
 use lib.Dec.{T}

@@ -1,4 +1,4 @@
--- `of` takes the box apart, and the parts own what it owned.
+-- A proof that `BoxParts::of` meets its contract: the parts own what the box owned.
 use mathlib.Core.Path.{◌≡◌, refl, sym, subst, ap, ◌∙◌}
 use mathlib.Core.List.{List, [], ◌∷◌, ◌++◌}
 use seplogic.Ra.Ura.{Ura}

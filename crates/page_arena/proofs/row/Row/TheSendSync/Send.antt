@@ -1,4 +1,4 @@
--- `Send` and `Sync` of a row, as its items and its allocator have them.
+-- The proof that a row is `Send` if its items and its allocator are `Send`.
 use base.Shift.{Keyless}
 use mir.Syntax.{Ty, ty_array}
 use mir.Raw.{raw}

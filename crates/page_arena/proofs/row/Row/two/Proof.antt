@@ -1,4 +1,5 @@
--- `two`: one item by reference and another by mutable reference, whose changes the row follows. Assumes `Logic`.
+-- The proof of `two`, which returns a shared reference to one item of a row and a mutable one to another. A write
+-- through the mutable one changes the row. Assumes the separation logic `Logic`.
 use Rattle.page_arena.proofs.Steps.{◌+◌, ◌*◌, ◌∙◌, ◌∷◌, ◌∵◌, ◌⊛◌, ◌$◌, !, Ended, GName, List, Logic, MutRef, Ptr, ShrRef, Stays, Val, [], addr, agg}
 use Rattle.page_arena.proofs.Steps.{alloc_all, and_then, at_ret, await, bin, blocks, done, drop, ends_at, enter, env, exec, fact, fat, fbor, feq_i, first}
 use Rattle.page_arena.proofs.Steps.{fjoin, fjoin3, flft, fld, fobs, frame, free_all, fsep, fsplit, fsplit3, ftrue, full_share, get, get_in, get_or}

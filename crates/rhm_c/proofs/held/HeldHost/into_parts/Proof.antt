@@ -1,4 +1,4 @@
--- `into_parts` is walked through.
+-- A proof that `HeldHost::into_parts` meets its contract.
 use Rattle.std.proofs.Common.{◌≡◌, List, [], ◌∷◌, ◌++◌, refl, sym, subst}
 use mir.Val.{Val, vptr}
 use base.Logic.{SProp, ent, emp, id⊢}

@@ -1,4 +1,4 @@
--- `none` is walked through.
+-- A proof that `HeldHost::none` meets its contract.
 use Rattle.std.proofs.Common.{◌≡◌, [], ◌∷◌, refl, lit<, w64}
 use mir.Val.{Val, vint}
 use base.Logic.{SProp, emp}

@@ -1,4 +1,5 @@
--- `into_parts` is walked through.
+-- A proof that `HeldRmm::into_parts` meets its contract: the ownership of the RMM passes from the pointer to the
+-- returned parts.
 use Rattle.std.proofs.Common.{◌≡◌, List, [], ◌∷◌, ◌++◌, refl, sym, subst}
 use mir.Val.{Val, vptr}
 use base.Logic.{SProp, ent, emp, id⊢}

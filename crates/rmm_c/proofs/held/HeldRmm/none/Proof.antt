@@ -1,4 +1,4 @@
--- `none` is walked through.
+-- A proof that `HeldRmm::none` meets its contract: the result is a null pointer, which owns no RMM.
 use Rattle.std.proofs.Common.{◌≡◌, [], ◌∷◌, refl, lit<, w64}
 use mir.Val.{Val, vint}
 use base.Logic.{SProp, emp}

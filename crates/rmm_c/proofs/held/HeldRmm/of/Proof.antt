@@ -1,4 +1,4 @@
--- `of` is walked through.
+-- A proof that `HeldRmm::of` meets its contract: the pointer owns the RMM that the parts of the box owned.
 use Rattle.std.proofs.Common.{◌≡◌, List, [], ◌∷◌, ◌++◌, refl, sym, subst}
 use mir.Val.{Val, vptr}
 use base.Logic.{SProp, ent, emp, id⊢}

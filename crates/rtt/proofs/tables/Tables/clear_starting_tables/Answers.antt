@@ -66,7 +66,7 @@ loop-number-preserved g c =
       flags = c.fill.ensures.flags ∙ c.loop-number.invariant.flags;
     }
 
--- after the last one
+-- after the last starting table
 pub returns-clause-cleared : goal.returns-clause-cleared
 unfolding starting_tables
 returns-clause-cleared g c =
