@@ -523,7 +523,7 @@ class Rmm:
         return room.raw[:count].decode()
 
     def lines(self, lines):
-        """Each line of a trace with our answer, as `rmitrace answer` prints it. It performs one line after another."""
+        """Each line of a trace with the model's answer, as `rmitrace answer` prints it. It performs one line after another."""
         for text in lines:
             text = text.rstrip("\n")
             bare = text.partition("#")[0].rstrip(" \r")

@@ -67,7 +67,7 @@ pub fn push_result<S: PageStore>(granules: &mut Granules<S>, g: Gran, r: &StepRe
     granules.edit_rec(g, RecEdit::AddResult);
 }
 
-// ---- the host's hand
+// ---- actions of the host
 
 // The granule of the REC that begins at an address, if a REC begins there.
 pub fn rec_named<S: PageStore>(granules: &Granules<S>, address: u64) -> Option<Gran>

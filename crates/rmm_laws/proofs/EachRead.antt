@@ -93,7 +93,7 @@ destroyed_no_rd _ m rd after count ok gone is = gone
 
 -- what is read at an address, and what a call may make of it
 module _ (x : ℕ) (A : Type 0) (F : RmmRttEntry → ℕ → A) (G : Machine → Option Call → ℕ → A → A → Type 0) where
-  -- Each realm that is there before and after a call reads as it did at the address, or as the call makes it.
+  -- For each realm before and after a call, the value read at the address is the same, or the one that the call sets.
   abbrev pub KeepsRead : Machine → Option Call → Machine → Type 0
   KeepsRead m call n =
       (rd : ℕ) (before after : RmmRealm) → (granule_at m rd).state ≡ Rd before → (granule_at n rd).state ≡ Rd after → is_protected before x ≡ true

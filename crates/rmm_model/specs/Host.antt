@@ -14,7 +14,7 @@ is_host_page m address = is_inside m address && is_host_s m address
 abbrev pub can_access : Machine → ℕ → Bool
 can_access m address = address % 8 == 0 && is_host_page m address
 
--- the word that a load returns; none comes if it faults
+-- the word that a load returns, or `None` if the load faults
 abbrev pub loaded : Machine → ℕ → Option ℕ
 loaded m address = if can_access m address then Some (word_of_page (page_in m (number_of m address)) (address % 4096 / 8)) else None
 
@@ -26,7 +26,7 @@ after_store m address word = if can_access m address then with_word m (number_of
 abbrev pub can_fill : Machine → ℕ → Bool
 can_fill m address = is_aligned address && is_host_page m address
 
--- the state of the granule that begins at an address; none comes if there is none
+-- the state of the granule that begins at an address, or `None` if no granule begins there
 abbrev pub state_shown : Machine → ℕ → Option RmmGranuleState
 state_shown m address = if is_aligned address && is_inside m address then Some (state_at m address) else None
 
