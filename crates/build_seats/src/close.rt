@@ -37,8 +37,8 @@ pub fn missing<L: Ledgers>(seats: &[Seat<L>], builds: u8) -> Option<BuildId>
     ensures some { IfSome result (λ build. IsMissing builds build seats.now) }
     ensures none { IfNone result (AreSeatsWhole builds seats.now) }
 {
-    for number in 0..builds {
-        let build = BuildId::new(number).unwrap();
+    for number in 0..usize::from(builds) {
+        let build = BuildId::at(number);
         if seat_count(seats, build) != 1 {
             return Some(build);
         }
@@ -61,7 +61,7 @@ pub fn mismatch<L: Ledgers>(seats: &[Seat<L>], history: &[Event]) -> Option<Buil
     ensures none { IfNone result (FitsAll history.now seats.now) }
 {
     for number in 0..8 {
-        let build = BuildId::new(number).unwrap();
+        let build = BuildId::at(number);
         if !fits(seats, history, build) {
             return Some(build);
         }

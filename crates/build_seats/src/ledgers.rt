@@ -185,7 +185,7 @@ impl<L: Ledgers> Pass<L> {
             Whole::Build6(_) => 6,
             Whole::Build7(_) => 7,
         };
-        BuildId::new(number).unwrap()
+        BuildId::at(number)
     }
 }
 
