@@ -37,13 +37,9 @@ impl<S: PageStore, L: Ledgers> Shared<S, L> {
         ensures seats { IfOk result (λ r. r.1.items ≡ map new_seat (range_with_len 0 host.limits.builds)) }
         ensures back { IfErr result (λ e. (e.1 ≡ blanks) × (e.2 ≡ host)) }
     {
-        match Kept::start(alloc, blanks, host) {
-            Ok((kept, seats)) => {
-                let kept = Mutex::new(kept);
-                Ok((Shared { kept }, seats))
-            }
-            Err(back) => Err(back),
-        }
+        let (kept, seats) = Kept::start(alloc, blanks, host)?;
+        let kept = Mutex::new(kept);
+        Ok((Shared { kept }, seats))
     }
 
     /// Performs a command of the seat's build on the shared host. Returns the reply, or the host's refusal.

@@ -179,10 +179,7 @@ pub fn actions_asked<S: PageStore>(
     requires { run < 64 }
     ensures { result ≡ prepared.actions_asked frame host.now build run cmd.now }
 {
-    let granules = match check_needs(host.ledger(), build, cmd) {
-        Ok(granules) => granules,
-        Err(refusal) => return Err(refusal),
-    };
+    let granules = check_needs(host.ledger(), build, cmd)?;
     let act = act_of(cmd, &granules, allocated(host, build));
     actions_of_act(frame, host, build, run, cmd, act)
 }

@@ -27,10 +27,7 @@ impl<S: PageStore> Host<S> {
         ensures ok { IfOk result (λ allocated. allocated ≡ allocated_for self.now build cmd.now granules.now) }
         ensures err { IfErr result (IsPeekRefused self.now cmd.now granules.now) }
     {
-        let byte = match self.byte_read(build, cmd, granules) {
-            Ok(byte) => byte,
-            Err(rmi) => return Err(rmi),
-        };
+        let byte = self.byte_read(build, cmd, granules)?;
         Ok(Allocated {
             vmid: self.vmid(),
             number: self.number(build),

@@ -70,10 +70,8 @@ impl<S: PageStore> Host<S> {
             Ok(ledger) => ledger,
             Err(error) => return Err((error, store)),
         };
-        match Monitor::build(alloc, settings.vmids, settings.aux, store) {
-            Ok(monitor) => Ok(Host { monitor, ledger }),
-            Err(handed_back) => Err(handed_back),
-        }
+        let monitor = Monitor::build(alloc, settings.vmids, settings.aux, store)?;
+        Ok(Host { monitor, ledger })
     }
 
     /// Returns the accepted operations of all builds, in sequence.

@@ -11,9 +11,9 @@ build-requires g c = record {
 
 pub invariant_of-result : goal.invariant_of-result
 invariant_of-result g c =
-    whole_booted c.in-Ok.ledger c.in-Ok-build.monitor c.pages.result (length (g.S.PageStore.page_bytes c.args.store)) c.args.settings.vmids c.args.settings.aux
+    whole_booted c.in-Ok.ledger c.in_ok-monitor.monitor c.pages.result (length (g.S.PageStore.page_bytes c.args.store)) c.args.settings.vmids c.args.settings.aux
     c.args.settings.builds c.args.settings.history
-    c.pages.ensures c.in-Ok.ensures c.in-Ok-build.ensures.ok (record {
+    c.pages.ensures c.in-Ok.ensures c.in_ok-monitor.ensures.ok (record {
       settings = record {
         some_vmid = c.args.settings.some_vmid;
         few_auxiliaries = c.args.settings.few_auxiliaries;
