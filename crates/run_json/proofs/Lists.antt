@@ -1,7 +1,7 @@
 -- Proofs for loops over numbers: appending the items of the next number gives the list of all items so far.
-use Rattle.std.proofs.Common.{◌≡◌, ℕ, ◌+◌, ◌-◌, ◌≤◌, List, [], ◌∷◌, ◌++◌, sym, ap, ◌∙◌, subst, arith}
+use Rattle.std.proofs.Common.{◌≡◌, ℕ, ◌+◌, ◌-◌, ◌<◌, ◌≤◌, List, [], ◌∷◌, ◌++◌, length, take, get_or, sym, ap, ◌∙◌, subst, arith}
 use Rattle.std.specs.List.{flat_map, range_with_len, AllZip}
-use Rattle.std.proofs.lemmas.List.{flat_map_more}
+use Rattle.std.proofs.lemmas.List.{flat_map_more, take_more}
 use Rattle.std.proofs.lemmas.Slice.Zip.{all_zipped_more}
 use Rattle.granule_addr.proofs.Runs.{range_with_len_more}
 
@@ -14,6 +14,30 @@ pub items_more :
 items_more f n old mid new so_far more =
     more ∙ ap (λ items. items ++ f n) so_far ∙ flat_map_more f old (range_with_len 0 n) n
     ∙ ap (λ ns. old ++ flat_map f ns) (sym (range_with_len_more 0 n n (omega arith)))
+
+-- the items of one more element
+pub elements_more :
+    {A B : Type 0} (f : A → List B) (xs : List A) (i : ℕ) (d x : A) (old mid new : List B)
+    → i < length xs
+    → x ≡ get_or xs i d
+    → mid ≡ old ++ flat_map f (take i xs)
+    → new ≡ mid ++ f x
+    → new ≡ old ++ flat_map f (take (i + 1) xs)
+elements_more f xs i d x old mid new below is so_far more =
+    more ∙ ap (λ items. items ++ f x) so_far ∙ flat_map_more f old (take i xs) x
+    ∙ ap (λ taken. old ++ flat_map f taken) (ap (λ y. take i xs ++ y ∷ []) is ∙ sym (take_more xs i d below))
+
+-- an item of one more element
+pub one_element_more :
+    {A B : Type 0} (f : A → B) (xs : List A) (i : ℕ) (x : A) (item : B) (old mid new : List B)
+    → i < length xs
+    → x ≡ get_or xs i x
+    → mid ≡ old ++ flat_map (λ a. f a ∷ []) (take i xs)
+    → new ≡ mid ++ item ∷ []
+    → item ≡ f x
+    → new ≡ old ++ flat_map (λ a. f a ∷ []) (take (i + 1) xs)
+one_element_more f xs i x item old mid new below is so_far more made =
+    elements_more (λ a. f a ∷ []) xs i x x old mid new below is so_far (more ∙ ap (λ it. mid ++ it ∷ []) made)
 
 -- the items of one more level
 pub levels_more :

@@ -3,6 +3,7 @@ ghost use Rattle.std.specs.Prelude.{◌≡◌, ◌<◌, OnOk, IfOk, vec_len};
 ghost use Rattle.realm_plan.specs.PlanView.{plan_view};
 ghost use Rattle.run_json.specs.Document.{settings_of, AddsTurnItem, HasTurnItems, IsDocument};
 
+use crate::json::ObjectWriter;
 use crate::turn::{TurnItem, step_of, turn_item};
 use crate::world::{WorldItem, world_item};
 use granule_addr::BuildId;
@@ -10,11 +11,11 @@ use page_arena::PageStore;
 use plan_replay::{PlanCursor, take_turn};
 use realm_host::Host;
 use realm_plan::Plan;
-use serde::Serialize;
+use serde::{Described, Serialize, Serializer};
 use std::alloc::{AllocError, Global};
 
 /// The settings of a plan's machine, and the number of the plan's builds.
-#[derive(Clone, Copy, Serialize)]
+#[derive(Clone, Copy)]
 pub struct MachineSettings {
     pub pages: u16,
     pub vmids: u8,
@@ -23,9 +24,22 @@ pub struct MachineSettings {
     pub builds: usize,
 }
 
+impl Described for MachineSettings {}
+
+impl Serialize for MachineSettings {
+    fn serialize<W: Serializer>(&self, out: &mut W) -> Result<(), W::Error> {
+        let mut object = ObjectWriter::begin(out, Some(5));
+        object.member("pages", self.pages);
+        object.member("vmids", self.vmids);
+        object.member("aux", self.aux);
+        object.member("history", self.history);
+        object.member("builds", self.builds);
+        object.end()
+    }
+}
+
 /// The JSON document of a plan's run: machine settings, turns, and final machine state. `realmview` is the version of
 /// the format.
-#[derive(Serialize)]
 pub struct Document {
     pub realmview: u8,
     pub settings: MachineSettings,
@@ -41,6 +55,19 @@ impl Drop for Document {
             turns: _,
             world: _,
         } = self;
+    }
+}
+
+impl Described for Document {}
+
+impl Serialize for Document {
+    fn serialize<W: Serializer>(&self, out: &mut W) -> Result<(), W::Error> {
+        let mut object = ObjectWriter::begin(out, Some(4));
+        object.member("realmview", self.realmview);
+        object.member("settings", self.settings);
+        object.member("turns", &self.turns);
+        object.member("world", &self.world);
+        object.end()
     }
 }
 

@@ -2,7 +2,7 @@
 ghost use Rattle.std.specs.Prelude.{◌≡◌, IfOk};
 ghost use Rattle.run_json.specs.Items.{granule_item, row_item, IsRecItem, page_item};
 
-use crate::json::member;
+use crate::json::ObjectWriter;
 use crate::words::{
     GranuleNumbers, build_number, entry_state_word, granule_number, rec_state_word, ripas_word,
 };
@@ -25,12 +25,12 @@ impl Described for GranuleItem {}
 
 impl Serialize for GranuleItem {
     fn serialize<W: Serializer>(&self, out: &mut W) -> Result<(), W::Error> {
-        out.begin_map(Some(4))?;
-        member(out, "granule", &self.granule.number())?;
-        member(out, "state", &state_word(self.view.state))?;
-        member(out, "build", &build_number(self.view.build))?;
-        member(out, "realm", &granule_number(self.view.realm))?;
-        out.end_map()
+        let mut object = ObjectWriter::begin(out, Some(4));
+        object.member("granule", self.granule.number());
+        object.member("state", state_word(self.view.state));
+        object.member("build", build_number(self.view.build));
+        object.member("realm", granule_number(self.view.realm));
+        object.end()
     }
 }
 
@@ -54,15 +54,15 @@ impl Described for RowItem {}
 
 impl Serialize for RowItem {
     fn serialize<W: Serializer>(&self, out: &mut W) -> Result<(), W::Error> {
-        let entry = self.row.entry;
-        out.begin_map(Some(6))?;
-        member(out, "level", &self.row.level.number())?;
-        member(out, "first", &self.row.first.number())?;
-        member(out, "count", &self.count)?;
-        member(out, "state", &entry_state_word(entry.state))?;
-        member(out, "ripas", &ripas_word(entry.ripas))?;
-        member(out, "granule", &granule_number(entry.granule))?;
-        out.end_map()
+        let entry = &self.row.entry;
+        let mut object = ObjectWriter::begin(out, Some(6));
+        object.member("level", self.row.level.number());
+        object.member("first", self.row.first.number());
+        object.member("count", self.count);
+        object.member("state", entry_state_word(entry.state));
+        object.member("ripas", ripas_word(entry.ripas));
+        object.member("granule", granule_number(entry.granule));
+        object.end()
     }
 }
 
@@ -89,6 +89,15 @@ pub struct RecView {
     pub auxiliaries: Vec<Gran>,
 }
 
+impl RecView {
+    // Writes the members of the REC.
+    fn write<W: Serializer>(&self, object: &mut ObjectWriter<'_, W>) {
+        object.member("state", rec_state_word(self.state));
+        object.member("granule", self.granule.number());
+        object.member("auxiliaries", GranuleNumbers(&self.auxiliaries));
+    }
+}
+
 /// The JSON object of a REC: the REC's number, and the REC's data if the REC exists.
 #[derive(Drop)]
 pub struct RecItem {
@@ -100,17 +109,13 @@ impl Described for RecItem {}
 
 impl Serialize for RecItem {
     fn serialize<W: Serializer>(&self, out: &mut W) -> Result<(), W::Error> {
-        out.begin_map(None)?;
-        member(out, "number", &self.number.number())?;
+        let mut object = ObjectWriter::begin(out, None);
+        object.member("number", self.number.number());
         match &self.rec {
-            Some(rec) => {
-                member(out, "state", &rec_state_word(rec.state))?;
-                member(out, "granule", &rec.granule.number())?;
-                member(out, "auxiliaries", &GranuleNumbers(&rec.auxiliaries))?;
-            }
-            None => member(out, "state", &())?,
+            Some(rec) => rec.write(&mut object),
+            None => object.member("state", ()),
         }
-        out.end_map()
+        object.end()
     }
 }
 
@@ -149,10 +154,10 @@ impl Described for PageItem {}
 
 impl Serialize for PageItem {
     fn serialize<W: Serializer>(&self, out: &mut W) -> Result<(), W::Error> {
-        out.begin_map(Some(2))?;
-        member(out, "granule", &self.granule.number())?;
-        member(out, "sum", &self.sum)?;
-        out.end_map()
+        let mut object = ObjectWriter::begin(out, Some(2));
+        object.member("granule", self.granule.number());
+        object.member("sum", self.sum);
+        object.end()
     }
 }
 

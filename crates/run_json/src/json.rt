@@ -18,14 +18,44 @@ impl<T: Display> Serialize for Shown<T> {
     }
 }
 
-/// Writes a member of the JSON object that is being written.
-pub fn member<W: Serializer, T: Serialize>(
+// Writes a member of the JSON object that is being written.
+fn write_member<W: Serializer, T: Serialize>(
     out: &mut W,
     name: &str,
     value: &T,
 ) -> Result<(), W::Error> {
     out.key(name)?;
     value.serialize(out)
+}
+
+/// A JSON object that is being written, member by member. After an error nothing more is written, and `end` returns the
+/// error.
+#[derive(Drop)]
+pub struct ObjectWriter<'a, W: Serializer> {
+    out: &'a mut W,
+    so_far: Result<(), W::Error>,
+}
+
+impl<'a, W: Serializer> ObjectWriter<'a, W> {
+    /// Begins a JSON object. `count` is the number of its members, if it is known.
+    pub fn begin(out: &'a mut W, count: Option<usize>) -> Self {
+        let so_far = out.begin_map(count);
+        ObjectWriter { out, so_far }
+    }
+
+    /// Writes a member of the object.
+    pub fn member<T: Serialize + Drop>(&mut self, name: &str, value: T) {
+        if self.so_far.is_ok() {
+            self.so_far = write_member(self.out, name, &value);
+        }
+    }
+
+    /// Ends the object, and returns the first error, if there was one.
+    pub fn end(self) -> Result<(), W::Error> {
+        let ObjectWriter { out, so_far } = self;
+        so_far?;
+        out.end_map()
+    }
 }
 
 /// Converts a value to JSON text. The one error is that allocation failed.

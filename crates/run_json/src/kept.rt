@@ -2,7 +2,7 @@
 ghost use Rattle.std.specs.Prelude.{◌≡◌};
 ghost use Rattle.run_json.specs.Items.{build_kept};
 
-use crate::json::member;
+use crate::json::ObjectWriter;
 use granule_addr::BuildId;
 use page_arena::PageStore;
 use realm_host::Host;
@@ -19,9 +19,9 @@ pub struct BuildKept {
 
 impl BuildKept {
     // Writes the members `mark` and `aborting`.
-    pub(crate) fn write<W: Serializer>(&self, out: &mut W) -> Result<(), W::Error> {
-        member(out, "mark", &self.mark)?;
-        member(out, "aborting", &self.aborting)
+    pub(crate) fn write<W: Serializer>(&self, object: &mut ObjectWriter<'_, W>) {
+        object.member("mark", self.mark);
+        object.member("aborting", self.aborting);
     }
 }
 

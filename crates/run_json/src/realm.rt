@@ -2,7 +2,7 @@
 ghost use Rattle.std.specs.Prelude.{◌≡◌};
 ghost use Rattle.run_json.specs.Items.{realm_item};
 
-use crate::json::{Shown, member};
+use crate::json::{ObjectWriter, Shown};
 use crate::words::HexDigits;
 use granule_addr::{BuildId, Gran, RecNo, Root, Vmid};
 use page_arena::PageStore;
@@ -24,16 +24,15 @@ pub struct RealmItem {
 
 impl RealmItem {
     // Writes the members of the realm.
-    pub(crate) fn write<W: Serializer>(&self, out: &mut W) -> Result<(), W::Error> {
-        member(out, "rd", &self.rd.number())?;
-        member(out, "state", &realm_word(self.state))?;
-        member(out, "vmid", &self.vmid.number())?;
-        member(out, "width", &self.root.width.number())?;
-        member(out, "table", &self.root.first.number())?;
-        member(out, "tables", &self.root.width.start_count())?;
-        member(out, "next_rec", &self.next_rec.number())?;
-        let digits = HexDigits(self.measurement.as_slice());
-        member(out, "measurement", &Shown(digits))
+    pub(crate) fn write<W: Serializer>(&self, object: &mut ObjectWriter<'_, W>) {
+        object.member("rd", self.rd.number());
+        object.member("state", realm_word(self.state));
+        object.member("vmid", self.vmid.number());
+        object.member("width", self.root.width.number());
+        object.member("table", self.root.first.number());
+        object.member("tables", self.root.width.start_count());
+        object.member("next_rec", self.next_rec.number());
+        object.member("measurement", Shown(HexDigits(self.measurement.as_slice())));
     }
 }
 
@@ -41,9 +40,9 @@ impl Described for RealmItem {}
 
 impl Serialize for RealmItem {
     fn serialize<W: Serializer>(&self, out: &mut W) -> Result<(), W::Error> {
-        out.begin_map(Some(8))?;
-        self.write(out)?;
-        out.end_map()
+        let mut object = ObjectWriter::begin(out, Some(8));
+        self.write(&mut object);
+        object.end()
     }
 }
 

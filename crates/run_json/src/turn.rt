@@ -1,12 +1,12 @@
 //! The JSON object of a build's turn: step, answer, event, and the event's changes.
-ghost use Rattle.std.specs.Prelude.{◌≡◌, ◌+◌, ◌≤◌, ◌++◌, OnOk, IfOk, slice_get, option_map};
+ghost use Rattle.std.specs.Prelude.{◌≡◌, ◌+◌, ◌≤◌, [], ◌∷◌, ◌++◌, OnOk, IfOk, slice_get, option_map};
 ghost use Rattle.run_json.specs.Turns.{step_view, placed, numbered_granule, more_granules, each_granule, changed_items, changed_view};
 ghost use Rattle.run_json.specs.Turns.{granules_after, rows_after, IsRecAfter, realm_after, IsEventItem, IsEventAt, IsAfterTurn};
 
 use crate::answer::{is_accepted_answer, numbers_of};
 use crate::changed::{Changed, changes_realm, granules_of, level_above, rec_named_by};
 use crate::items::{GranuleItem, RecItem, RowItem, granule_item, rec_item, row_item};
-use crate::json::{Shown, member};
+use crate::json::{ObjectWriter, Shown};
 use crate::kept::{BuildKept, build_kept};
 use crate::realm::{RealmItem, realm_item};
 use granule_addr::{BuildId, Gran, Level};
@@ -75,59 +75,58 @@ impl Drop for TurnItem {
 // ---- in JSON
 
 // Writes the members of a step and its answer.
-fn write_step<W: Serializer>(out: &mut W, step: &StepItem) -> Result<(), W::Error> {
+fn write_step<W: Serializer>(object: &mut ObjectWriter<'_, W>, step: &StepItem) {
     let numbers = numbers_of(&step.answer);
-    member(out, "place", &step.place)?;
-    member(out, "step", &step.step)?;
-    member(out, "answer", &Shown(step.answer))?;
-    member(out, "accepted", &is_accepted_answer(&step.answer))?;
-    member(out, "numbers", &numbers.as_slice())
+    object.member("place", step.place);
+    object.member("step", &step.step);
+    object.member("answer", Shown(step.answer));
+    object.member("accepted", is_accepted_answer(&step.answer));
+    object.member("numbers", numbers.as_slice());
 }
 
 // Writes the members of a turn with no step.
-fn write_idle<W: Serializer>(out: &mut W) -> Result<(), W::Error> {
-    member(out, "place", &())?;
-    member(out, "step", &())?;
-    member(out, "answer", &())?;
-    member(out, "accepted", &())?;
-    member(out, "numbers", &[0u8; 0])
+fn write_idle<W: Serializer>(object: &mut ObjectWriter<'_, W>) {
+    object.member("place", ());
+    object.member("step", ());
+    object.member("answer", ());
+    object.member("accepted", ());
+    object.member("numbers", [0u8; 0]);
 }
 
 // Writes the members of an event. RMM objects that it does not change have none.
-fn write_event<W: Serializer>(out: &mut W, item: &EventItem) -> Result<(), W::Error> {
-    member(out, "event", &Shown(EventText(&item.event)))?;
+fn write_event<W: Serializer>(object: &mut ObjectWriter<'_, W>, item: &EventItem) {
+    object.member("event", Shown(EventText(&item.event)));
     if !item.granules.is_empty() {
-        member(out, "granules", &item.granules)?;
+        object.member("granules", &item.granules);
     }
     if !item.rows.is_empty() {
-        member(out, "rows", &item.rows)?;
+        object.member("rows", &item.rows);
     }
     if let Some(rec) = &item.rec {
-        member(out, "recs", &[rec])?;
+        object.member("recs", [rec]);
     }
     if let Some(realm) = &item.realm {
-        member(out, "realm", realm)?;
+        object.member("realm", realm);
     }
-    Ok(())
 }
 
 impl Described for TurnItem {}
 
 impl Serialize for TurnItem {
     fn serialize<W: Serializer>(&self, out: &mut W) -> Result<(), W::Error> {
-        out.begin_map(None)?;
-        member(out, "build", &self.build.number())?;
+        let mut object = ObjectWriter::begin(out, None);
+        object.member("build", self.build.number());
         match &self.step {
-            Some(step) => write_step(out, step)?,
-            None => write_idle(out)?,
+            Some(step) => write_step(&mut object, step),
+            None => write_idle(&mut object),
         }
         match &self.event {
-            Some(event) => write_event(out, event)?,
-            None => member(out, "event", &())?,
+            Some(event) => write_event(&mut object, event),
+            None => object.member("event", ()),
         }
-        member(out, "open", &self.open)?;
-        self.kept.write(out)?;
-        out.end_map()
+        object.member("open", self.open);
+        self.kept.write(&mut object);
+        object.end()
     }
 }
 
@@ -241,6 +240,13 @@ fn granules_after<S: PageStore>(
     Ok(items)
 }
 
+// A list of one item.
+fn one_row(alloc: Global, row: Option<RowItem>) -> Result<Vec<Option<RowItem>>, AllocError>
+    ensures { IfOk result (λ items. items.items ≡ row ∷ []) }
+{
+    Ok(Vec::from_array(alloc, [row])?)
+}
+
 // The rows that an operation changed. Equal rows are one item, which has the first row and their count.
 fn rows_after<S: PageStore>(
     alloc: Global,
@@ -254,7 +260,7 @@ fn rows_after<S: PageStore>(
         Act::Realm { root, .. } => {
             let count = 512 * root.width.start_count() as u32;
             let rows = row_item(host, build, 0, Level::start(), count);
-            Ok(Vec::from_array(alloc, [rows])?)
+            one_row(alloc, rows)
         }
         Act::Rtt { ipa, level, .. } => {
             let above = row_item(host, build, ipa.number(), level_above(*level), 1);
@@ -263,15 +269,15 @@ fn rows_after<S: PageStore>(
         }
         Act::UnRtt { ipa, level, .. } => {
             let above = row_item(host, build, ipa.number(), level_above(*level), 1);
-            Ok(Vec::from_array(alloc, [above])?)
+            one_row(alloc, above)
         }
         Act::Ripas { ipa, count } => {
             let rows = row_item(host, build, ipa.number(), Level::last(), *count as u32);
-            Ok(Vec::from_array(alloc, [rows])?)
+            one_row(alloc, rows)
         }
         Act::Data { ipa, .. } | Act::Unknown { ipa, .. } | Act::UnData { ipa, .. } => {
             let row = row_item(host, build, ipa.number(), Level::last(), 1);
-            Ok(Vec::from_array(alloc, [row])?)
+            one_row(alloc, row)
         }
         _ => Ok(Vec::new(alloc)),
     }

@@ -4,7 +4,7 @@ ghost use Rattle.host_ledger.specs.View.{pages_of_build};
 ghost use Rattle.run_json.specs.Worlds.{all_granules, page_items, open_lines, AreRecItems, IsRealmContents, IsBuildItem, AreBuildItems, IsWorldItem};
 
 use crate::items::{GranuleItem, PageItem, RecItem, RowItem, page_item, rec_item};
-use crate::json::member;
+use crate::json::ObjectWriter;
 use crate::kept::{BuildKept, build_kept};
 use crate::realm::{RealmItem, realm_item};
 use crate::rows::rows_of;
@@ -50,11 +50,11 @@ impl Described for RealmContents {}
 
 impl Serialize for RealmContents {
     fn serialize<W: Serializer>(&self, out: &mut W) -> Result<(), W::Error> {
-        out.begin_map(Some(10))?;
-        self.realm.write(out)?;
-        member(out, "rows", &self.rows)?;
-        member(out, "recs", &self.recs)?;
-        out.end_map()
+        let mut object = ObjectWriter::begin(out, Some(10));
+        self.realm.write(&mut object);
+        object.member("rows", &self.rows);
+        object.member("recs", &self.recs);
+        object.end()
     }
 }
 
@@ -84,18 +84,17 @@ impl Described for BuildItem {}
 
 impl Serialize for BuildItem {
     fn serialize<W: Serializer>(&self, out: &mut W) -> Result<(), W::Error> {
-        out.begin_map(Some(6))?;
-        member(out, "build", &self.build.number())?;
-        self.kept.write(out)?;
-        member(out, "open", &self.open)?;
-        member(out, "pages", &self.pages)?;
-        member(out, "realm", &self.realm)?;
-        out.end_map()
+        let mut object = ObjectWriter::begin(out, Some(6));
+        object.member("build", self.build.number());
+        self.kept.write(&mut object);
+        object.member("open", &self.open);
+        object.member("pages", &self.pages);
+        object.member("realm", &self.realm);
+        object.end()
     }
 }
 
 /// The JSON object of a host's state: its granules, its builds, and the number of granules that no build leases.
-#[derive(Serialize)]
 pub struct WorldItem {
     pub free: u16,
     pub granules: Vec<Option<GranuleItem>>,
@@ -109,6 +108,18 @@ impl Drop for WorldItem {
             granules: _,
             builds: _,
         } = self;
+    }
+}
+
+impl Described for WorldItem {}
+
+impl Serialize for WorldItem {
+    fn serialize<W: Serializer>(&self, out: &mut W) -> Result<(), W::Error> {
+        let mut object = ObjectWriter::begin(out, Some(3));
+        object.member("free", self.free);
+        object.member("granules", &self.granules);
+        object.member("builds", &self.builds);
+        object.end()
     }
 }
 
