@@ -4,7 +4,7 @@ use crate::help_host::{build_help, room_help, undo_help};
 use crate::help_input::input_help;
 use crate::help_realm::{realm_help, rec_help, walk_help};
 use crate::phrase::Value::Number;
-use crate::phrase::{Phrase, one, page_or};
+use crate::phrase::{Phrase, one, page_or, plain};
 use crate::readings::{Recs, has_rec, named_pages, next_rec, other_pages};
 use granule_addr::BuildId;
 use host_commands::Step;
@@ -12,30 +12,79 @@ use page_arena::PageStore;
 use realm_host::{GranuleState, Host};
 use std::alloc::AllocError;
 
-/// The help message for a failed check of a step.
+/// The help message for a failed check of a step: words, the steps that it proposes, and words after these. Without
+/// steps and words there is no help.
 #[derive(Clone, Copy)]
-pub(crate) enum Help {
+pub(crate) struct Help {
+    before: Phrase,
+    steps: Steps,
+    after: Phrase,
+}
+
+/// The steps that a help message proposes.
+#[derive(Clone, Copy)]
+enum Steps {
     Nothing,
-    Say(Phrase),
-    /// Help that consists of two phrases.
-    Both(Phrase, Phrase),
-    /// Help that proposes to undo `count` operations, with words before and after the proposal. An `exit` step for each
-    /// RUNNING REC comes before the undos.
-    Undo {
-        before: Phrase,
-        count: usize,
-        after: &'static str,
-    },
-    /// Help that proposes an `exit` step for each RUNNING REC.
+    /// An `exit` step for each RUNNING REC, then this number of undos.
+    Undo(usize),
+    /// An `exit` step for each RUNNING REC.
     Exit,
-    /// Help that proposes a `rec` step with all the pages that a REC needs. The value is the text before the step.
-    Rec(&'static str),
+    /// A `rec` step with all the pages that a REC needs.
+    Rec,
+}
+
+impl Help {
+    /// Creates the help for a check that has none.
+    pub(crate) fn nothing() -> Self {
+        Help::say(plain(""))
+    }
+
+    pub(crate) fn say(words: Phrase) -> Self {
+        Help::both(words, plain(""))
+    }
+
+    /// Creates help that consists of two phrases.
+    pub(crate) fn both(before: Phrase, after: Phrase) -> Self {
+        Help {
+            before,
+            steps: Steps::Nothing,
+            after,
+        }
+    }
+
+    /// Creates help that proposes to undo `count` operations. An `exit` step for each RUNNING REC comes before the
+    /// undos.
+    pub(crate) fn undo(before: Phrase, count: usize, after: &'static str) -> Self {
+        Help {
+            before,
+            steps: Steps::Undo(count),
+            after: plain(after),
+        }
+    }
+
+    /// Creates help that proposes an `exit` step for each RUNNING REC.
+    pub(crate) fn exit() -> Self {
+        Help {
+            before: plain(""),
+            steps: Steps::Exit,
+            after: plain(" first"),
+        }
+    }
+
+    /// Creates help that proposes a `rec` step with all the pages that a REC needs. `words` are the text before the step.
+    pub(crate) fn rec(words: &'static str) -> Self {
+        Help {
+            before: plain(words),
+            steps: Steps::Rec,
+            after: plain(""),
+        }
+    }
 }
 
 fn help_of<S: PageStore>(host: &Host<S>, build: BuildId, step: &Step, fact: Fact) -> Help {
     match fact {
         Fact::Build(fact) => build_help(host, build, step, fact),
-        Fact::Room(fact) => room_help(host, fact),
+        Fact::Room(fact) => Help::say(room_help(host, fact)),
         Fact::Undo(fact) => undo_help(host, build, fact),
         Fact::Input(fact) => input_help(host, build, step, fact),
         Fact::Realm(fact) => realm_help(host, build, step, fact),
@@ -52,30 +101,25 @@ pub(crate) fn push_help<S: PageStore>(
     step: &Step,
     fact: Fact,
 ) -> Result<(), AllocError> {
-    match help_of(host, build, step, fact) {
-        Help::Nothing => Ok(()),
-        Help::Say(words) => words.push(text),
-        Help::Both(words, more) => {
-            words.push(text)?;
-            more.push(text)
-        }
-        Help::Undo {
-            before,
-            count,
-            after,
-        } => {
-            before.push(text)?;
-            push_undos(text, host, build, count)?;
-            text.push_str(after)
-        }
-        Help::Exit => {
-            push_exits(text, host, build, "`exit {}`", ", `exit {}`")?;
-            text.push_str(" first")
-        }
-        Help::Rec(words) => {
-            text.push_str(words)?;
-            push_rec(text, host, build, step)
-        }
+    let help = help_of(host, build, step, fact);
+    help.before.push(text)?;
+    push_steps(text, host, build, step, help.steps)?;
+    help.after.push(text)
+}
+
+// Appends the steps that a help message proposes.
+fn push_steps<S: PageStore>(
+    text: &mut String,
+    host: &Host<S>,
+    build: BuildId,
+    step: &Step,
+    steps: Steps,
+) -> Result<(), AllocError> {
+    match steps {
+        Steps::Nothing => Ok(()),
+        Steps::Undo(count) => push_undos(text, host, build, count),
+        Steps::Exit => push_exits(text, host, build, "`exit {}`", ", `exit {}`"),
+        Steps::Rec => push_rec(text, host, build, step),
     }
 }
 
@@ -113,8 +157,7 @@ fn push_undos<S: PageStore>(
     }
 }
 
-// Appends a proposed `rec` step: the pages that a step names, then other DELEGATED pages, then `P` for each missing
-// page.
+// Appends a proposed `rec` step with the pages that a step names and other DELEGATED pages.
 fn push_rec<S: PageStore>(
     text: &mut String,
     host: &Host<S>,
@@ -124,11 +167,21 @@ fn push_rec<S: PageStore>(
     let named = named_pages(step);
     let others = other_pages(host, build, step, GranuleState::Delegated);
     let wanted = host.rec_aux_count() as usize + 1;
+    push_rec_pages(text, wanted, named.as_slice(), others.as_slice())
+}
+
+// Appends a proposed `rec` step of `wanted` pages: the named pages, then the others, then `P` for each missing page.
+fn push_rec_pages(
+    text: &mut String,
+    wanted: usize,
+    named: &[u16],
+    others: &[u16],
+) -> Result<(), AllocError> {
     text.push_str("`rec")?;
     for place in 0..wanted {
         let page = match place.checked_sub(named.len()) {
-            Some(more) => others.as_slice().get(more),
-            None => named.as_slice().get(place),
+            Some(more) => others.get(more),
+            None => named.get(place),
         };
         one(" {}", page_or(page.copied(), "P")).push(text)?;
     }

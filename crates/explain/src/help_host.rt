@@ -33,15 +33,15 @@ pub(crate) fn take_of<S: PageStore>(host: &Host<S>, build: BuildId, count: u16) 
 }
 
 // The help for a page that the build lacks: a `take` that gives the page, or else the build's page numbers.
-fn more_pages<S: PageStore>(host: &Host<S>, build: BuildId, page: u16, count: u16) -> Help {
+fn more_pages<S: PageStore>(host: &Host<S>, build: BuildId, page: u16, count: u16) -> Phrase {
     let lacking = page.saturating_sub(count).saturating_add(1);
     match take_of(host, build, lacking) {
-        Some(take) => Help::Say(take),
-        None if count > 1 => Help::Say(one(
+        Some(take) => take,
+        None if count > 1 => one(
             "its pages are 0 to {}",
             Number(count.saturating_sub(1) as u64),
-        )),
-        None => Help::Nothing,
+        ),
+        None => plain(""),
     }
 }
 
@@ -71,6 +71,31 @@ fn realm_first<S: PageStore>(host: &Host<S>, build: BuildId, step: &Step) -> Phr
     }
 }
 
+/// Proposes to undo the creation of a build's realm, after the words `before`. Returns the words `alone` if that
+/// creation is not open.
+pub(crate) fn undoing_realm<S: PageStore>(
+    host: &Host<S>,
+    build: BuildId,
+    before: &'static str,
+    alone: &'static str,
+) -> Help {
+    match undos_of_realm(host, build) {
+        Some(count) => Help::undo(plain(before), count, ""),
+        None => Help::say(plain(alone)),
+    }
+}
+
+// The help for an order above 9: the largest block, and the largest free block, if any.
+fn smaller_order<S: PageStore>(host: &Host<S>) -> Phrase {
+    match largest_free(host) {
+        Some(order) => one(
+            "a block has at most 512 pages: `take 9`; the largest free block is `take {}`",
+            Number(order.number() as u64),
+        ),
+        None => plain("a block has at most 512 pages: `take 9`"),
+    }
+}
+
 /// Returns the help for a failed check on a build or a block order.
 pub(crate) fn build_help<S: PageStore>(
     host: &Host<S>,
@@ -79,27 +104,17 @@ pub(crate) fn build_help<S: PageStore>(
     fact: BuildFact,
 ) -> Help {
     match fact {
-        BuildFact::There(_) => Help::Nothing,
-        BuildFact::NotAborting => Help::Say(plain("`undo` what is still open")),
-        BuildFact::Order(_) => Help::Say(match largest_free(host) {
-            Some(order) => one(
-                "a block has at most 512 pages: `take 9`; the largest free block is `take {}`",
-                Number(order.number() as u64),
-            ),
-            None => plain("a block has at most 512 pages: `take 9`"),
-        }),
-        BuildFact::Page { page, count, .. } => more_pages(host, build, page, count),
-        BuildFact::Realm(_) => Help::Say(realm_first(host, build, step)),
-        BuildFact::NoRealm(_) => match undos_of_realm(host, build) {
-            Some(count) => Help::Undo {
-                before: plain(
-                    "put the second realm into a [[build]] of its own, or undo the first: ",
-                ),
-                count,
-                after: "",
-            },
-            None => Help::Say(plain("put the second realm into a [[build]] of its own")),
-        },
+        BuildFact::There(_) => Help::nothing(),
+        BuildFact::NotAborting => Help::say(plain("`undo` what is still open")),
+        BuildFact::Order(_) => Help::say(smaller_order(host)),
+        BuildFact::Page { page, count, .. } => Help::say(more_pages(host, build, page, count)),
+        BuildFact::Realm(_) => Help::say(realm_first(host, build, step)),
+        BuildFact::NoRealm(_) => undoing_realm(
+            host,
+            build,
+            "put the second realm into a [[build]] of its own, or undo the first: ",
+            "put the second realm into a [[build]] of its own",
+        ),
     }
 }
 
@@ -131,8 +146,8 @@ fn other_block<S: PageStore>(host: &Host<S>, order: u8) -> Phrase {
 
 /// Returns the help for a failed check on free capacity, such as a free VMID. The capacity is journal entries, history
 /// entries, VMIDs or blocks.
-pub(crate) fn room_help<S: PageStore>(host: &Host<S>, fact: RoomFact) -> Help {
-    Help::Say(match fact {
+pub(crate) fn room_help<S: PageStore>(host: &Host<S>, fact: RoomFact) -> Phrase {
+    match fact {
         RoomFact::Journal(_) => plain(
             "`undo` some, or put a part of the steps into a [[build]] of its own",
         ),
@@ -144,19 +159,19 @@ pub(crate) fn room_help<S: PageStore>(host: &Host<S>, fact: RoomFact) -> Help {
             "set a larger `vmids`, at most 255; or undo the realm of another build",
         ),
         RoomFact::Block { order, .. } => other_block(host, order),
-    })
+    }
 }
 
 /// Returns the help for a failed check of an undo, an abort or a `back` step.
 pub(crate) fn undo_help<S: PageStore>(host: &Host<S>, build: BuildId, fact: UndoFact) -> Help {
     match fact {
-        UndoFact::Open(_) => Help::Nothing,
+        UndoFact::Open(_) => Help::nothing(),
         UndoFact::NewestIsNotRunning => match newest_rec(host, build) {
-            Some(number) => Help::Say(one("`exit {}` first", Number(number as u64))),
-            None => Help::Nothing,
+            Some(number) => Help::say(one("`exit {}` first", Number(number as u64))),
+            None => Help::nothing(),
         },
-        UndoFact::AllAreReady(_) | UndoFact::NoneRunsAboveMark => Help::Exit,
-        UndoFact::Mark => Help::Say(plain(
+        UndoFact::AllAreReady(_) | UndoFact::NoneRunsAboveMark => Help::exit(),
+        UndoFact::Mark => Help::say(plain(
             "`mark` before the steps that `back` is to undo; an undo of steps before it drops it",
         )),
     }

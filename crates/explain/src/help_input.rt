@@ -4,7 +4,7 @@ use crate::help::Help;
 use crate::help_host::take_of;
 use crate::phrase::Value::Number;
 use crate::phrase::{Phrase, four, one, page_or, plain, two};
-use crate::readings::{first_served, other_pages, undos_of_delegation};
+use crate::readings::{first_other, first_served, undos_of_delegation};
 use crate::rmi_facts::InputFact;
 use granule_addr::BuildId;
 use host_commands::{Cmd, Step};
@@ -15,28 +15,42 @@ use realm_host::{GranuleState, Host};
 
 /// Proposes a DELEGATED page of the build, or else a page to delegate first. Pages that the refused step names are left
 /// out.
-pub(crate) fn other_page<S: PageStore>(host: &Host<S>, build: BuildId, step: &Step) -> Help {
-    let delegated = other_pages(host, build, step, GranuleState::Delegated);
-    if let [page, ..] = delegated.as_slice() {
-        return Help::Say(one(
+pub(crate) fn other_page<S: PageStore>(host: &Host<S>, build: BuildId, step: &Step) -> Phrase {
+    if let Some(page) = first_other(host, build, step, GranuleState::Delegated) {
+        return one(
             "use another page: page {} is DELEGATED",
-            Number(*page as u64),
-        ));
+            Number(page as u64),
+        );
     }
-    let undelegated = other_pages(host, build, step, GranuleState::Undelegated);
-    match undelegated.as_slice() {
-        [page, ..] => Help::Say(two(
+    match first_other(host, build, step, GranuleState::Undelegated) {
+        Some(page) => two(
             "use another page: `delegate {}`, then page {}",
-            Number(*page as u64),
-            Number(*page as u64),
-        )),
-        [] => Help::Nothing,
+            Number(page as u64),
+            Number(page as u64),
+        ),
+        None => plain(""),
     }
 }
 
 // Whether a page is the source of a `data` step, which has to be UNDELEGATED.
 fn is_source(step: &Step, page: u16) -> bool {
     matches!(step, Step::Ask(Cmd::Data { source, .. }) if *source == page)
+}
+
+// The help for a page that has to be DELEGATED.
+fn delegated_help<S: PageStore>(
+    host: &Host<S>,
+    build: BuildId,
+    step: &Step,
+    page: u16,
+    found: Option<GranuleState>,
+) -> Phrase {
+    match found {
+        Some(GranuleState::Undelegated) if !is_source(step, page) => {
+            one("`delegate {}` first", Number(page as u64))
+        }
+        _ => other_page(host, build, step),
+    }
 }
 
 // The help `words`, followed by the undos that make a page UNDELEGATED again.
@@ -47,26 +61,41 @@ fn undelegating_help<S: PageStore>(
     words: Phrase,
 ) -> Help {
     match undos_of_delegation(host, build, page) {
-        Some(count) => Help::Undo {
-            before: words,
-            count,
-            after: " undelegates it",
-        },
-        None => Help::Say(words),
+        Some(count) => Help::undo(words, count, " undelegates it"),
+        None => Help::say(words),
     }
 }
 
 // The help that proposes another source page: one of the build, or one that a `take` gives.
-fn other_source<S: PageStore>(host: &Host<S>, build: BuildId, other: Option<u16>) -> Help {
-    match (other, take_of(host, build, 1)) {
-        (Some(page), _) => Help::Say(one(
+fn other_source<S: PageStore>(host: &Host<S>, build: BuildId, step: &Step) -> Help {
+    if let Some(page) = first_other(host, build, step, GranuleState::Undelegated) {
+        return Help::say(one(
             "take the bytes from an UNDELEGATED page: page {}",
             Number(page as u64),
-        )),
-        (None, Some(take)) => {
-            Help::Both(plain("take the bytes from an UNDELEGATED page: "), take)
-        }
-        (None, None) => Help::Nothing,
+        ));
+    }
+    match take_of(host, build, 1) {
+        Some(take) => Help::both(plain("take the bytes from an UNDELEGATED page: "), take),
+        None => Help::nothing(),
+    }
+}
+
+// The help for a `delegate` of a page that is not UNDELEGATED.
+fn other_delegate<S: PageStore>(
+    host: &Host<S>,
+    build: BuildId,
+    step: &Step,
+    found: Option<GranuleState>,
+) -> Phrase {
+    if let Some(GranuleState::Delegated) = found {
+        return plain("leave this step out: the page is DELEGATED already");
+    }
+    match first_other(host, build, step, GranuleState::Undelegated) {
+        Some(page) => one(
+            "delegate another page: `delegate {}`",
+            Number(page as u64),
+        ),
+        None => plain(""),
     }
 }
 
@@ -78,19 +107,8 @@ fn undelegated_help<S: PageStore>(
     page: u16,
     found: Option<GranuleState>,
 ) -> Help {
-    let others = other_pages(host, build, step, GranuleState::Undelegated);
-    let other = others.as_slice().first().copied();
     match step {
-        Step::Ask(Cmd::Delegate { .. }) => match (found, other) {
-            (Some(GranuleState::Delegated), _) => {
-                Help::Say(plain("leave this step out: the page is DELEGATED already"))
-            }
-            (_, Some(other)) => Help::Say(one(
-                "delegate another page: `delegate {}`",
-                Number(other as u64),
-            )),
-            _ => Help::Nothing,
-        },
+        Step::Ask(Cmd::Delegate { .. }) => Help::say(other_delegate(host, build, step, found)),
         Step::Ask(Cmd::Fill { .. }) => {
             let words = one("fill the page before `delegate {}`; ", Number(page as u64));
             undelegating_help(host, build, page, words)
@@ -99,7 +117,7 @@ fn undelegated_help<S: PageStore>(
             let words = plain("the host reads a page before `delegate` or after its undo; ");
             undelegating_help(host, build, page, words)
         }
-        _ => other_source(host, build, other),
+        _ => other_source(host, build, step),
     }
 }
 
@@ -107,23 +125,23 @@ fn undelegated_help<S: PageStore>(
 
 // The help for an unprotected IPA granule: the operand divided by 4096 if it can be an address, or else a larger IPA
 // width.
-fn protected_help(ipa: u32, width: u8) -> Help {
+fn protected_help(ipa: u32, width: u8) -> Phrase {
     if ipa % 4096 == 0 && ((ipa / 4096) as u64) < protected_end(width) {
-        return Help::Say(one(
+        return one(
             "an IPA granule is an address divided by 4096: {}",
             Number((ipa / 4096) as u64),
-        ));
+        );
     }
     for wider in 40..44 {
         if wider > width && (ipa as u64) < protected_end(wider) {
-            return Help::Say(two(
+            return two(
                 "a realm of IPA width {} has it: `realm RD RTT {}`",
                 Number(wider as u64),
                 Number(wider as u64),
-            ));
+            );
         }
     }
-    Help::Nothing
+    plain("")
 }
 
 // The help for pages that lie in two tables: two `ripas` steps.
@@ -155,6 +173,20 @@ fn covering_table(step: &Step, ipa: u32, level: u8) -> Phrase {
     )
 }
 
+// The help for an IPA granule, a level or a number of pages.
+fn number_help(step: &Step, fact: InputFact) -> Phrase {
+    match fact {
+        InputFact::Protected { ipa, width } => protected_help(ipa, width),
+        InputFact::Level(1) => plain(
+            "tables of level 1 are the starting tables, which `realm` creates",
+        ),
+        InputFact::Start { ipa, level } => covering_table(step, ipa, level),
+        InputFact::Count(count) if count > 0 => plain("use a `ripas` for each table of 512 pages"),
+        InputFact::OneTable { ipa, count } => two_runs(ipa, count),
+        _ => plain(""),
+    }
+}
+
 /// Returns the help for a failed check on an operand: a page, an IPA granule, a level or a number of pages.
 pub(crate) fn input_help<S: PageStore>(
     host: &Host<S>,
@@ -168,21 +200,9 @@ pub(crate) fn input_help<S: PageStore>(
             required: GranuleState::Undelegated,
             found,
         } => undelegated_help(host, build, step, page, found),
-        InputFact::Page {
-            page,
-            found: Some(GranuleState::Undelegated),
-            ..
-        } if !is_source(step, page) => {
-            Help::Say(one("`delegate {}` first", Number(page as u64)))
+        InputFact::Page { page, found, .. } => {
+            Help::say(delegated_help(host, build, step, page, found))
         }
-        InputFact::Page { .. } => other_page(host, build, step),
-        InputFact::Protected { ipa, width } => protected_help(ipa, width),
-        InputFact::Level(1) => Help::Say(plain(
-            "tables of level 1 are the starting tables, which `realm` creates",
-        )),
-        InputFact::Level(_) | InputFact::Count(0) => Help::Nothing,
-        InputFact::Start { ipa, level } => Help::Say(covering_table(step, ipa, level)),
-        InputFact::Count(_) => Help::Say(plain("use a `ripas` for each table of 512 pages")),
-        InputFact::OneTable { ipa, count } => Help::Say(two_runs(ipa, count)),
+        _ => Help::say(number_help(step, fact)),
     }
 }

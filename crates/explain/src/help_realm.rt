@@ -1,11 +1,11 @@
 //! The help for failed checks on realms, RECs and walks of translation tables.
 use crate::help::Help;
-use crate::help_host::take_of;
+use crate::help_host::{take_of, undoing_realm};
 use crate::help_input::other_page;
 use crate::phrase::Value::{self, Number, Word};
 use crate::phrase::{Phrase, four, one, page_or, plain, three, two};
 use crate::readings::{
-    first_entry, first_of_tables, first_served, ipa_of, next_rec, other_pages, undos_of_realm,
+    first_entry, first_of_tables, first_served, ipa_of, next_rec, other_pages,
 };
 use crate::rmi_facts::{RealmFact, RecFact, WalkFact};
 use granule_addr::BuildId;
@@ -15,45 +15,37 @@ use realm_host::{EntryState, GranuleState, Host, RealmState, RecState};
 
 // ---- realms
 
-// The help for a step that needs a NEW realm while the realm is ACTIVE.
-fn new_again<S: PageStore>(host: &Host<S>, build: BuildId) -> Help {
-    match undos_of_realm(host, build) {
-        Some(count) => {
-            let words =
-                "put this step before `activate`; an ACTIVE realm becomes NEW only by undoing it: ";
-            Help::Undo {
-                before: plain(words),
-                count,
-                after: "",
-            }
-        }
-        None => Help::Say(plain(
-            "put this step before `activate`; an ACTIVE realm becomes NEW only by undoing it",
-        )),
-    }
-}
-
 // The help for unsuitable starting tables: suitable pages of the build, or else a `take` of a block.
 fn other_tables<S: PageStore>(host: &Host<S>, build: BuildId, rd: u16, width: u8) -> Help {
     let count = host_commands::tables_named(width);
-    if let Some(first) = first_of_tables(host, build, rd, count) {
-        let last = first.saturating_add(count.saturating_sub(1));
-        let (rd, first) = (Number(rd as u64), Number(first as u64));
-        return Help::Both(
-            two(
-                "pages {} to {} are adjacent and aligned: ",
-                first,
-                Number(last as u64),
-            ),
-            three("`realm {} {} {}`", rd, first, Number(width as u64)),
-        );
+    match first_of_tables(host, build, rd, count) {
+        Some(first) => tables_from(rd, first, count, width),
+        None => tables_of_block(host, build, count),
     }
+}
+
+// The help that proposes the `count` pages from `first` on as starting tables.
+fn tables_from(rd: u16, first: u16, count: u16, width: u8) -> Help {
+    let last = first.saturating_add(count.saturating_sub(1));
+    let (rd, first) = (Number(rd as u64), Number(first as u64));
+    Help::both(
+        two(
+            "pages {} to {} are adjacent and aligned: ",
+            first,
+            Number(last as u64),
+        ),
+        three("`realm {} {} {}`", rd, first, Number(width as u64)),
+    )
+}
+
+// The help that proposes the pages of a block as `count` starting tables.
+fn tables_of_block<S: PageStore>(host: &Host<S>, build: BuildId, count: u16) -> Help {
     match take_of(host, build, count) {
-        Some(take) => Help::Both(
+        Some(take) => Help::both(
             plain("the pages of one block are adjacent and aligned: "),
             take,
         ),
-        None => Help::Say(plain("the pages of one block are adjacent and aligned")),
+        None => Help::say(plain("the pages of one block are adjacent and aligned")),
     }
 }
 
@@ -75,11 +67,32 @@ fn state_help<S: PageStore>(
     required: RealmState,
 ) -> Help {
     match (required, step) {
-        (RealmState::Active, _) => Help::Say(plain("`activate` first")),
+        (RealmState::Active, _) => Help::say(plain("`activate` first")),
         (RealmState::New, Step::Ask(Cmd::Activate)) => {
-            Help::Say(plain("leave this step out: the realm is ACTIVE already"))
+            Help::say(plain("leave this step out: the realm is ACTIVE already"))
         }
-        (RealmState::New, _) => new_again(host, build),
+        (RealmState::New, _) => undoing_realm(
+            host,
+            build,
+            "put this step before `activate`; an ACTIVE realm becomes NEW only by undoing it: ",
+            "put this step before `activate`; an ACTIVE realm becomes NEW only by undoing it",
+        ),
+    }
+}
+
+// The help for unsuitable operands of a `realm` step.
+fn create_help<S: PageStore>(
+    host: &Host<S>,
+    build: BuildId,
+    step: &Step,
+    fact: RealmFact,
+) -> Help {
+    let Step::Ask(Cmd::Realm { rd, root, width }) = step else {
+        return Help::nothing();
+    };
+    match fact {
+        RealmFact::Width(width) => Help::say(other_width(*rd, *root, width)),
+        _ => other_tables(host, build, *rd, *width),
     }
 }
 
@@ -90,16 +103,10 @@ pub(crate) fn realm_help<S: PageStore>(
     step: &Step,
     fact: RealmFact,
 ) -> Help {
-    match (fact, step) {
-        (RealmFact::Width(width), Step::Ask(Cmd::Realm { rd, root, .. })) => {
-            Help::Say(other_width(*rd, *root, width))
-        }
-        (RealmFact::Adjacent | RealmFact::Multiple(_), Step::Ask(Cmd::Realm { rd, width, .. })) => {
-            other_tables(host, build, *rd, *width)
-        }
-        (RealmFact::Apart, _) => other_page(host, build, step),
-        (RealmFact::State { required, .. }, _) => state_help(host, build, step, required),
-        _ => Help::Nothing,
+    match fact {
+        RealmFact::State { required, .. } => state_help(host, build, step, required),
+        RealmFact::Apart => Help::say(other_page(host, build, step)),
+        _ => create_help(host, build, step, fact),
     }
 }
 
@@ -109,12 +116,22 @@ pub(crate) fn realm_help<S: PageStore>(
 fn missing_rec<S: PageStore>(host: &Host<S>, build: BuildId, number: u16) -> Help {
     let next = next_rec(host, build);
     if number > next {
-        return Help::Say(one(
+        return Help::say(one(
             "RECs are numbered in order of their creation: the next is REC {}",
             Number(next as u64),
         ));
     }
-    Help::Rec("create it first: ")
+    Help::rec("create it first: ")
+}
+
+// The help for a REC that is not in the required state, in a realm that is NEW if `is_new` is set.
+fn rec_state_help(number: u16, required: RecState, is_new: bool) -> Phrase {
+    let words = match required {
+        RecState::Ready => "`exit {}` first",
+        RecState::Running if is_new => "`activate`, then `enter {}` first",
+        RecState::Running => "`enter {}` first",
+    };
+    one(words, Number(number as u64))
 }
 
 /// Returns the help for a failed check on a REC: on its existence, its state, or the pages of its creation.
@@ -126,24 +143,17 @@ pub(crate) fn rec_help<S: PageStore>(
 ) -> Help {
     let is_new = matches!(host.realm_view(build), Some((RealmState::New, _)));
     match fact {
-        RecFact::Distinct => other_page(host, build, step),
-        RecFact::Auxiliaries { .. } => Help::Rec(""),
+        RecFact::Distinct => Help::say(other_page(host, build, step)),
+        RecFact::Auxiliaries { .. } => Help::rec(""),
         RecFact::There(number) if is_new => missing_rec(host, build, number.number()),
-        RecFact::There(_) => Help::Say(plain(
+        RecFact::There(_) => Help::say(plain(
             "RECs are created before `activate`, and numbered from 0",
         )),
         RecFact::State {
             number,
             required,
             ..
-        } => {
-            let words = match required {
-                RecState::Ready => "`exit {}` first",
-                RecState::Running if is_new => "`activate`, then `enter {}` first",
-                RecState::Running => "`enter {}` first",
-            };
-            Help::Say(one(words, Number(number.number() as u64)))
-        }
+        } => Help::say(rec_state_help(number.number(), required, is_new)),
     }
 }
 
@@ -206,7 +216,7 @@ fn missing_tables<S: PageStore>(
             level_3,
         ),
     };
-    Help::Both(words, plain(letters(others, needed)))
+    Help::both(words, plain(letters(others, needed)))
 }
 
 // The help for a guest's write to an IPA granule that no page is mapped at: the steps that map one.
@@ -231,33 +241,44 @@ fn mapping<S: PageStore>(host: &Host<S>, build: BuildId, step: &Step, ipa: u32, 
         _ => (plain("map a page there first: "), first),
     };
     let more = Word(letters(others, needed));
-    Help::Both(
+    Help::both(
         tables,
         three("`unknown {} {}`{}", page, Number(ipa as u64), more),
     )
 }
 
 // The help that proposes another IPA granule for a page, one whose entry is UNASSIGNED.
-fn other_entry<S: PageStore>(host: &Host<S>, build: BuildId, step: &Step, ipa: u32) -> Help {
+fn other_entry<S: PageStore>(host: &Host<S>, build: BuildId, step: &Step, ipa: u32) -> Phrase {
     let Some(other) = first_entry(host, build, ipa, true) else {
-        return Help::Nothing;
+        return plain("");
     };
     let other = Number(other as u64);
     match step {
-        Step::Ask(Cmd::Data { page, source, .. }) => Help::Say(four(
+        Step::Ask(Cmd::Data { page, source, .. }) => four(
             "IPA granule {} is UNASSIGNED: `data {} {} {}`",
             other,
             Number(*page as u64),
             other,
             Number(*source as u64),
-        )),
-        Step::Ask(Cmd::Unknown { page, .. }) => Help::Say(three(
+        ),
+        Step::Ask(Cmd::Unknown { page, .. }) => three(
             "IPA granule {} is UNASSIGNED: `unknown {} {}`",
             other,
             Number(*page as u64),
             other,
-        )),
-        _ => Help::Nothing,
+        ),
+        _ => plain(""),
+    }
+}
+
+// The help for entries that are not all UNASSIGNED: the first IPA granule from `ipa` on that a page is mapped at.
+fn before_mapping<S: PageStore>(host: &Host<S>, build: BuildId, ipa: u32) -> Phrase {
+    match first_entry(host, build, ipa, false) {
+        Some(taken) => one(
+            "put this step before the one that maps IPA granule {}",
+            Number(taken as u64),
+        ),
+        None => plain(""),
     }
 }
 
@@ -277,18 +298,12 @@ pub(crate) fn walk_help<S: PageStore>(
         WalkFact::Entry {
             required: EntryState::Unassigned,
             ..
-        } => other_entry(host, build, step, ipa_of(step)),
+        } => Help::say(other_entry(host, build, step, ipa_of(step))),
         WalkFact::Entry { level, .. } => mapping(host, build, step, ipa_of(step), level),
         WalkFact::NoTable { .. } => {
-            Help::Say(plain("leave this step out: the table is there already"))
+            Help::say(plain("leave this step out: the table is there already"))
         }
-        WalkFact::Leads(_) => Help::Nothing,
-        WalkFact::Free { ipa, .. } => match first_entry(host, build, ipa, false) {
-            Some(taken) => Help::Say(one(
-                "put this step before the one that maps IPA granule {}",
-                Number(taken as u64),
-            )),
-            None => Help::Nothing,
-        },
+        WalkFact::Leads(_) => Help::nothing(),
+        WalkFact::Free { ipa, .. } => Help::say(before_mapping(host, build, ipa)),
     }
 }

@@ -27,19 +27,13 @@ pub(crate) enum Value {
 #[derive(Clone, Copy)]
 pub(crate) struct Phrase {
     words: &'static str,
-    first: Value,
-    second: Value,
-    third: Value,
-    fourth: Value,
+    values: [Value; 4],
 }
 
 pub(crate) fn four(words: &'static str, a: Value, b: Value, c: Value, d: Value) -> Phrase {
     Phrase {
         words,
-        first: a,
-        second: b,
-        third: c,
-        fourth: d,
+        values: [a, b, c, d],
     }
 }
 
@@ -126,36 +120,31 @@ impl Value {
 fn fill(text: &mut String, words: &str, values: &[Value]) -> Result<(), AllocError>
     ensures { OnOk result (AppendsWords (string_bytes text.old) (string_bytes text.new)) }
 {
-    let mut rest = values;
-    for (place, part) in words.split("{}").enumerate() {
-        if place > 0 {
-            if let Some((value, others)) = rest.split_first() {
-                value.push(text)?;
-                rest = others;
-            }
-        }
+    let mut rest = words;
+    for value in values {
+        let Some((part, others)) = rest.split_once("{}") else {
+            break;
+        };
         text.push_str(part)?;
+        value.push(text)?;
+        rest = others;
     }
-    Ok(())
+    text.push_str(rest)
 }
 
 impl Phrase {
     /// Replaces each page of the build in the phrase by its granule.
-    pub(crate) fn in_granules<S: PageStore>(self, host: &Host<S>, build: BuildId) -> Phrase {
-        four(
-            self.words,
-            self.first.in_granules(host, build),
-            self.second.in_granules(host, build),
-            self.third.in_granules(host, build),
-            self.fourth.in_granules(host, build),
-        )
+    pub(crate) fn in_granules<S: PageStore>(mut self, host: &Host<S>, build: BuildId) -> Phrase {
+        for value in &mut self.values {
+            *value = value.in_granules(host, build);
+        }
+        self
     }
 
     /// Appends the phrase, with its values filled in, to a text.
     pub(crate) fn push(self, text: &mut String) -> Result<(), AllocError>
         ensures { OnOk result (AppendsWords (string_bytes text.old) (string_bytes text.new)) }
     {
-        let values = [self.first, self.second, self.third, self.fourth];
-        fill(text, self.words, &values)
+        fill(text, self.words, &self.values)
     }
 }

@@ -47,6 +47,19 @@ pub(crate) fn other_pages<S: PageStore>(
     pages
 }
 
+/// Returns the first page of a build that is in the given state, and that the step does not name.
+pub(crate) fn first_other<S: PageStore>(
+    host: &Host<S>,
+    build: BuildId,
+    step: &Step,
+    state: GranuleState,
+) -> Option<u16> {
+    other_pages(host, build, step, state)
+        .as_slice()
+        .first()
+        .copied()
+}
+
 // Whether the `count` pages of a build from `first` on can be the starting tables of a realm with the RD page `rd`. The
 // pages have to be DELEGATED, in adjacent granules from a multiple of `count` on, and without the page `rd`.
 fn are_tables<S: PageStore>(
