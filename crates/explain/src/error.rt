@@ -2,8 +2,8 @@
 use crate::check::{Check, Fact};
 use crate::host_facts::{BuildFact, RoomFact, UndoFact};
 use crate::names::{entry_state, granule_state, realm_state, rec_state, refusal_name};
-use crate::phrase::Value::{self, Many, Number, Page, Word};
-use crate::phrase::{Phrase, four, one, pages, plain, three, two};
+use crate::phrase::Value::{self, Number, Page, Word};
+use crate::phrase::{Phrase, four, many, one, pages, plain, three, two};
 use crate::readings::{
     Recs, count_of_recs, first_entry, ipa_of, newest_rec, page_of, served, size_of_order,
 };
@@ -16,6 +16,17 @@ use realm_host::{GranuleState, Host};
 use realm_plan::{realm_word, state_word};
 use std::alloc::AllocError;
 
+// The name of a failed check's refusal. For a `fill` or `peek` of a page in another state it is the hardware's fault,
+// since these are no RMI commands: the hardware refuses the access.
+fn failure_name(step: &Step, check: &Check) -> Phrase {
+    match check.fact {
+        Fact::Input(InputFact::Page { .. }) if access_of(step).is_some() => {
+            plain("on hardware: a granule protection fault")
+        }
+        _ => refusal_name(check.refusal),
+    }
+}
+
 /// Appends the error message for a failed check: the words, then the name of the refusal in parentheses. For a `fill`
 /// or `peek` of a page in another state, the hardware's fault takes the name's place.
 pub(crate) fn push_error(
@@ -26,13 +37,7 @@ pub(crate) fn push_error(
 ) -> Result<(), AllocError> {
     words.push(text)?;
     text.push_str(" (")?;
-    match (check.fact, access_of(step)) {
-        // A fill or a peek is no RMI command: the hardware refuses the access.
-        (Fact::Input(InputFact::Page { .. }), Some(_)) => {
-            text.push_str("on hardware: a granule protection fault")?
-        }
-        _ => refusal_name(check.refusal).push(text)?,
-    }
+    failure_name(step, check).push(text)?;
     text.push_str(")")
 }
 
@@ -122,7 +127,7 @@ fn block_error(machine: u16, order: u8, free: u16) -> Phrase {
         _ if free < size => two(
             "an aligned block of {} pages must be free; {} free",
             wanted,
-            Many(free as usize, "page is", "pages are"),
+            many(free as usize, "page is", "pages are"),
         ),
         _ => two(
             "an aligned block of {} pages must be free; {} pages are, but not in one block",
@@ -140,7 +145,7 @@ fn of_room(machine: u16, fact: RoomFact) -> Phrase {
         ),
         RoomFact::History { left, needed } => two(
             "the build's history must have room for {}; it has room for {}",
-            Many(needed as usize, "more event", "more events"),
+            many(needed as usize, "more event", "more events"),
             Number(left as u64),
         ),
         RoomFact::Vmid(_) => plain("a VMID must be free; all are in use"),
@@ -360,8 +365,8 @@ fn of_rec<S: PageStore>(host: &Host<S>, build: BuildId, step: &Step, fact: RecFa
         RecFact::There(number) => no_rec_error(host, build, number.number()),
         RecFact::Auxiliaries { named, needed } => two(
             "a REC must have {}; {} named",
-            Many(needed as usize, "auxiliary page", "auxiliary pages"),
-            Many(named, "is", "are"),
+            many(needed as usize, "auxiliary page", "auxiliary pages"),
+            many(named, "is", "are"),
         ),
         RecFact::State {
             number,

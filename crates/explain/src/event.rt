@@ -59,8 +59,21 @@ fn reverse_error<S: PageStore>(host: &Host<S>, build: BuildId) -> Phrase {
     }
 }
 
+// The first check that fails. It is `None` for the block that the host would allocate, since a history names its own.
+fn failed_check(checks: &[Check]) -> Option<&Check> {
+    for check in checks {
+        if check.fails {
+            return match check.refusal {
+                Refusal::NoBlock(_) => None,
+                _ => Some(check),
+            };
+        }
+    }
+    None
+}
+
 // Appends the words for an operation that the host does not apply: its command's failed check, or else the recorded
-// value that does not fit. The block that the host would allocate is not checked, since a history names its own.
+// value that does not fit.
 fn push_act<S: PageStore>(
     alloc: Global,
     text: &mut String,
@@ -71,13 +84,8 @@ fn push_act<S: PageStore>(
     if let Some(cmd) = command_of(host, build, act) {
         let step = Step::Ask(cmd);
         let checks = step_checks(alloc, host, build, &PlanCursor::first(), &step)?;
-        for check in &checks {
-            if check.fails {
-                if matches!(check.refusal, Refusal::NoBlock(_)) {
-                    break;
-                }
-                return push_check(text, host, build, &step, check);
-            }
+        if let Some(check) = failed_check(&checks) {
+            return push_check(text, host, build, &step, check);
         }
     }
     match recorded_error(host, build, act) {
@@ -164,12 +172,38 @@ fn numbers_of<S: PageStore>(
     pages
 }
 
-// The command that performs an operation, with the build's page numbers, or `None` for a reverse.
-fn command_of<S: PageStore>(host: &Host<S>, build: BuildId, act: &Act) -> Option<Cmd> {
+// The command that performs an operation without a granule of its build, or `None` for any other operation.
+fn own_command(act: &Act) -> Option<Cmd> {
     let cmd = match act {
         Act::Take { order, .. } => Cmd::Take {
             order: order.number(),
         },
+        Act::Activate => Cmd::Activate,
+        Act::Ripas { ipa, count } => Cmd::Ripas {
+            ipa: ipa.number(),
+            count: *count,
+        },
+        Act::Enter { number } => Cmd::Enter { number: *number },
+        Act::Exit { number } => Cmd::Exit { number: *number },
+        Act::Poke {
+            number,
+            ipa,
+            offset,
+            value,
+        } => Cmd::Poke {
+            number: *number,
+            ipa: ipa.number(),
+            offset: *offset,
+            value: *value,
+        },
+        _ => return None,
+    };
+    Some(cmd)
+}
+
+// The command that performs an operation, with the build's page numbers, or `None` for a reverse.
+fn command_of<S: PageStore>(host: &Host<S>, build: BuildId, act: &Act) -> Option<Cmd> {
+    let cmd = match act {
         Act::Fill { granule, value } => Cmd::Fill {
             page: number_of(host, build, *granule),
             value: *value,
@@ -190,7 +224,6 @@ fn command_of<S: PageStore>(host: &Host<S>, build: BuildId, act: &Act) -> Option
             root: number_of(host, build, root.first),
             width: root.width.number(),
         },
-        Act::Activate => Cmd::Activate,
         Act::Rtt {
             granule,
             ipa,
@@ -199,10 +232,6 @@ fn command_of<S: PageStore>(host: &Host<S>, build: BuildId, act: &Act) -> Option
             page: number_of(host, build, *granule),
             ipa: ipa.number(),
             level: level.number(),
-        },
-        Act::Ripas { ipa, count } => Cmd::Ripas {
-            ipa: ipa.number(),
-            count: *count,
         },
         Act::Data {
             granule,
@@ -225,25 +254,7 @@ fn command_of<S: PageStore>(host: &Host<S>, build: BuildId, act: &Act) -> Option
             page: number_of(host, build, *granule),
             auxiliaries: numbers_of(host, build, auxiliaries.as_slice()),
         },
-        Act::Enter { number } => Cmd::Enter { number: *number },
-        Act::Exit { number } => Cmd::Exit { number: *number },
-        Act::Poke {
-            number,
-            ipa,
-            offset,
-            value,
-        } => Cmd::Poke {
-            number: *number,
-            ipa: ipa.number(),
-            offset: *offset,
-            value: *value,
-        },
-        Act::UnTake { .. }
-        | Act::Undelegate { .. }
-        | Act::UnRealm { .. }
-        | Act::UnRtt { .. }
-        | Act::UnData { .. }
-        | Act::UnRec { .. } => return None,
+        _ => return own_command(act),
     };
     Some(cmd)
 }

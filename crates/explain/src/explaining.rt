@@ -1,8 +1,9 @@
 //! Runs a plan on a host, and explains each refused step.
-ghost use Rattle.std.specs.Prelude.{◌≡◌, ◌<◌, ◌≤◌, IfOk, map, option_map, vec_len};
+ghost use Rattle.std.specs.Prelude.{◌≡◌, ◌<◌, ◌≤◌, IfOk, map, option_map, string_bytes, vec_len};
 ghost use Rattle.realm_plan.specs.Asked.{asked};
 ghost use Rattle.realm_plan.specs.PlanView.{plan_view};
 ghost use Rattle.plan_replay.specs.Place.{giving_up};
+ghost use Rattle.plan_replay.specs.Text.{turn_line};
 ghost use Rattle.explain.specs.Explained.{up_to_failing, reason_for, report_of, idle_report, report_of_reason, IsExplainedStep, IsExplainedTurn, IsExplainedRun};
 
 use crate::check::{Check, add};
@@ -57,6 +58,37 @@ fn reason_for<S: PageStore>(
     }
 }
 
+// Returns the line of a turn, as a replay prints it.
+fn turn_text(
+    alloc: Global,
+    build: BuildId,
+    step: &PlanStep,
+    answer: TurnAnswer,
+) -> Result<String, AllocError>
+    ensures { IfOk result (λ line. string_bytes line ≡ turn_line build step.now answer) }
+{
+    let mut line = String::new(alloc);
+    push_turn(&mut line, build, step, answer)?;
+    Ok(line)
+}
+
+// Explains a turn of a build's step, from the step's checks before the turn.
+fn explained<S: PageStore>(
+    alloc: Global,
+    host: &Host<S>,
+    build: BuildId,
+    step: &PlanStep,
+    answer: &TurnAnswer,
+    checks: &[Check],
+) -> Result<ExplainedTurn, AllocError>
+    ensures line { IfOk result (λ turn. string_bytes turn.line ≡ turn_line build step.now answer.now) }
+    ensures reason { IfOk result (λ turn. option_map report_of_reason turn.reason ≡ reason_for answer.now (asked step.now) checks.now) }
+{
+    let line = turn_text(alloc, build, step, *answer)?;
+    let reason = reason_for(alloc, host, build, step, answer, checks)?;
+    Ok(ExplainedTurn { line, reason })
+}
+
 // Takes one turn of a build's step, in a plan whose builds give up if `gives_up` is set.
 fn explain_step<S: PageStore>(
     alloc: Global,
@@ -72,10 +104,7 @@ fn explain_step<S: PageStore>(
     let checks = step_checks(alloc, host, build, place, &step.asked())?;
     let answer = plan_turn(host, build, place, step);
     place.move_on(gives_up, &answer);
-    let mut line = String::new(alloc);
-    push_turn(&mut line, build, step, answer)?;
-    let reason = reason_for(alloc, host, build, step, &answer, &checks)?;
-    Ok(ExplainedTurn { line, reason })
+    explained(alloc, host, build, step, &answer, &checks)
 }
 
 // Returns the idle turn of a build that has no step left.

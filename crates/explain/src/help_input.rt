@@ -91,10 +91,7 @@ fn other_delegate<S: PageStore>(
         return plain("leave this step out: the page is DELEGATED already");
     }
     match first_other(host, build, step, GranuleState::Undelegated) {
-        Some(page) => one(
-            "delegate another page: `delegate {}`",
-            Number(page as u64),
-        ),
+        Some(page) => one("delegate another page: `delegate {}`", Number(page as u64)),
         None => plain(""),
     }
 }

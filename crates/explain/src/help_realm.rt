@@ -4,9 +4,7 @@ use crate::help_host::{take_of, undoing_realm};
 use crate::help_input::other_page;
 use crate::phrase::Value::{self, Number, Word};
 use crate::phrase::{Phrase, four, one, page_or, plain, three, two};
-use crate::readings::{
-    first_entry, first_of_tables, first_served, ipa_of, next_rec, other_pages,
-};
+use crate::readings::{first_entry, first_of_tables, first_served, ipa_of, next_rec, other_pages};
 use crate::rmi_facts::{RealmFact, RecFact, WalkFact};
 use granule_addr::BuildId;
 use host_commands::{Cmd, Step};
@@ -81,12 +79,7 @@ fn state_help<S: PageStore>(
 }
 
 // The help for unsuitable operands of a `realm` step.
-fn create_help<S: PageStore>(
-    host: &Host<S>,
-    build: BuildId,
-    step: &Step,
-    fact: RealmFact,
-) -> Help {
+fn create_help<S: PageStore>(host: &Host<S>, build: BuildId, step: &Step, fact: RealmFact) -> Help {
     let Step::Ask(Cmd::Realm { rd, root, width }) = step else {
         return Help::nothing();
     };

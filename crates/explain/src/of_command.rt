@@ -1,7 +1,7 @@
 //! The checks of each command, in sequence. RMM 1.0, RMI commands.
 ghost use Rattle.std.specs.Prelude.{◌≡◌, ◌++◌, ◌≤◌, OnOk, length};
 ghost use Rattle.explain.specs.Commands.{above_of, take_checks, rtt_create_checks, init_ripas_checks, data_create_checks, unknown_checks};
-ghost use Rattle.explain.specs.Commands.{guest_write_checks, enter_checks, tables_checks, monitor_checks, command_checks};
+ghost use Rattle.explain.specs.Commands.{guest_write_checks, enter_checks, recs_checks, tables_checks, monitor_checks, command_checks};
 
 use crate::check::{Check, add};
 use crate::of_block::block_check;
@@ -136,6 +136,28 @@ fn unknown<S: PageStore>(host: &Host<S>, build: BuildId, page: u16, ipa: u32) ->
     ]
 }
 
+// Adds the checks of a command on an existing REC.
+fn add_recs<S: PageStore>(
+    host: &Host<S>,
+    build: BuildId,
+    cmd: &Cmd,
+    checks: &mut Vec<Check>,
+) -> Result<(), AllocError>
+    ensures { OnOk result (checks.new.items ≡ checks.old.items ++ recs_checks host.now build cmd.now) }
+{
+    match cmd {
+        Cmd::Enter { number } => checks.extend_from_slice(&enter(host, build, *number)),
+        Cmd::Exit { number } => checks.extend_from_slice(&[
+            rec_there(host, build, *number),
+            rec_is_running(host, build, *number),
+        ]),
+        Cmd::Poke { number, ipa, .. } => {
+            checks.extend_from_slice(&guest_write(host, build, *number, *ipa))
+        }
+        _ => Ok(()),
+    }
+}
+
 // Adds the checks of a command on an existing realm: on its tables, its pages, its state or its RECs.
 fn add_there<S: PageStore>(
     host: &Host<S>,
@@ -157,15 +179,7 @@ fn add_there<S: PageStore>(
         }
         Cmd::Unknown { page, ipa } => checks.extend_from_slice(&unknown(host, build, *page, *ipa)),
         Cmd::Activate => add(checks, realm_new(host, build)),
-        Cmd::Enter { number } => checks.extend_from_slice(&enter(host, build, *number)),
-        Cmd::Exit { number } => checks.extend_from_slice(&[
-            rec_there(host, build, *number),
-            rec_is_running(host, build, *number),
-        ]),
-        Cmd::Poke { number, ipa, .. } => {
-            checks.extend_from_slice(&guest_write(host, build, *number, *ipa))
-        }
-        _ => Ok(()),
+        _ => add_recs(host, build, cmd, checks),
     }
 }
 

@@ -2,8 +2,8 @@
 use crate::check::Fact;
 use crate::host_facts::{BuildFact, RoomFact, UndoFact};
 use crate::names::{entry_state, rec_state};
-use crate::phrase::Value::{Many, Number, Page, Word};
-use crate::phrase::{Phrase, one, pages, plain, two};
+use crate::phrase::Value::{Number, Page, Word};
+use crate::phrase::{Phrase, many, one, pages, plain, two};
 use crate::rmi_facts::{InputFact, RealmFact, RecFact, WalkFact};
 use crate::roles::{role_by_state, role_of};
 use host_commands::Step;
@@ -51,11 +51,11 @@ fn of_room(fact: RoomFact) -> Phrase {
     match fact {
         RoomFact::Journal(open) => one(
             "{} open, fewer than 512",
-            Many(open, "operation is", "operations are"),
+            many(open, "operation is", "operations are"),
         ),
         RoomFact::History { left, needed } => two(
             "the history has room for {}; {} needed",
-            Many(left as usize, "more event", "more events"),
+            many(left as usize, "more event", "more events"),
             Number(needed as u64),
         ),
         RoomFact::Vmid(Some(lowest)) => one("VMID {} is free", Number(lowest.number() as u64)),
@@ -69,7 +69,7 @@ fn of_room(fact: RoomFact) -> Phrase {
 
 fn of_undo(fact: UndoFact) -> Phrase {
     match fact {
-        UndoFact::Open(open) => one("{} open", Many(open, "operation is", "operations are")),
+        UndoFact::Open(open) => one("{} open", many(open, "operation is", "operations are")),
         UndoFact::NewestIsNotRunning => plain(
             "the newest operation's REC is READY, or it created none",
         ),
@@ -112,7 +112,7 @@ fn of_realm(fact: RealmFact) -> Phrase {
         RealmFact::Adjacent => plain("the starting tables are adjacent granules"),
         RealmFact::Multiple(count) => one(
             "the first starting table is at a multiple of {}",
-            Many(count, "granule", "granules"),
+            many(count, "granule", "granules"),
         ),
         RealmFact::Apart => plain("the RD page is not a starting table"),
         RealmFact::State { required, .. } => one("the realm is {}", Word(realm_word(required))),
@@ -124,7 +124,7 @@ fn of_rec(fact: RecFact) -> Phrase {
         RecFact::Distinct => plain("no page is named twice"),
         RecFact::Auxiliaries { named, .. } => one(
             "{} named, as many as a REC has",
-            Many(named, "auxiliary page is", "auxiliary pages are"),
+            many(named, "auxiliary page is", "auxiliary pages are"),
         ),
         RecFact::There(number) => one("the realm has REC {}", Number(number.number() as u64)),
         RecFact::State {
@@ -166,7 +166,7 @@ fn of_walk(fact: WalkFact) -> Phrase {
         WalkFact::Leads(None) => plain("the entry leads to a page"),
         WalkFact::Free { ipa, count } => two(
             "{} from IPA granule {} on: UNASSIGNED",
-            Many(count as usize, "entry", "entries"),
+            many(count as usize, "entry", "entries"),
             Number(ipa as u64),
         ),
     }

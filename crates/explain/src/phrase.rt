@@ -15,8 +15,8 @@ use std::alloc::AllocError;
 pub(crate) enum Value {
     Number(u64),
     Word(&'static str),
-    /// A count with its noun, such as `3 pages`. The fields are the number, the singular noun and the plural noun.
-    Many(usize, &'static str, &'static str),
+    /// A count with its noun, such as `3 pages`.
+    Count(usize, &'static str),
     /// A page of a build, such as `data page 5`. The fields are the role, which ends with a space, and the number.
     Page(&'static str, u16),
     /// A granule, such as `data granule 5`. The fields are the role, which ends with a space, and the number.
@@ -53,9 +53,14 @@ pub(crate) fn plain(words: &'static str) -> Phrase {
     one(words, Value::Word(""))
 }
 
+/// Returns the value for a count, such as `3 pages`, from the noun's singular and its plural.
+pub(crate) fn many(count: usize, noun: &'static str, nouns: &'static str) -> Value {
+    Value::Count(count, if count == 1 { noun } else { nouns })
+}
+
 /// Returns the value for a number of pages, such as `3 pages`.
 pub(crate) fn pages(count: u16) -> Value {
-    Value::Many(count as usize, "page", "pages")
+    many(count as usize, "page", "pages")
 }
 
 /// Returns the value for a page's number, or a placeholder letter if there is no page.
@@ -73,7 +78,7 @@ fn push_number(text: &mut String, number: u64) -> Result<(), AllocError>
 }
 
 // Appends a count and its noun.
-fn push_many(text: &mut String, count: usize, noun: &str) -> Result<(), AllocError>
+fn push_count(text: &mut String, count: usize, noun: &str) -> Result<(), AllocError>
     ensures { OnOk result (AppendsWords (string_bytes text.old) (string_bytes text.new)) }
 {
     push_number(text, count as u64)?;
@@ -108,8 +113,7 @@ impl Value {
         match self {
             Value::Number(number) => push_number(text, number),
             Value::Word(word) => text.push_str(word),
-            Value::Many(1, one, _) => push_many(text, 1, one),
-            Value::Many(count, _, more) => push_many(text, count, more),
+            Value::Count(count, noun) => push_count(text, count, noun),
             Value::Page(role, page) => push_named(text, role, "page ", page),
             Value::Granule(role, granule) => push_named(text, role, "granule ", granule),
         }
@@ -134,11 +138,15 @@ fn fill(text: &mut String, words: &str, values: &[Value]) -> Result<(), AllocErr
 
 impl Phrase {
     /// Replaces each page of the build in the phrase by its granule.
-    pub(crate) fn in_granules<S: PageStore>(mut self, host: &Host<S>, build: BuildId) -> Phrase {
-        for value in &mut self.values {
-            *value = value.in_granules(host, build);
-        }
-        self
+    pub(crate) fn in_granules<S: PageStore>(self, host: &Host<S>, build: BuildId) -> Phrase {
+        let [a, b, c, d] = self.values;
+        four(
+            self.words,
+            a.in_granules(host, build),
+            b.in_granules(host, build),
+            c.in_granules(host, build),
+            d.in_granules(host, build),
+        )
     }
 
     /// Appends the phrase, with its values filled in, to a text.
