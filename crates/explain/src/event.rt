@@ -254,7 +254,18 @@ fn command_of<S: PageStore>(host: &Host<S>, build: BuildId, act: &Act) -> Option
             page: number_of(host, build, *granule),
             auxiliaries: numbers_of(host, build, auxiliaries.as_slice()),
         },
-        _ => return own_command(act),
+        Act::Take { .. }
+        | Act::Activate
+        | Act::Ripas { .. }
+        | Act::Enter { .. }
+        | Act::Exit { .. }
+        | Act::Poke { .. } => return own_command(act),
+        Act::UnTake { .. }
+        | Act::Undelegate { .. }
+        | Act::UnRealm { .. }
+        | Act::UnRtt { .. }
+        | Act::UnData { .. }
+        | Act::UnRec { .. } => return None,
     };
     Some(cmd)
 }

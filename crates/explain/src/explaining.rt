@@ -45,10 +45,11 @@ fn reason_for<S: PageStore>(
 {
     match answer {
         TurnAnswer::Refused(_) => {
+            let step = step.asked();
             let checks = up_to_failing(alloc, checks)?;
-            let (error, help) = words_of(alloc, host, build, &step.asked(), &checks)?;
+            let (error, help) = words_of(alloc, host, build, &step, &checks)?;
             Ok(Some(Explanation {
-                step: step.asked(),
+                step,
                 checks,
                 error,
                 help,
