@@ -1,5 +1,6 @@
 //! The parts of a plan's text, each with its span.
 use crate::finding::Span;
+use std::alloc::{AllocError, Global};
 use toml_parser::Scalar;
 
 /// All keys that a plan can have.
@@ -88,6 +89,18 @@ impl Drop for KeyValue {
     }
 }
 
+impl KeyValue {
+    /// Returns the value without its key.
+    pub(crate) fn into_value(self) -> Value {
+        let KeyValue {
+            name: _,
+            key: _,
+            value,
+        } = self;
+        value
+    }
+}
+
 /// A build in the text of a plan: its value, its keys, and its steps.
 pub struct Build {
     /// The build's header `[[build]]`, or the build's element of the array `build`.
@@ -140,6 +153,27 @@ impl Drop for Outline {
 }
 
 impl Outline {
+    pub(crate) fn new(alloc: Global) -> Outline {
+        Outline {
+            keys: Vec::new(alloc),
+            builds: Vec::new(alloc),
+            turns: Vec::new(alloc),
+            missing: Vec::new(alloc),
+            has_deeper_pages: false,
+        }
+    }
+
+    /// Notes the keys of a plan that are not among the parts that were found.
+    pub(crate) fn note_missing_keys(&mut self) -> Result<(), AllocError> {
+        for name in &PLAN_KEYS {
+            let has_builds = *name == "build" && !self.builds.is_empty();
+            if !has_builds && self.value(name).is_none() {
+                self.missing.push(*name)?;
+            }
+        }
+        Ok(())
+    }
+
     /// Returns the value of a plan's key, if the plan has it.
     pub(crate) fn value(&self, name: &str) -> Option<&Value> {
         value_of(&self.keys, name)

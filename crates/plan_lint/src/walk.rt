@@ -3,7 +3,7 @@
 //! The TOML parser has accepted the text already, so the walk only checks which part is next. The walk ends at the
 //! first part that it does not expect, and finds no part after it.
 use crate::finding::Span;
-use crate::outline::{Build, Content, KeyValue, Outline, PLAN_KEYS, Value};
+use crate::outline::{Build, Content, KeyValue, Outline, Value};
 use std::alloc::{AllocError, Global};
 use toml_parser::text::{first, skip, skip_blank, skip_ws};
 use toml_parser::{ErrorKind, Key, ParseError, dotted_key, quoted, starts_string, unquoted};
@@ -61,31 +61,25 @@ struct Walk<'a> {
 
 /// Finds the parts of a plan in its text, up to the first unreadable part.
 pub(crate) fn outline_of(alloc: Global, text: &str) -> Result<Outline, AllocError> {
+    let mut outline = parts_of(alloc, text)?;
+    outline.note_missing_keys()?;
+    Ok(outline)
+}
+
+// The outline of a text, without the keys that the text lacks.
+fn parts_of(alloc: Global, text: &str) -> Result<Outline, AllocError> {
     let mut walk = Walk {
         alloc,
         whole: text.len(),
         rest: text.strip_prefix('\u{feff}').unwrap_or(text),
         section: Part::Plan,
         open: Vec::new(alloc),
-        outline: Outline {
-            keys: Vec::new(alloc),
-            builds: Vec::new(alloc),
-            turns: Vec::new(alloc),
-            missing: Vec::new(alloc),
-            has_deeper_pages: false,
-        },
+        outline: Outline::new(alloc),
     };
-    if let Err(ParseError::OutOfMemory) = walk.to_end() {
-        return Err(AllocError);
+    match walk.to_end() {
+        Err(ParseError::OutOfMemory) => Err(AllocError),
+        _ => Ok(walk.outline),
     }
-    let mut outline = walk.outline;
-    for name in &PLAN_KEYS {
-        let has_builds = *name == "build" && !outline.builds.is_empty();
-        if !has_builds && outline.value(name).is_none() {
-            outline.missing.push(*name)?;
-        }
-    }
-    Ok(outline)
 }
 
 impl<'a> Walk<'a> {
@@ -156,83 +150,104 @@ impl<'a> Walk<'a> {
         self.skip_byte()
     }
 
-    // Reads a line `[KEY]` or `[[KEY]]`.
+    // Reads a key with dots or without, and returns it with its span.
+    fn key(&mut self) -> Result<(Key, Span), ParseError> {
+        let (start, from) = (self.at(), self.rest);
+        let (key, rest) = dotted_key(self.alloc, from)?;
+        self.rest = rest;
+        let written = from.get(..from.len().saturating_sub(rest.len()));
+        let span = Span::new(start, written.unwrap_or("").trim_end().len());
+        Ok((key, span))
+    }
+
+    // Reads a line `[KEY]` or `[[KEY]]`, and adds the part that it opens. The keys below belong to that part.
     fn header(&mut self) -> Result<(), ParseError> {
         let start = self.at();
         let is_array = self.rest.starts_with("[[");
         self.skip_brackets(is_array)?;
-        let (key, rest) = dotted_key(self.alloc, skip_ws(self.rest))?;
-        self.rest = rest;
+        self.rest = skip_ws(self.rest);
+        let (key, _) = self.key()?;
+        let (owner, content) = self.headed(&key, is_array);
+        let name = part_of(key, usize::from(matches!(owner, Part::Build)));
         self.skip_brackets(is_array)?;
-        let span = self.span_from(start);
-        self.add_header(key, span, is_array)
+        let key = self.span_from(start);
+        let value = Value { span: key, content };
+        self.add(owner, KeyValue { name, key, value })
     }
 
-    // Adds the part that a header opens, and makes that part the owner of the keys below.
-    fn add_header(&mut self, key: Key, span: Span, is_array: bool) -> Result<(), ParseError> {
-        let Key { path, last } = key;
-        let content = if is_array {
-            Content::Tables
-        } else {
-            Content::Headed
+    // The owner and the kind of the part that a header opens. The part becomes the owner of the keys below.
+    fn headed(&mut self, key: &Key, is_array: bool) -> (Part, Content) {
+        let owner = match key.path.first() {
+            None if is_array && key.last.as_str() == "build" => Part::Builds,
+            Some(first) if first.as_str() == "build" && !self.outline.builds.is_empty() => Part::Build,
+            _ => Part::Plan,
         };
-        self.section = Part::Other;
-        let mut parts = path.into_iter();
-        let Some(name) = parts.next() else {
-            if is_array && last.as_str() == "build" {
-                self.section = Part::Build;
-                return self.add(Part::Builds, last, span, Value { span, content });
-            }
-            return self.add(Part::Plan, last, span, Value { span, content });
+        self.section = match owner {
+            Part::Builds => Part::Build,
+            _ => Part::Other,
         };
-        if name.as_str() == "build" && !self.outline.builds.is_empty() {
-            let name = parts.next().unwrap_or(last);
-            return self.add(Part::Build, name, span, Value { span, content });
+        let is_of_plan = matches!(owner, Part::Plan);
+        if !is_array || (is_of_plan && !key.path.is_empty()) {
+            return (owner, Content::Headed);
         }
-        let content = Content::Headed;
-        self.add(Part::Plan, name, span, Value { span, content })
+        (owner, Content::Tables)
     }
 
     // Reads a key with its value, and of an array or an inline table only the opening bracket. A value below a key with
     // dots is no part of a plan.
     fn pair(&mut self) -> Result<(), ParseError> {
-        let (owner, start, from) = (self.owner(), self.at(), self.rest);
-        let (key, rest) = dotted_key(self.alloc, from)?;
-        self.rest = rest;
-        let written = from.get(..from.len().saturating_sub(rest.len()));
-        let span = Span::new(start, written.unwrap_or("").trim_end().len());
+        let owner = self.owner();
+        let (key, span) = self.key()?;
+        self.note_deeper_pages(owner, &key);
+        let has_dots = !key.path.is_empty();
+        let name = part_of(key, 0);
         self.skip_byte()?;
         self.rest = skip_ws(self.rest);
-        let Key { path, last } = key;
-        let has_dots = !path.is_empty();
+        if !has_dots {
+            return self.value(owner, name, span);
+        }
+        let value = Value {
+            span,
+            content: Content::Table,
+        };
+        self.add(owner, KeyValue { name, key: span, value })?;
+        self.value(Part::Other, String::new(self.alloc), span)
+    }
+
+    // Notes a key `pages` of a table that no plan has.
+    fn note_deeper_pages(&mut self, owner: Part, key: &Key) {
+        let has_dots = !key.path.is_empty();
         let is_deeper = match owner {
             Part::Other => self.open.is_empty() && !has_dots,
             _ => has_dots,
         };
-        self.outline.has_deeper_pages |= is_deeper && last.as_str() == "pages";
-        let Some(name) = path.into_iter().next() else {
-            return self.value(owner, last, span);
-        };
-        let content = Content::Table;
-        self.add(owner, name, span, Value { span, content })?;
-        self.value(Part::Other, last, span)
+        self.outline.has_deeper_pages |= is_deeper && key.last.as_str() == "pages";
     }
 
     // Reads a value, or only the opening bracket of an array or an inline table.
     fn value(&mut self, owner: Part, name: String, key: Span) -> Result<(), ParseError> {
         let start = self.at();
         let content = self.content()?;
-        let part = owner.below(name.as_str(), &content);
-        let is_table = matches!(&content, Content::Table);
-        if is_table || matches!(&content, Content::Array) {
+        let span = self.span_from(start);
+        let value = Value { span, content };
+        let added = KeyValue { name, key, value };
+        self.push_open(owner, &added)?;
+        self.add(owner, added)
+    }
+
+    // Notes the array or the inline table whose opening bracket was read, if there is one.
+    fn push_open(&mut self, owner: Part, added: &KeyValue) -> Result<(), ParseError> {
+        let content = &added.value.content;
+        let is_table = matches!(content, Content::Table);
+        if is_table || matches!(content, Content::Array) {
+            let part = owner.below(added.name.as_str(), content);
             self.open.push(Open {
                 owner,
                 part,
                 is_table,
             })?;
         }
-        let span = self.span_from(start);
-        self.add(owner, name, key, Value { span, content })
+        Ok(())
     }
 
     fn content(&mut self) -> Result<Content, ParseError> {
@@ -254,23 +269,22 @@ impl<'a> Walk<'a> {
         Ok(content)
     }
 
-    // Adds a value to its owner.
-    fn add(
-        &mut self,
-        owner: Part,
-        name: String,
-        key: Span,
-        value: Value,
-    ) -> Result<(), ParseError> {
-        let (keys, steps) = (Vec::new(self.alloc), Vec::new(self.alloc));
-        let outline = &mut self.outline;
-        match (owner, outline.builds.last_mut()) {
-            (Part::Plan, _) => outline.keys.push(KeyValue { name, key, value })?,
-            (Part::Turns, _) => outline.turns.push(value)?,
-            (Part::Builds, _) => outline.builds.push(Build { value, keys, steps })?,
-            (Part::Build, Some(build)) => build.keys.push(KeyValue { name, key, value })?,
-            (Part::Steps, Some(build)) => build.steps.push(value)?,
-            _ => {}
+    // Adds a key with its value, or an element, which has no key, to its owner.
+    fn add(&mut self, owner: Part, added: KeyValue) -> Result<(), ParseError> {
+        if let Some(keys) = keys_of(&mut self.outline, owner) {
+            keys.push(added)?;
+            return Ok(());
+        }
+        self.add_element(owner, added.into_value())
+    }
+
+    // Adds an element to the array of its owner.
+    fn add_element(&mut self, owner: Part, value: Value) -> Result<(), ParseError> {
+        if let Some(elements) = elements_of(&mut self.outline, owner) {
+            elements.push(value)?;
+        } else if matches!(owner, Part::Builds) {
+            let (keys, steps) = (Vec::new(self.alloc), Vec::new(self.alloc));
+            self.outline.builds.push(Build { value, keys, steps })?;
         }
         Ok(())
     }
@@ -288,14 +302,36 @@ impl<'a> Walk<'a> {
     }
 }
 
+// The part of a key at a place, or its last part if there are fewer.
+fn part_of(key: Key, place: usize) -> String {
+    let Key { path, last } = key;
+    path.into_iter().nth(place).unwrap_or(last)
+}
+
+// The keys of a part of an outline, if it has keys.
+fn keys_of(outline: &mut Outline, owner: Part) -> Option<&mut Vec<KeyValue>> {
+    match owner {
+        Part::Plan => Some(&mut outline.keys),
+        Part::Build => Some(&mut outline.builds.last_mut()?.keys),
+        _ => None,
+    }
+}
+
+// The elements of a part of an outline that is an array of turns or of steps.
+fn elements_of(outline: &mut Outline, owner: Part) -> Option<&mut Vec<Value>> {
+    match owner {
+        Part::Turns => Some(&mut outline.turns),
+        Part::Steps => Some(&mut outline.builds.last_mut()?.steps),
+        _ => None,
+    }
+}
+
 // The value that was added last to a part.
 fn last_of(outline: &mut Outline, owner: Part) -> Option<&mut Value> {
     match owner {
-        Part::Plan => Some(&mut outline.keys.last_mut()?.value),
-        Part::Turns => outline.turns.last_mut(),
+        Part::Plan | Part::Build => Some(&mut keys_of(outline, owner)?.last_mut()?.value),
+        Part::Turns | Part::Steps => elements_of(outline, owner)?.last_mut(),
         Part::Builds => Some(&mut outline.builds.last_mut()?.value),
-        Part::Build => Some(&mut outline.builds.last_mut()?.keys.last_mut()?.value),
-        Part::Steps => outline.builds.last_mut()?.steps.last_mut(),
         Part::Other => None,
     }
 }
