@@ -9,11 +9,10 @@ carets_by_parts old one two new spaces carets first second last =
     last ∙ ap (λ (t : List ℕ). t ++ 10 ∷ []) (second ∙ ap (λ (t : List ℕ). t ++ carets) first)
     ∙ append_assoc (old ++ spaces) carets (10 ∷ []) ∙ append_assoc old spaces (carets ++ 10 ∷ [])
 
--- a line in two parts, and a line of carets, which make up a text
-pub excerpt_by_parts : (empty one two three new front back carets : List ℕ)
-    → empty ≡ [] → one ≡ empty ++ front → two ≡ one ++ back → three ≡ two ++ 10 ∷ [] → new ≡ three ++ carets
+-- the front of a line, its rest with a line feed, and a line of carets, which make up a text
+pub excerpt_by_parts : (one two new front back carets : List ℕ)
+    → one ≡ front → two ≡ one ++ (back ++ 10 ∷ []) → new ≡ two ++ carets
     → new ≡ front ++ (back ++ 10 ∷ carets)
-excerpt_by_parts empty one two three new front back carets none first second third last =
-    last ∙ ap (λ (t : List ℕ). t ++ carets) (third ∙ ap (λ (t : List ℕ). t ++ 10 ∷ [])
-    (second ∙ ap (λ (t : List ℕ). t ++ back) (first ∙ ap (λ (t : List ℕ). t ++ front) none)))
-    ∙ append_assoc (front ++ back) (10 ∷ []) carets ∙ append_assoc front back (10 ∷ carets)
+excerpt_by_parts one two new front back carets first second last =
+    last ∙ ap (λ (t : List ℕ). t ++ carets) (second ∙ ap (λ (t : List ℕ). t ++ (back ++ 10 ∷ [])) first)
+    ∙ append_assoc front (back ++ 10 ∷ []) carets ∙ ap (λ (t : List ℕ). front ++ t) (append_assoc back (10 ∷ []) carets)

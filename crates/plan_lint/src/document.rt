@@ -19,22 +19,29 @@ pub(crate) fn errors_in(
 ) -> Result<Vec<Finding>, AllocError> {
     let mut found = Findings::new(alloc);
     if bytes.len() > MOST_BYTES {
-        let words = "a plan has at most {} bytes, and this is longer";
-        let pieces = [Piece::Count(MOST_BYTES)];
-        found.error(PlanFault::Limit, Span::new(0, 0), words, &pieces);
-        return found.finish();
-    }
-    match (fault, from_utf8(bytes)) {
-        (PlanFault::Syntax, _) => {
-            if let Err(error) = toml::table_from_slice(alloc, bytes) {
-                let range = error.span().ok_or(AllocError)?;
-                report_syntax(bytes, range, error.message(), &mut found);
-            }
-        }
-        (_, Ok(text)) => report_mistakes(alloc, text, &mut found)?,
-        _ => {}
+        report_length(&mut found);
+    } else if fault == PlanFault::Syntax {
+        report_no_toml(alloc, bytes, &mut found)?;
+    } else if let Ok(text) = from_utf8(bytes) {
+        report_mistakes(alloc, text, &mut found)?;
     }
     found.finish()
+}
+
+// Reports that a document is longer than a plan can be.
+fn report_length(found: &mut Findings) {
+    let words = "a plan has at most {} bytes, and this is longer";
+    let pieces = [Piece::Count(MOST_BYTES)];
+    found.error(PlanFault::Limit, Span::new(0, 0), words, &pieces);
+}
+
+// Reports the mistake in bytes that are no TOML.
+fn report_no_toml(alloc: Global, bytes: &[u8], found: &mut Findings) -> Result<(), AllocError> {
+    if let Err(error) = toml::table_from_slice(alloc, bytes) {
+        let range = error.span().ok_or(AllocError)?;
+        report_syntax(bytes, range, error.message(), found);
+    }
+    Ok(())
 }
 
 fn report_mistakes(alloc: Global, text: &str, found: &mut Findings) -> Result<(), AllocError> {

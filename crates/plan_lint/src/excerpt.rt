@@ -1,6 +1,6 @@
 //! Positions in a text, and excerpts of a text. An excerpt is a line with carets under a part of the line.
 ghost use Rattle.std.specs.Prelude.{◌≡◌, ◌++◌, ◌<◌, max, replicate, IfOk, OnOk, string_bytes};
-ghost use Rattle.plan_lint.specs.Shown.{shown_byte, plain_text, caret_line, IsExcerpt};
+ghost use Rattle.plan_lint.specs.Shown.{shown_byte, plain_text, plain_line, caret_line, IsExcerpt};
 
 use std::alloc::{AllocError, Global};
 
@@ -110,6 +110,20 @@ fn char_count(text: &str) -> usize {
     count
 }
 
+// The number of characters that are shown for some bytes.
+fn shown_len(alloc: Global, bytes: &[u8]) -> Result<usize, AllocError> {
+    let shown = plain_text(alloc, bytes)?;
+    Ok(char_count(shown.as_str()))
+}
+
+/// Appends the bytes as one line of text, with a line feed.
+pub(crate) fn push_line(alloc: Global, text: &mut String, bytes: &[u8]) -> Result<(), AllocError>
+    ensures { OnOk result (string_bytes text.new ≡ string_bytes text.old ++ plain_line bytes.now) }
+{
+    let line = plain_text(alloc, bytes)?;
+    writeln!(text, "{line}")
+}
+
 // Appends an ASCII character `count` times.
 fn push_repeated(text: &mut String, letter: char, count: usize) -> Result<(), AllocError>
     requires { letter < 128 }
@@ -141,14 +155,11 @@ pub(crate) fn excerpt_of(
 ) -> Result<String, AllocError>
     ensures { IfOk result (λ text. IsExcerpt (string_bytes text)) }
 {
-    let front = plain_text(alloc, &shown_front(alloc, front)?)?;
+    let mut text = plain_text(alloc, &shown_front(alloc, front)?)?;
+    let before = char_count(text.as_str());
     let back = shown_back(alloc, back)?;
-    let shown = plain_text(alloc, &back)?;
-    let marked = plain_text(alloc, first_of(&back, len))?;
-    let mut text = String::new(alloc);
-    text.push_str(&front)?;
-    text.push_str(&shown)?;
-    text.push('\n')?;
-    push_carets(&mut text, char_count(&front), char_count(&marked))?;
+    let marked = shown_len(alloc, first_of(&back, len))?;
+    push_line(alloc, &mut text, &back)?;
+    push_carets(&mut text, before, marked)?;
     Ok(text)
 }

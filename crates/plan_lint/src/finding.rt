@@ -30,7 +30,6 @@ pub enum Severity {
 }
 
 /// A mistake or a likely slip in a document, with its span in the text.
-#[derive(Drop)]
 pub struct Finding {
     pub severity: Severity,
     pub span: Span,
@@ -39,13 +38,33 @@ pub struct Finding {
     pub notes: Vec<String>,
 }
 
+impl Drop for Finding {
+    fn drop(self) {
+        let Finding {
+            severity: _,
+            span: _,
+            words: _,
+            notes: _,
+        } = self;
+    }
+}
+
 /// A growing list of findings, with a flag that records a failed allocation. Code that adds a finding need not check
 /// the flag.
-#[derive(Drop)]
 pub struct Findings {
     pub alloc: Global,
     list: Vec<Finding>,
     has_failed: bool,
+}
+
+impl Drop for Findings {
+    fn drop(self) {
+        let Findings {
+            alloc: _,
+            list: _,
+            has_failed: _,
+        } = self;
+    }
 }
 
 impl Findings {
@@ -59,10 +78,15 @@ impl Findings {
 
     /// Returns all findings, or an error if an allocation failed.
     pub(crate) fn finish(self) -> Result<Vec<Finding>, AllocError> {
-        if self.has_failed {
+        let Findings {
+            alloc: _,
+            list,
+            has_failed,
+        } = self;
+        if has_failed {
             Err(AllocError)
         } else {
-            Ok(self.list)
+            Ok(list)
         }
     }
 

@@ -1,4 +1,5 @@
 //! The words and arguments of a plan's steps, for messages about invalid steps.
+use crate::finding::Findings;
 
 /// The kind of a numeric operand of a step.
 #[derive(Clone, Copy)]
@@ -38,11 +39,28 @@ pub struct Form {
     /// The number and the names of the step's arguments, in words for a message.
     pub takes: &'static str,
     /// The kinds of the step's arguments. Further arguments, if the step can have any, are pages.
-    pub kinds: &'static [OperandKind],
+    kinds: &'static [OperandKind],
     /// The greatest number of arguments that the step can have.
     pub most: usize,
     /// Other names of the step, separated by spaces. They are its names in the RMI, in traces and in histories.
     other_names: &'static str,
+}
+
+impl Form {
+    /// Returns the kind of the step's argument at a place.
+    pub(crate) fn kind_at(&self, place: usize) -> OperandKind {
+        self.kinds.get(place).copied().unwrap_or(OperandKind::Page)
+    }
+
+    // Whether a name is among the step's other names.
+    fn has_name(&self, name: &str) -> bool {
+        for other in self.other_names.split_whitespace() {
+            if name.eq_ignore_ascii_case(other) {
+                return true;
+            }
+        }
+        false
+    }
 }
 
 /// The help text that lists the words of all steps. A test compares them with the steps that plans can have.
@@ -84,18 +102,22 @@ const FORMS: [Form; 18] = [
     form!("back", "no argument", [], 0; ""),
 ];
 
-/// Returns the first word of each kind of step in a plan.
-pub(crate) fn step_words() -> [&'static str; 18] {
+fn forms() -> &'static [Form; 18] {
+    &FORMS
+}
+
+/// Returns the word that a misspelled first word of a step probably means, if any.
+pub(crate) fn nearest_step(word: &str, found: &mut Findings) -> Option<&'static str> {
     let mut words = [""; 18];
-    for place in 0..18 {
-        words[place] = FORMS[place].word;
+    for (place, form) in forms().iter().enumerate() {
+        words[place] = form.word;
     }
-    words
+    found.nearest(&words, word)
 }
 
 /// Finds the syntax of a step by the step's first word. The result is `None` if no step has that word.
 pub(crate) fn form_of(word: &str) -> Option<Form> {
-    for form in &FORMS {
+    for form in forms() {
         if form.word == word {
             return Some(*form);
         }
@@ -105,11 +127,9 @@ pub(crate) fn form_of(word: &str) -> Option<Form> {
 
 /// Finds a step's first word by the name that the step's command has in the RMI, in a trace or in a history.
 pub(crate) fn step_of_command(name: &str) -> Option<&'static str> {
-    for form in &FORMS {
-        for other in form.other_names.split_whitespace() {
-            if name.eq_ignore_ascii_case(other) {
-                return Some(form.word);
-            }
+    for form in forms() {
+        if form.has_name(name) {
+            return Some(form.word);
         }
     }
     None

@@ -78,20 +78,10 @@ fn all_errors(alloc: Global, found: Vec<Finding>, end: usize) -> Result<Vec<Find
     ensures inside { IfOk result (λ v. AreInside end v.items) }
 {
     let mut errors = Vec::new(alloc);
-    for finding in found {
-        let Finding {
-            severity,
-            span,
-            words,
-            notes,
-        } = finding;
-        if let Severity::Error(fault, also) = severity {
-            errors.push(Finding {
-                severity: Severity::Error(fault, also),
-                span: clipped(span, end),
-                words,
-                notes,
-            })?;
+    for mut finding in found {
+        if let Severity::Error(..) = finding.severity {
+            finding.span = clipped(finding.span, end);
+            errors.push(finding)?;
         }
     }
     Ok(errors)
@@ -153,19 +143,10 @@ fn all_warnings(alloc: Global, found: Vec<Finding>, end: usize) -> Result<Vec<Fi
     ensures inside { IfOk result (λ v. AreInside end v.items) }
 {
     let mut warnings = Vec::new(alloc);
-    for finding in found {
-        let Finding {
-            severity: _,
-            span,
-            words,
-            notes,
-        } = finding;
-        warnings.push(Finding {
-            severity: Severity::Warning,
-            span: clipped(span, end),
-            words,
-            notes,
-        })?;
+    for mut finding in found {
+        finding.severity = Severity::Warning;
+        finding.span = clipped(finding.span, end);
+        warnings.push(finding)?;
     }
     Ok(warnings)
 }

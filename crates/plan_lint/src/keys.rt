@@ -1,7 +1,7 @@
 //! The search for mistakes in the keys and the numeric values of a plan.
 use crate::finding::Findings;
 use crate::message_text::Piece::{Quoted, Whole, Words};
-use crate::outline::{Build, KeyValue, Outline, PLAN_KEYS, Value, is_among};
+use crate::outline::{Build, KeyValue, Outline, Value, is_among, plan_keys};
 use realm_plan::PlanFault;
 
 /// The keys that were probably meant by unknown or misplaced keys of a plan. Only `pages` and `build` are noted.
@@ -28,7 +28,7 @@ pub(crate) fn report_unknown_keys(outline: &Outline, found: &mut Findings) -> Me
     let mut before = None;
     for key in &outline.keys {
         let name = key.name.as_str();
-        if before != Some(name) && !is_among(&PLAN_KEYS, name) {
+        if before != Some(name) && !is_among(plan_keys(), name) {
             meant.note(report_unknown_key(outline, key, found));
         }
         before = Some(name);
@@ -49,16 +49,29 @@ fn report_unknown_keys_of(
     for key in &build.keys {
         let name = key.name.as_str();
         if before != Some(name) && name != "steps" {
-            if is_among(&PLAN_KEYS, name) && name != "build" {
-                meant.note(report_key_of_plan(outline, key, found));
-            } else if build.steps_value().is_none() && is_near_steps(key, found) {
-                report_misspelled_key(key, "steps", found);
-            } else {
-                report_no_such_key(key, "the only key of a build is `steps`", found);
-            }
+            meant.note(report_unknown_key_of(outline, build, key, found));
         }
         before = Some(name);
     }
+}
+
+// Reports a key that no build has, and returns the key of the plan that was probably meant, if there is one.
+fn report_unknown_key_of<'a>(
+    outline: &Outline,
+    build: &Build,
+    key: &'a KeyValue,
+    found: &mut Findings,
+) -> Option<&'a str> {
+    let name = key.name.as_str();
+    if name != "build" && is_among(plan_keys(), name) {
+        return report_key_of_plan(outline, key, found);
+    }
+    if build.steps_value().is_none() && is_near_steps(key, found) {
+        report_misspelled_key(key, "steps", found);
+    } else {
+        report_no_such_key(key, "the only key of a build is `steps`", found);
+    }
+    None
 }
 
 // Reports a key that no plan has, and returns the key that was probably meant, if there is one.

@@ -17,6 +17,11 @@ pub(crate) fn slips_in(
 ) -> Result<Vec<Finding>, AllocError> {
     let outline = outline_of(alloc, from_utf8(bytes).unwrap_or(""))?;
     let mut found = Findings::new(alloc);
+    report_slips(plan, &outline, &mut found)?;
+    found.finish()
+}
+
+fn report_slips(plan: &Plan, outline: &Outline, found: &mut Findings) -> Result<(), AllocError> {
     if plan.order.is_empty() {
         let words = "`order` has no turns, so no step is performed";
         found.warning(outline.order_span(), words, &[]);
@@ -24,17 +29,13 @@ pub(crate) fn slips_in(
     for (number, steps) in plan.builds.iter().enumerate() {
         let build = PlannedBuild {
             plan,
-            outline: &outline,
+            outline,
             number,
             steps,
         };
-        build.takes(&mut found);
-        build.pages(&mut found);
-        if !plan.order.is_empty() {
-            build.turns(&mut found)?;
-        }
+        build.report_slips(found)?;
     }
-    found.finish()
+    Ok(())
 }
 
 /// A build that a plan describes, with its steps and their spans in the plan's text.
@@ -52,22 +53,34 @@ impl PlannedBuild<'_> {
         self.outline.step_span(self.number, step)
     }
 
+    fn report_slips(&self, found: &mut Findings) -> Result<(), AllocError> {
+        self.takes(found);
+        self.pages(found);
+        if !self.plan.order.is_empty() {
+            self.turns(found)?;
+        }
+        Ok(())
+    }
+
     // Reports each `take` that a machine of the plan's size cannot serve.
     fn takes(&self, found: &mut Findings) {
-        let pages = self.plan.pages as usize;
         for (place, step) in self.steps.iter().enumerate() {
             if let Some(order) = taken(step) {
-                let (span, len) = (self.span(place), block_len(order));
-                if order > MOST_ORDER {
-                    let pieces = [Count(order as usize), Count(MOST_ORDER as usize)];
-                    let words = "no block has order {}; the greatest order is {}";
-                    found.warning(span, words, &pieces);
-                } else if len > pages {
-                    let pieces = [Count(len), Plural(len), Count(pages)];
-                    let words = "this asks for {} page{}; the machine has {}";
-                    found.warning(span, words, &pieces);
-                }
+                self.take(place, order, found);
             }
+        }
+    }
+
+    fn take(&self, place: usize, order: u8, found: &mut Findings) {
+        let (len, pages) = (block_len(order), self.plan.pages as usize);
+        if order > MOST_ORDER {
+            let pieces = [Count(order as usize), Count(MOST_ORDER as usize)];
+            let words = "no block has order {}; the greatest order is {}";
+            found.warning(self.span(place), words, &pieces);
+        } else if len > pages {
+            let pieces = [Count(len), Plural(len), Count(pages)];
+            let words = "this asks for {} page{}; the machine has {}";
+            found.warning(self.span(place), words, &pieces);
         }
     }
 

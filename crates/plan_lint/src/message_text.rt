@@ -60,13 +60,14 @@ fn push_piece(text: &mut String, piece: Piece<'_>) -> Result<(), AllocError> {
 }
 
 fn push_quoted(text: &mut String, words: &str) -> Result<(), AllocError> {
-    text.push('`')?;
-    for (count, char) in words.chars().enumerate() {
-        if count == LONGEST {
-            text.push_str("..")?;
-            break;
-        }
-        text.push(char)?;
+    let (shown, end) = beginning_of(words);
+    write!(text, "`{shown}{end}`")
+}
+
+// The first characters of a text, and two dots if the text is longer.
+fn beginning_of(words: &str) -> (&str, &'static str) {
+    match words.char_indices().nth(LONGEST) {
+        Some((len, _)) => (words.get(..len).unwrap_or(words), ".."),
+        None => (words, ""),
     }
-    text.push('`')
 }

@@ -58,14 +58,35 @@ fn report_turns(
 // Reports turns that name missing builds, with one finding for each such build.
 fn report_strays(turns: &[Value], builds: usize, found: &mut Findings) -> Result<(), AllocError> {
     let mut numbers = BTreeMap::new(found.alloc);
+    count_strays(turns, builds, &mut numbers)?;
+    report_all_strays(turns, builds, &numbers, found);
+    Ok(())
+}
+
+// Notes the turns that name missing builds, by the number that they name.
+fn count_strays(
+    turns: &[Value],
+    builds: usize,
+    numbers: &mut BTreeMap<i64, Stray>,
+) -> Result<(), AllocError> {
     for (place, turn) in turns.iter().enumerate() {
-        if let Some(number) = turn.as_whole() {
-            if !is_build(number, builds) {
+        match turn.as_whole() {
+            Some(number) if !is_build(number, builds) => {
                 let stray = numbers.entry(number)?.or_insert(Stray { place, count: 0 });
                 stray.count = stray.count.saturating_add(1);
             }
+            _ => {}
         }
     }
+    Ok(())
+}
+
+fn report_all_strays(
+    turns: &[Value],
+    builds: usize,
+    numbers: &BTreeMap<i64, Stray>,
+    found: &mut Findings,
+) {
     let counts_from_1 = numbers.len() == 1 && counts_from_1(turns, builds);
     for (number, stray) in numbers.iter() {
         if let Some(turn) = turns.get(stray.place) {
@@ -75,7 +96,6 @@ fn report_strays(turns: &[Value], builds: usize, found: &mut Findings) -> Result
             found.help("subtract 1 from each turn", &[]);
         }
     }
-    Ok(())
 }
 
 // Whether a number is that of a build, in a plan of `count` builds.

@@ -3,8 +3,10 @@ use crate::finding::Span;
 use std::alloc::{AllocError, Global};
 use toml_parser::Scalar;
 
-/// All keys that a plan can have.
-pub const PLAN_KEYS: [&str; 6] = ["pages", "vmids", "aux", "history", "order", "build"];
+/// Returns all keys that a plan can have.
+pub(crate) fn plan_keys() -> &'static [&'static str] {
+    &["pages", "vmids", "aux", "history", "order", "build"]
+}
 
 /// The kind of a TOML value, with its content if it is a string or scalar.
 pub enum Content {
@@ -165,7 +167,7 @@ impl Outline {
 
     /// Notes the keys of a plan that are not among the parts that were found.
     pub(crate) fn note_missing_keys(&mut self) -> Result<(), AllocError> {
-        for name in &PLAN_KEYS {
+        for name in plan_keys() {
             let has_builds = *name == "build" && !self.builds.is_empty();
             if !has_builds && self.value(name).is_none() {
                 self.missing.push(*name)?;

@@ -5,7 +5,7 @@ ghost use Rattle.std.specs.List.{flat_map};
 ghost use Rattle.plan_lint.specs.Shown.{plain_line};
 ghost use Rattle.plan_lint.specs.Lines.{severity_word, head_line, plural, size_text, AppendsFinding, AppendsFindings};
 
-use crate::excerpt::{Cursor, FIRST, excerpt_of, first_of, place_at, plain_text};
+use crate::excerpt::{Cursor, FIRST, excerpt_of, first_of, place_at, plain_text, push_line};
 use crate::finding::{Finding, Severity};
 use crate::judging::{Size, judge};
 use std::alloc::{AllocError, Global};
@@ -58,19 +58,12 @@ fn push_head(
     writeln!(text, "{source}:{line}:{column}: {kind}: {words}")
 }
 
-fn push_note(alloc: Global, text: &mut String, note: &str) -> Result<(), AllocError>
-    ensures { OnOk result (string_bytes text.new ≡ string_bytes text.old ++ plain_line note.now) }
-{
-    let note = plain_text(alloc, note.as_bytes())?;
-    writeln!(text, "{note}")
-}
-
 // Appends the notes of a finding, a line for each.
 fn push_notes(alloc: Global, text: &mut String, notes: &[String]) -> Result<(), AllocError>
     ensures { OnOk result (string_bytes text.new ≡ string_bytes text.old ++ flat_map (λ note. plain_line (string_bytes note)) notes.now) }
 {
     for note in notes {
-        push_note(alloc, text, note.as_str())?;
+        push_line(alloc, text, note.as_bytes())?;
     }
     Ok(())
 }

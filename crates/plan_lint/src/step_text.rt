@@ -1,6 +1,6 @@
 //! The search for the first mistake in a string that is not a valid step.
 use crate::finding::{Findings, Span};
-use crate::forms::{ALL_STEPS, Form, OperandKind, form_of, step_of_command, step_words};
+use crate::forms::{ALL_STEPS, Form, OperandKind, form_of, nearest_step, step_of_command};
 use crate::message_text::Piece::{self, Count, Number, Quoted, Words};
 use decimal_text::cut_at_space;
 use realm_plan::PlanFault;
@@ -91,14 +91,18 @@ fn stray_blank(bytes: &[u8]) -> Option<(usize, &'static str)> {
     }
 }
 
+// The word of the step that was probably meant: that of a command with this name, or one that is nearly the same.
+fn meant_step(word: &str, found: &mut Findings) -> Option<&'static str> {
+    let bare = word.strip_prefix("RMI_").or(word.strip_prefix("rmi_"));
+    match step_of_command(bare.unwrap_or(word)) {
+        Some(name) => Some(name),
+        None => nearest_step(word, found),
+    }
+}
+
 // Reports a first word that names no step.
 fn report_word(step: &InvalidStep<'_>, word: &str, found: &mut Findings) {
-    let bare = word.strip_prefix("RMI_").or(word.strip_prefix("rmi_"));
-    let meant = match step_of_command(bare.unwrap_or(word)) {
-        Some(name) => Some(name),
-        None => found.nearest(&step_words(), word),
-    };
-    match meant {
+    match meant_step(word, found) {
         Some(name) => {
             let pieces = [Quoted(word), Quoted(name)];
             let words = "unknown step {}; did you mean {}?";
@@ -119,7 +123,7 @@ fn report_arguments(step: &InvalidStep<'_>, form: &Form, rest: &str, found: &mut
         if place >= form.most {
             return report_count(step, form, at, rest, found);
         }
-        let kind = form.kinds.get(place).copied().unwrap_or(OperandKind::Page);
+        let kind = form.kind_at(place);
         if !is_right(kind, text) {
             return report_argument(step, &Argument { kind, at, text }, found);
         }

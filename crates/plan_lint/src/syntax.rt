@@ -1,6 +1,6 @@
 //! Findings on a text that is not valid TOML.
 use crate::finding::{Findings, Span};
-use crate::forms::step_words;
+use crate::forms::nearest_step;
 use crate::message_text::Piece::{self, Quoted, Words};
 use realm_plan::PlanFault;
 use std::ops::Range;
@@ -19,27 +19,14 @@ pub(crate) fn report_syntax(
         end: range.end,
     };
     let (front, back) = around(bytes, span.start);
-    let before = match front.rsplit_once('\n') {
-        Some((_, line)) => line,
-        None => front,
-    };
-    let after = match back.split_once('\n') {
-        Some((line, _)) => line.trim_end(),
-        None => back.trim_end(),
-    };
-    let is_in_array = front.trim_end().ends_with('[') || front.trim_end().ends_with(',');
+    let (before, after) = (last_line(front), cut_at(back, '\n').trim_end());
     if is_other_header(before, after) {
         report_header(span.start, before.trim_start(), after, found);
     } else if message == "invalid string" && after.is_empty() {
         report_unclosed_string(span.start, before, found);
     } else if message == "duplicate key" {
-        let key = match after.split_once('=') {
-            Some((key, _)) => key.trim_end(),
-            None => after,
-        };
-        let span = Span::new(span.start, key.len());
-        report(span, "duplicate key {}", &[Quoted(key)], found);
-    } else if is_in_array && !after.starts_with('"') {
+        report_duplicate_key(span.start, after, found);
+    } else if is_in_array(front) && !after.starts_with('"') {
         report_array_item(span, message, after, found);
     } else if before.is_empty() && message.starts_with("missing comma between array elements") {
         report(span, "unclosed array, expected `,` or `]`", &[], found);
@@ -59,6 +46,27 @@ fn around(bytes: &[u8], at: usize) -> (&str, &str) {
         (Some(before), Some(after)) => (before, after),
         _ => (text, ""),
     }
+}
+
+// The last line of a text.
+fn last_line(text: &str) -> &str {
+    match text.rsplit_once('\n') {
+        Some((_, line)) => line,
+        None => text,
+    }
+}
+
+// The text before the first `end`, or the whole text if there is none.
+fn cut_at(text: &str, end: char) -> &str {
+    match text.split_once(end) {
+        Some((before, _)) => before,
+        None => text,
+    }
+}
+
+// Whether an item of an array may come after this text.
+fn is_in_array(front: &str) -> bool {
+    front.trim_end().ends_with(['[', ','])
 }
 
 // Whether the line is a build's header with brackets other than those of `[[build]]`.
@@ -89,6 +97,16 @@ fn report_header(at: usize, before: &str, after: &str, found: &mut Findings) {
     found.help("each build begins with a line `[[build]]`", &[]);
 }
 
+fn report_duplicate_key(at: usize, after: &str, found: &mut Findings) {
+    let key = cut_at(after, '=').trim_end();
+    report(
+        Span::new(at, key.len()),
+        "duplicate key {}",
+        &[Quoted(key)],
+        found,
+    );
+}
+
 // Reports a string that is not closed on its line.
 fn report_unclosed_string(at: usize, before: &str, found: &mut Findings) {
     let len = match before.rsplit_once(['"', '\'']) {
@@ -106,13 +124,9 @@ fn report_array_item(span: Span, message: &str, after: &str, found: &mut Finding
         Some((item, _)) => item.trim_end(),
         None => after,
     };
-    let word = match item.split_once(' ') {
-        Some((word, _)) => word,
-        None => item,
-    };
     if after.is_empty() {
         report(span, "unclosed array, expected a value or `]`", &[], found);
-    } else if found.nearest(&step_words(), word).is_some() {
+    } else if nearest_step(cut_at(item, ' '), found).is_some() {
         let span = Span::new(span.start, item.len());
         report(span, "expected a string, found {}", &[Quoted(item)], found);
         found.help("write \"{}\"", &[Words(item)]);

@@ -142,14 +142,6 @@ impl<'a> Walk<'a> {
         Ok(())
     }
 
-    // Skips the brackets that begin or end a header: two for an array of tables, or else one.
-    fn skip_brackets(&mut self, is_array: bool) -> Result<(), ParseError> {
-        if is_array {
-            self.skip_byte()?;
-        }
-        self.skip_byte()
-    }
-
     // Reads a key with dots or without, and returns it with its span.
     fn key(&mut self) -> Result<(Key, Span), ParseError> {
         let (start, from) = (self.at(), self.rest);
@@ -164,12 +156,11 @@ impl<'a> Walk<'a> {
     fn header(&mut self) -> Result<(), ParseError> {
         let start = self.at();
         let is_array = self.rest.starts_with("[[");
-        self.skip_brackets(is_array)?;
-        self.rest = skip_ws(self.rest);
+        self.rest = skip_ws(self.rest.trim_start_matches('['));
         let (key, _) = self.key()?;
+        self.rest = self.rest.trim_start_matches(']');
         let (owner, content) = self.headed(&key, is_array);
         let name = part_of(key, usize::from(matches!(owner, Part::Build)));
-        self.skip_brackets(is_array)?;
         let key = self.span_from(start);
         let value = Value { span: key, content };
         self.add(owner, KeyValue { name, key, value })
@@ -179,7 +170,8 @@ impl<'a> Walk<'a> {
     fn headed(&mut self, key: &Key, is_array: bool) -> (Part, Content) {
         let owner = match key.path.first() {
             None if is_array && key.last.as_str() == "build" => Part::Builds,
-            Some(first) if first.as_str() == "build" && !self.outline.builds.is_empty() => Part::Build,
+            Some(first) if first.as_str() == "build" && !self.outline.builds.is_empty() =>
+                Part::Build,
             _ => Part::Plan,
         };
         self.section = match owner {
@@ -210,7 +202,14 @@ impl<'a> Walk<'a> {
             span,
             content: Content::Table,
         };
-        self.add(owner, KeyValue { name, key: span, value })?;
+        self.add(
+            owner,
+            KeyValue {
+                name,
+                key: span,
+                value,
+            },
+        )?;
         self.value(Part::Other, String::new(self.alloc), span)
     }
 
@@ -329,9 +328,8 @@ fn elements_of(outline: &mut Outline, owner: Part) -> Option<&mut Vec<Value>> {
 // The value that was added last to a part.
 fn last_of(outline: &mut Outline, owner: Part) -> Option<&mut Value> {
     match owner {
-        Part::Plan | Part::Build => Some(&mut keys_of(outline, owner)?.last_mut()?.value),
-        Part::Turns | Part::Steps => elements_of(outline, owner)?.last_mut(),
         Part::Builds => Some(&mut outline.builds.last_mut()?.value),
-        Part::Other => None,
+        Part::Plan | Part::Build => Some(&mut keys_of(outline, owner)?.last_mut()?.value),
+        _ => elements_of(outline, owner)?.last_mut(),
     }
 }
