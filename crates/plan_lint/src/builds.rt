@@ -17,22 +17,25 @@ pub(crate) fn count_of_builds(outline: &Outline) -> Option<usize> {
 
 /// Reports the mistakes in the builds of a plan.
 pub(crate) fn report_builds(text: &str, outline: &Outline, meant: MeantKeys, found: &mut Findings) {
-    let has_builds = !outline.builds.is_empty();
     match outline.value("build") {
-        Some(value) if !value.is_array() => return report_no_builds(text, value, found),
-        Some(value) if !has_builds => return report_empty_build_array(outline, value, found),
-        None if !has_builds && meant.build => return,
-        None if !has_builds => {
+        Some(value) if !value.is_array() => report_no_builds(text, value, found),
+        _ if !outline.builds.is_empty() => report_each_build(text, &outline.builds, found),
+        Some(value) => report_empty_build_array(outline, value, found),
+        None if meant.build => {}
+        None => {
             found.error(PlanFault::Key, outline.start(), "missing key `build`", &[]);
-            return found.help("add a line `[[build]]`, and below it `steps = [..]`", &[]);
+            found.help("add a line `[[build]]`, and below it `steps = [..]`", &[]);
         }
-        _ => {}
     }
-    for (number, build) in outline.builds.iter().enumerate() {
+}
+
+// Reports the mistakes in each build, and too many builds.
+fn report_each_build(text: &str, builds: &[Build], found: &mut Findings) {
+    for (number, build) in builds.iter().enumerate() {
         report_build(text, number, build, found);
     }
-    if let Some(first) = outline.builds.get(MOST_BUILDS) {
-        let pieces = [Count(MOST_BUILDS), Count(outline.builds.len())];
+    if let Some(first) = builds.get(MOST_BUILDS) {
+        let pieces = [Count(MOST_BUILDS), Count(builds.len())];
         let words = "expected at most {} builds, found {}";
         found.error(PlanFault::Limit, first.value.span, words, &pieces);
     }

@@ -4,6 +4,7 @@ use crate::finding::{Finding, Findings, Span};
 use crate::keys::{report_numbers, report_unknown_keys};
 use crate::message_text::Piece;
 use crate::order::report_order;
+use crate::outline::Outline;
 use crate::syntax::report_syntax;
 use crate::walk::outline_of;
 use realm_plan::{MOST_BYTES, PlanFault};
@@ -46,19 +47,27 @@ fn report_no_toml(alloc: Global, bytes: &[u8], found: &mut Findings) -> Result<(
 
 fn report_mistakes(alloc: Global, text: &str, found: &mut Findings) -> Result<(), AllocError> {
     let outline = outline_of(alloc, text)?;
+    report_mistakes_in(text, &outline, found)
+}
+
+fn report_mistakes_in(
+    text: &str,
+    outline: &Outline,
+    found: &mut Findings,
+) -> Result<(), AllocError> {
     if outline.keys.is_empty() && outline.builds.is_empty() {
         report_empty_plan(found);
         return Ok(());
     }
-    let meant = report_unknown_keys(&outline, found);
-    report_numbers(&outline, meant, found);
+    let meant = report_unknown_keys(outline, found);
+    report_numbers(outline, meant, found);
     // (builds are not counted if an unknown key was probably meant as `build`)
-    let count = match count_of_builds(&outline) {
+    let count = match count_of_builds(outline) {
         Some(count) if count > 0 && !meant.build => Some(count),
         _ => None,
     };
-    report_order(&outline, count, found)?;
-    report_builds(text, &outline, meant, found);
+    report_order(outline, count, found)?;
+    report_builds(text, outline, meant, found);
     Ok(())
 }
 

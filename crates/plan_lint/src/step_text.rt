@@ -117,19 +117,25 @@ fn report_word(step: &InvalidStep<'_>, word: &str, found: &mut Findings) {
 
 // Reports the first mistake in the arguments of a step, which are separated by single spaces.
 fn report_arguments(step: &InvalidStep<'_>, form: &Form, rest: &str, found: &mut Findings) {
+    match first_wrong(form, rest) {
+        Some((place, argument)) if place < form.most => report_argument(step, &argument, found),
+        Some((_, argument)) => report_count(step, form, argument.at, rest, found),
+        None => report_count(step, form, 0, rest, found),
+    }
+}
+
+// The first argument that is wrong or one too many, with its index.
+fn first_wrong<'a>(form: &Form, rest: &'a str) -> Option<(usize, Argument<'a>)> {
     let mut at = form.word.len();
     for (place, text) in rest.split(' ').skip(1).enumerate() {
         at = at.saturating_add(1);
-        if place >= form.most {
-            return report_count(step, form, at, rest, found);
-        }
         let kind = form.kind_at(place);
-        if !is_right(kind, text) {
-            return report_argument(step, &Argument { kind, at, text }, found);
+        if place >= form.most || !is_right(kind, text) {
+            return Some((place, Argument { kind, at, text }));
         }
         at = at.saturating_add(text.len());
     }
-    report_count(step, form, 0, rest, found)
+    None
 }
 
 // Reports a wrong number of arguments, on the bytes of the step from `from` on.
@@ -145,9 +151,17 @@ fn report_count(
         let pieces = [Quoted(form.word), Quoted(rest.trim_start())];
         return step.error(from, len, "{} takes no argument, found {}", &pieces, found);
     }
-    let count = rest.split(' ').skip(1).count();
-    let pieces = [Quoted(form.word), Words(form.takes), Count(count)];
+    let pieces = [
+        Quoted(form.word),
+        Words(form.takes),
+        Count(argument_count(rest)),
+    ];
     step.error(from, len, "{} takes {}, found {}", &pieces, found);
+}
+
+// The number of arguments in a text, each of which has a space before it.
+fn argument_count(rest: &str) -> usize {
+    rest.split(' ').skip(1).count()
 }
 
 fn is_right(kind: OperandKind, text: &str) -> bool {

@@ -120,13 +120,14 @@ fn report_unclosed_string(at: usize, before: &str, found: &mut Findings) {
 
 // Reports an invalid item of an array: a step without quotes, the end of the text, or another text.
 fn report_array_item(span: Span, message: &str, after: &str, found: &mut Findings) {
+    if after.is_empty() {
+        return report(span, "unclosed array, expected a value or `]`", &[], found);
+    }
     let item = match after.split_once([',', ']', '#', '"']) {
         Some((item, _)) => item.trim_end(),
         None => after,
     };
-    if after.is_empty() {
-        report(span, "unclosed array, expected a value or `]`", &[], found);
-    } else if nearest_step(cut_at(item, ' '), found).is_some() {
+    if nearest_step(cut_at(item, ' '), found).is_some() {
         let span = Span::new(span.start, item.len());
         report(span, "expected a string, found {}", &[Quoted(item)], found);
         found.help("write \"{}\"", &[Words(item)]);

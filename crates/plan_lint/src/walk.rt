@@ -226,7 +226,8 @@ impl<'a> Walk<'a> {
     // Reads a value, or only the opening bracket of an array or an inline table.
     fn value(&mut self, owner: Part, name: String, key: Span) -> Result<(), ParseError> {
         let start = self.at();
-        let content = self.content()?;
+        let (content, rest) = content_of(self.alloc, self.rest)?;
+        self.rest = rest;
         let span = self.span_from(start);
         let value = Value { span, content };
         let added = KeyValue { name, key, value };
@@ -247,25 +248,6 @@ impl<'a> Walk<'a> {
             })?;
         }
         Ok(())
-    }
-
-    fn content(&mut self) -> Result<Content, ParseError> {
-        if starts_string(self.rest) {
-            let (text, rest) = quoted(self.alloc, self.rest)?;
-            self.rest = rest;
-            return Ok(Content::Text(text));
-        }
-        let content = match first(self.rest) {
-            b'[' => Content::Array,
-            b'{' => Content::Table,
-            _ => {
-                let (scalar, rest) = unquoted(self.alloc, self.rest)?;
-                self.rest = rest;
-                return Ok(Content::Scalar(scalar));
-            }
-        };
-        self.skip_byte()?;
-        Ok(content)
     }
 
     // Adds a key with its value, or an element, which has no key, to its owner.
@@ -298,6 +280,22 @@ impl<'a> Walk<'a> {
             }
         }
         Ok(())
+    }
+}
+
+// Reads a value, or only the opening bracket of an array or an inline table. The second part is the text after it.
+fn content_of(alloc: Global, text: &str) -> Result<(Content, &str), ParseError> {
+    if starts_string(text) {
+        let (string, rest) = quoted(alloc, text)?;
+        return Ok((Content::Text(string), rest));
+    }
+    match first(text) {
+        b'[' => Ok((Content::Array, skip(text, 1))),
+        b'{' => Ok((Content::Table, skip(text, 1))),
+        _ => {
+            let (scalar, rest) = unquoted(alloc, text)?;
+            Ok((Content::Scalar(scalar), rest))
+        }
     }
 }
 
