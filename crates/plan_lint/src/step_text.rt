@@ -151,11 +151,8 @@ fn report_count(
         let pieces = [Quoted(form.word), Quoted(rest.trim_start())];
         return step.error(from, len, "{} takes no argument, found {}", &pieces, found);
     }
-    let pieces = [
-        Quoted(form.word),
-        Words(form.takes),
-        Count(argument_count(rest)),
-    ];
+    let count = argument_count(rest);
+    let pieces = [Quoted(form.word), Words(form.takes), Count(count)];
     step.error(from, len, "{} takes {}, found {}", &pieces, found);
 }
 

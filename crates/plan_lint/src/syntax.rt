@@ -99,12 +99,8 @@ fn report_header(at: usize, before: &str, after: &str, found: &mut Findings) {
 
 fn report_duplicate_key(at: usize, after: &str, found: &mut Findings) {
     let key = cut_at(after, '=').trim_end();
-    report(
-        Span::new(at, key.len()),
-        "duplicate key {}",
-        &[Quoted(key)],
-        found,
-    );
+    let span = Span::new(at, key.len());
+    report(span, "duplicate key {}", &[Quoted(key)], found);
 }
 
 // Reports a string that is not closed on its line.

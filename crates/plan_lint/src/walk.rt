@@ -160,7 +160,7 @@ impl<'a> Walk<'a> {
         let (key, _) = self.key()?;
         self.rest = self.rest.trim_start_matches(']');
         let (owner, content) = self.headed(&key, is_array);
-        let name = part_of(key, usize::from(matches!(owner, Part::Build)));
+        let name = name_at(key, usize::from(matches!(owner, Part::Build)));
         let key = self.span_from(start);
         let value = Value { span: key, content };
         self.add(owner, KeyValue { name, key, value })
@@ -189,28 +189,19 @@ impl<'a> Walk<'a> {
     // dots is no part of a plan.
     fn pair(&mut self) -> Result<(), ParseError> {
         let owner = self.owner();
-        let (key, span) = self.key()?;
-        self.note_deeper_pages(owner, &key);
-        let has_dots = !key.path.is_empty();
-        let name = part_of(key, 0);
+        let (written, key) = self.key()?;
+        self.note_deeper_pages(owner, &written);
+        let has_dots = !written.path.is_empty();
+        let name = name_at(written, 0);
         self.skip_byte()?;
         self.rest = skip_ws(self.rest);
         if !has_dots {
-            return self.value(owner, name, span);
+            return self.value(owner, name, key);
         }
-        let value = Value {
-            span,
-            content: Content::Table,
-        };
-        self.add(
-            owner,
-            KeyValue {
-                name,
-                key: span,
-                value,
-            },
-        )?;
-        self.value(Part::Other, String::new(self.alloc), span)
+        let content = Content::Table;
+        let value = Value { span: key, content };
+        self.add(owner, KeyValue { name, key, value })?;
+        self.value(Part::Other, String::new(self.alloc), key)
     }
 
     // Notes a key `pages` of a table that no plan has.
@@ -299,8 +290,8 @@ fn content_of(alloc: Global, text: &str) -> Result<(Content, &str), ParseError> 
     }
 }
 
-// The part of a key at a place, or its last part if there are fewer.
-fn part_of(key: Key, place: usize) -> String {
+// The name at a place of a key with dots, or its last name if there are fewer.
+fn name_at(key: Key, place: usize) -> String {
     let Key { path, last } = key;
     path.into_iter().nth(place).unwrap_or(last)
 }
