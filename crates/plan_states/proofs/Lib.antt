@@ -15,3 +15,6 @@ pub mod OneState
 pub mod PathRuns
 pub mod RunLogs
 pub mod RunPaths
+pub mod Snapshots
+pub mod Lengths
+pub mod Positions

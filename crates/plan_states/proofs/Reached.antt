@@ -98,3 +98,14 @@ of_runs-none plan ends maps none empty = record {
   ends = subst (All (IsEndOfRun plan)) (sym none) (All-nil (IsEndOfRun plan));
   maps = subst (All (λ (map : String Global). IsMapOfRun plan (string_bytes map))) (sym empty) (All-nil (λ (map : String Global). IsMapOfRun plan (string_bytes map)));
 }
+
+map_by : (plan : Plan) (map : String Global) (old new : List (String Global)) → IsMapOfRun plan (string_bytes map) → AreWith old (Some map) new
+    → All (λ (it : String Global). IsMapOfRun plan (string_bytes it)) old → All (λ (it : String Global). IsMapOfRun plan (string_bytes it)) new
+map_by plan map old new is (inl same) all = subst (All (λ (it : String Global). IsMapOfRun plan (string_bytes it))) (sym same) all
+map_by plan map old new is (inr more) all =
+    subst (All (λ (it : String Global). IsMapOfRun plan (string_bytes it))) (sym more) (All-push (λ (it : String Global). IsMapOfRun plan (string_bytes it)) old map all is)
+
+-- the maps after a run
+pub of_runs-map : (plan : Plan) (ends : List EndOfStep) (old new : List (String Global)) (map : String Global)
+    → IsMapOfRun plan (string_bytes map) → AreWith old (Some map) new → AreOfRuns plan ends old → AreOfRuns plan ends new
+of_runs-map plan ends old new map is with_it of = record { ends = of.ends; maps = map_by plan map old new is with_it of.maps }

@@ -106,14 +106,19 @@ no_turn : (plan : Plan) (at : Position) (turns : List Turn) → AreTurns plan []
 no_turn plan at [] are = are
 no_turn plan at (turn ∷ turns) are = absurd are
 
-pub booted_log : (plan : Plan) (ends : List EndOfStep) (held : List (List ℕ)) (maps : List (String Global)) (log : RunLog) (snapshot : Snapshot) (at : Position)
-    → IsReached plan [] at → IsOfHost at → AreBuildsAt at 8 snapshot.builds.items → log.snapshots.items ≡ snapshot ∷ [] → log.turns.items ≡ [] → IsLog plan ends held maps log
-booted_log plan ends held maps log snapshot at reached of_host builds only none = record {
+pub at_boot : (plan : Plan) (snapshot : Snapshot) (at : Position)
+    → IsReached plan [] at → IsOfHost at → AreBuildsAt at 8 snapshot.builds.items → IsSnapshotOfRun plan snapshot (start (opening_host plan))
+at_boot plan snapshot at reached of_host builds =
+    subst (IsSnapshotOfRun plan snapshot) (no_turn plan at reached.turns reached.are_turns)
+    (record { schedule = []; reached = reached; of_host = of_host; builds = builds })
+
+pub booted_log : (plan : Plan) (ends : List EndOfStep) (held : List (List ℕ)) (maps : List (String Global)) (log : RunLog) (snapshot : Snapshot)
+    → IsSnapshotOfRun plan snapshot (start (opening_host plan)) → log.snapshots.items ≡ snapshot ∷ [] → log.turns.items ≡ [] → IsLog plan ends held maps log
+booted_log plan ends held maps log snapshot shown only none = record {
   boot = record {
     it = snapshot;
     is_there = ap (λ l. slice_get l 0) only;
-    shown = subst (IsSnapshotOfRun plan snapshot) (no_turn plan at reached.turns reached.are_turns)
-        (record { schedule = []; reached = reached; of_host = of_host; builds = builds });
+    shown = shown;
   };
   turns = subst (All (IsLogged plan ends held maps log.snapshots.items)) (sym none) (All-nil (IsLogged plan ends held maps log.snapshots.items));
 }

@@ -1,5 +1,5 @@
 -- Lemmas on the tally of the paths with a given outcome, and on the sequence of several tallies.
-use Rattle.std.proofs.Common.{◌≡◌, ℕ, zero, suc, ◌≤◌, Bool, true, false, cond, List, [], ◌∷◌, ◌++◌, map, length, min, take, drop, Vec, Global, Option, Some, None, refl, sym, subst, ap, ◌∙◌, arith}
+use Rattle.std.proofs.Common.{◌≡◌, ℕ, zero, suc, ◌+◌, ◌<◌, ◌≤◌, Bool, true, false, cond, List, [], ◌∷◌, ◌++◌, map, length, min, get_or, take, drop, Vec, Global, Option, Some, None, refl, sym, subst, ap, ◌∙◌, add-one, drop-cons, arith}
 use Rattle.std.specs.Prelude.{filter, option_map, slice_index_or}
 use Rattle.std.specs.List.{find, insert}
 use Rattle.std.proofs.lemmas.List.{map-append, take-map, drop-map}
@@ -8,8 +8,9 @@ use Rattle.std.proofs.lemmas.Simd.{map-map}
 use Rattle.schedule_graph.specs.First.{first_like, any_path, layers_in, path_numbers_in, ArePathNumbers}
 use Rattle.schedule_graph.specs.Paths.{Layer, Path, paths, count_at}
 use Rattle.schedule_graph.specs.declared.graph.Edge.{Edge}
-use Rattle.plan_states.specs.Tallies.{PathCount, builds_of_path, tally_of, is_before, place_for}
+use Rattle.plan_states.specs.Tallies.{PathCount, all_added, builds_of_path, count_of_tally, tally_of, is_before, place_for, with_tally}
 use Rattle.plan_states.specs.declared.edges.Label.{Label}
+use Rattle.plan_states.specs.declared.tally.PathTally.{PathTally}
 
 -- ---- the tally of the paths like that
 
@@ -84,3 +85,22 @@ pub numbers-same : (layers others : List (Vec (Vec (Edge Label) Global) Global))
 numbers-same layers others numbers those same same_numbers are =
     subst (λ (ls : List (Vec (Vec (Edge Label) Global) Global)). ArePathNumbers any_path (layers_in ls) (path_numbers_in those)) same
     (subst (λ (ns : List (Vec ℕ Global)). ArePathNumbers any_path (layers_in layers) (path_numbers_in ns)) (sym same_numbers) are)
+
+-- ---- the tallies of one number more
+
+pub added_more : {K : Type 0} (tally_at : ℕ → Option (PathCount K)) (n : ℕ) → all_added tally_at (n + 1) ≡ with_tally (tally_at n) (all_added tally_at n)
+added_more tally_at n = rw add-one
+
+-- ---- the place of a tally, one tally further on
+
+pub place_more : {K : Type 0} (first : List ℕ) (tallies : List (PathTally K)) (place all : ℕ) (t : PathTally K)
+    → place < length tallies → is_before first (get_or tallies place t).first.items ≡ false
+    → place + place_for first (map count_of_tally (drop place tallies)) ≡ all
+    → place + 1 + place_for first (map count_of_tally (drop (place + 1) tallies)) ≡ all
+place_more {K} first tallies place all t inside later same =
+    let rest : List (PathCount K) = map count_of_tally (drop (suc place) tallies) in
+    let here : place_for first (map count_of_tally (drop place tallies)) ≡ suc (place_for first rest) =
+    ap (λ (l : List (PathTally K)). place_for first (map count_of_tally l)) (drop-cons tallies place t inside) ∙ ap (λ b. cond b 0 (suc (place_for first rest))) later in
+    let more : place_for first (map count_of_tally (drop (place + 1) tallies)) ≡ place_for first rest =
+    ap (λ k. place_for first (map count_of_tally (drop k tallies))) (add-one place) in
+    omega (arith, here, more, same)

@@ -35,6 +35,13 @@ pub record IsShownBy (plan : Plan) (snapshots : List Snapshot) (number : ℕ) (a
   pub is_there : slice_get snapshots number ≡ Some it
   pub shown : IsSnapshotOfRun plan it at
 
+-- the snapshot with this number is that of the position
+pub record IsAtSnapshot (snapshots : List Snapshot) (number : ℕ) (at : Position) : Type 0 where
+  pub it : Snapshot
+  pub is_there : slice_get snapshots number ≡ Some it
+  pub of_host : IsOfHost at
+  pub builds : AreBuildsAt at 8 it.builds.items
+
 -- a snapshot with the same builds has this number
 pub record IsSnapshotNumber (snapshots : List Snapshot) (number : ℕ) (snapshot : Snapshot) : Type 0 where
   pub it : Snapshot

@@ -1,9 +1,13 @@
 //! The state graph of a plan's runs.
-ghost use Rattle.std.specs.Prelude.{◌≡◌, ◌≤◌, ◌<◌, ◌++◌, ◌∷◌, [], Some, OnOk, IfOk, IfErr, IfSome, length, string_bytes, vec_len};
+ghost use Rattle.std.specs.Prelude.{◌≡◌, ◌≤◌, ◌<◌, ◌++◌, ◌∷◌, [], Some, OnOk, IfOk, IfErr, IfSome, length, string_bytes, sum_by, vec_len};
 ghost use Rattle.realm_plan.specs.PlanView.{plan_view};
 ghost use Rattle.plan_states.specs.Exploration.{AreOfRuns, IsExploration, IsFound, HasNoGraph};
-ghost use Rattle.plan_states.specs.Reached.{IsMapOfRun};
+ghost use Rattle.plan_replay.specs.Run.{map_text};
+ghost use Rattle.plan_states.specs.Reached.{AreOver, IsMapOfRun};
+ghost use Rattle.plan_states.specs.Distinct.{IsGraphDistinct};
+ghost use Rattle.plan_states.specs.Runs.{ArePathsRuns};
 ghost use Rattle.plan_states.specs.Turned.{AreWith};
+ghost use Rattle.plan_states.specs.Whole.{IsWholeGraph};
 
 use crate::distinct::is_distinct;
 use crate::edges::Label;
@@ -69,7 +73,7 @@ struct Target {
 // The states of a layer, with the turn by which each was first reached.
 struct Front {
     states: Vec<State>,
-    came: Vec<FirstArrival>,
+    arrivals: Vec<FirstArrival>,
     targets: HashMap<State, Target>,
 }
 
@@ -77,17 +81,17 @@ impl Drop for Front {
     fn drop(self) {
         let Front {
             states: _,
-            came: _,
+            arrivals: _,
             targets: _,
         } = self;
     }
 }
 
-// The exploration of a graph so far. `came` has, for each state of each layer, the turn by which the state was first
-// reached.
+// The exploration of a graph so far. `arrivals` has, for each state of each layer, the turn by which the state was
+// first reached.
 struct Explorer {
     turns: Turns,
-    came: Vec<Vec<FirstArrival>>,
+    arrivals: Vec<Vec<FirstArrival>>,
     held: Holdings,
     maps: Vec<String>,
 }
@@ -96,7 +100,7 @@ impl Drop for Explorer {
     fn drop(self) {
         let Explorer {
             turns: _,
-            came: _,
+            arrivals: _,
             held: _,
             maps: _,
         } = self;
@@ -115,14 +119,14 @@ impl Front {
     // Returns the states, and for each the turn by which it was first reached.
     fn into_states(self) -> (Vec<State>, Vec<FirstArrival>)
         ensures states { result.0 ≡ self.states }
-        ensures came { result.1 ≡ self.came }
+        ensures arrivals { result.1 ≡ self.arrivals }
     {
         let Front {
             states,
-            came,
+            arrivals,
             targets: _,
         } = self;
-        (states, came)
+        (states, arrivals)
     }
 
     fn new(alloc: Global) -> Front
@@ -130,7 +134,7 @@ impl Front {
     {
         Front {
             states: Vec::new(alloc),
-            came: Vec::new(alloc),
+            arrivals: Vec::new(alloc),
             targets: HashMap::new(alloc),
         }
     }
@@ -139,7 +143,7 @@ impl Front {
     fn add(
         &mut self,
         state: State,
-        came: FirstArrival,
+        arrival: FirstArrival,
         held: usize,
         map: Option<usize>,
     ) -> Result<Target, AllocError>
@@ -148,7 +152,7 @@ impl Front {
         let to = self.states.len();
         let target = Target { to, held, map };
         self.targets.insert(state, target)?;
-        self.came.push(came)?;
+        self.arrivals.push(arrival)?;
         self.states.push(state)?;
         Ok(target)
     }
@@ -160,13 +164,17 @@ fn progress_of(alloc: Global, states: &[State]) -> Result<Vec<StepsDone>, AllocE
 }
 
 // The first schedule that leads to a state of the last layer. `Mismatch`: there is no such state.
-fn schedule_to(alloc: Global, came: &[Vec<FirstArrival>], place: usize) -> Result<Vec<usize>, Fault>
+fn schedule_to(
+    alloc: Global,
+    arrivals: &[Vec<FirstArrival>],
+    place: usize,
+) -> Result<Vec<usize>, Fault>
     ensures { IfErr result HasNoGraph }
 {
     let mut schedule = Vec::new(alloc);
     let mut at = place;
-    for done in 1..came.len() {
-        let Some(way) = came[came.len() - done].get(at) else {
+    for done in 1..arrivals.len() {
+        let Some(way) = arrivals[arrivals.len() - done].get(at) else {
             return Err(Fault::Mismatch);
         };
         push(&mut schedule, way.build)?;
@@ -176,6 +184,18 @@ fn schedule_to(alloc: Global, came: &[Vec<FirstArrival>], place: usize) -> Resul
     Ok(schedule)
 }
 
+// The map of a run after which no build has a step left. `Mismatch`: a build has a step left.
+fn final_map(alloc: Global, plan: &Plan, running: &Running) -> Result<String, Fault>
+    ensures over { IfOk result (λ _. AreOver (plan_view plan.now) running.now.places) }
+    ensures map { IfOk result (λ map. string_bytes map ≡ map_text running.now.host) }
+    ensures err { IfErr result HasNoGraph }
+{
+    if has_more(plan, &running.places) {
+        return Err(Fault::Mismatch);
+    }
+    Ok(map_text(alloc, &running.host)?)
+}
+
 // The final map of a schedule after which no build has a step left. `Mismatch`: some turn is of a build without a step
 // left, or a build has a step left after the last turn.
 fn map_after(alloc: Global, plan: &Plan, schedule: &[usize]) -> Result<String, Fault>
@@ -183,12 +203,8 @@ fn map_after(alloc: Global, plan: &Plan, schedule: &[usize]) -> Result<String, F
     ensures err { IfErr result HasNoGraph }
 {
     let running = run_to(alloc, plan, schedule)?;
-    let Running { host, places } = running;
-    if has_more(plan, &places) {
-        return Err(Fault::Mismatch);
-    }
-    let map = map_text(alloc, &host)?;
-    let ledger = host.into_ledger();
+    let map = final_map(alloc, plan, &running)?;
+    let ledger = running.host.into_ledger();
     if !leave_nothing(alloc, plan, &ledger, &map)? {
         unreachable!()
     }
@@ -210,6 +226,19 @@ fn number_of_map(maps: &mut Vec<String>, map: String) -> Result<usize, AllocErro
 }
 
 impl Explorer {
+    // Returns an explorer that has found nothing yet.
+    fn new(alloc: Global) -> Explorer
+        ensures ends { result.turns.ends.items ≡ [] }
+        ensures maps { result.maps.items ≡ [] }
+    {
+        Explorer {
+            turns: Turns::new(alloc),
+            arrivals: Vec::new(alloc),
+            held: Holdings::new(alloc),
+            maps: Vec::new(alloc),
+        }
+    }
+
     // Runs a schedule after which no build has a step left, and returns the index of its final map.
     fn map_of(&mut self, alloc: Global, plan: &Plan, schedule: &[usize]) -> Result<usize, Fault>
         requires { AreOfRuns (plan_view plan.now) self.old.turns.ends.items self.old.maps.items }
@@ -236,8 +265,28 @@ impl Explorer {
         if let Some(after) = self.turns.known(&before) {
             return Ok(after);
         }
-        let schedule = schedule_to(alloc, &self.came, place)?;
+        let schedule = schedule_to(alloc, &self.arrivals, place)?;
         self.turns.run(alloc, plan, before, &schedule, build)
+    }
+
+    // Returns the index of the final map of a state that a turn reaches, or None if a build has a step left there.
+    fn map_at(
+        &mut self,
+        alloc: Global,
+        plan: &Plan,
+        state: &State,
+        arrival: FirstArrival,
+    ) -> Result<Option<usize>, Fault>
+        requires { AreOfRuns (plan_view plan.now) self.old.turns.ends.items self.old.maps.items }
+        ensures ok { OnOk result (AreOfRuns (plan_view plan.now) self.new.turns.ends.items self.new.maps.items) }
+        ensures err { IfErr result HasNoGraph }
+    {
+        if state.has_more(plan) {
+            return Ok(None);
+        }
+        let mut schedule = schedule_to(alloc, &self.arrivals, arrival.from)?;
+        push(&mut schedule, arrival.build)?;
+        Ok(Some(self.map_of(alloc, plan, &schedule)?))
     }
 
     // Finds or adds a state of the next layer, and returns the state's target.
@@ -247,7 +296,7 @@ impl Explorer {
         plan: &Plan,
         next: &mut Front,
         state: State,
-        came: FirstArrival,
+        arrival: FirstArrival,
     ) -> Result<Target, Fault>
         requires { AreOfRuns (plan_view plan.now) self.old.turns.ends.items self.old.maps.items }
         ensures ok { OnOk result (AreOfRuns (plan_view plan.now) self.new.turns.ends.items self.new.maps.items) }
@@ -257,13 +306,8 @@ impl Explorer {
             return Ok(target);
         }
         let held = self.held.number_of(state.held())?;
-        if state.has_more(plan) {
-            return Ok(next.add(state, came, held, None)?);
-        }
-        let mut schedule = schedule_to(alloc, &self.came, came.from)?;
-        push(&mut schedule, came.build)?;
-        let map = self.map_of(alloc, plan, &schedule)?;
-        Ok(next.add(state, came, held, Some(map))?)
+        let map = self.map_at(alloc, plan, &state, arrival)?;
+        Ok(next.add(state, arrival, held, map)?)
     }
 
     // Returns the edges of a state of the last layer, and adds the states that they lead to.
@@ -286,8 +330,8 @@ impl Explorer {
             };
             let after = self.turn(alloc, plan, place, build, before)?;
             let then = self.turns.state_after(state, build, after)?;
-            let came = FirstArrival { from: place, build };
-            let Target { to, held, map } = self.target(alloc, plan, next, then, came)?;
+            let arrival = FirstArrival { from: place, build };
+            let Target { to, held, map } = self.target(alloc, plan, next, then, arrival)?;
             let label = Label {
                 build,
                 end: after.end,
@@ -325,6 +369,77 @@ impl Explorer {
         Ok(Some((layer, next)))
     }
 
+    // Returns the first layer's states: the state at boot alone. If no build has a step, its map is added.
+    fn first_front(&mut self, alloc: Global, plan: &Plan) -> Result<Front, Fault>
+        requires { AreOfRuns (plan_view plan.now) self.old.turns.ends.items self.old.maps.items }
+        ensures ok { OnOk result (AreOfRuns (plan_view plan.now) self.new.turns.ends.items self.new.maps.items) }
+        ensures err { IfErr result HasNoGraph }
+    {
+        let first = State::first();
+        if !first.has_more(plan) {
+            self.map_of(alloc, plan, &[])?;
+        }
+        let held = self.held.number_of(first.held())?;
+        let mut front = Front::new(alloc);
+        front.add(first, FirstArrival { from: 0, build: 0 }, held, None)?;
+        Ok(front)
+    }
+
+    // Notes the states of the next layer, and returns the layer's edges and the states that they lead to. The result is
+    // `None` if the edges lead to more than `room` states.
+    fn next_layer(
+        &mut self,
+        alloc: Global,
+        plan: &Plan,
+        front: Front,
+        room: usize,
+        progress: &mut Vec<Vec<StepsDone>>,
+    ) -> Result<Option<(Layer, Front)>, Fault>
+        requires { AreOfRuns (plan_view plan.now) self.old.turns.ends.items self.old.maps.items }
+        ensures ok { OnOk result (AreOfRuns (plan_view plan.now) self.new.turns.ends.items self.new.maps.items) }
+        ensures err { IfErr result HasNoGraph }
+        ensures layer { IfOk result (λ it. IfSome it (λ both. (vec_len both.0 ≡ vec_len front.states) × (vec_len both.1.states ≤ room))) }
+    {
+        let (states, arrivals) = front.into_states();
+        push(&mut self.arrivals, arrivals)?;
+        push(progress, progress_of(alloc, &states)?)?;
+        self.layer(alloc, plan, &states, room)
+    }
+
+    // Returns all layers from the first on, and the numbers of steps done in their states. The result is `None` if the
+    // layers have more than `most` states.
+    fn layers(
+        &mut self,
+        alloc: Global,
+        plan: &Plan,
+        first: Front,
+        most: usize,
+    ) -> Result<Option<(Vec<Layer>, Vec<Vec<StepsDone>>)>, Fault>
+        requires { AreOfRuns (plan_view plan.now) self.old.turns.ends.items self.old.maps.items }
+        ensures ok { OnOk result (AreOfRuns (plan_view plan.now) self.new.turns.ends.items self.new.maps.items) }
+        ensures err { IfErr result HasNoGraph }
+        ensures states { IfOk result (λ it. IfSome it (λ both. sum_by vec_len both.0.items ≤ most)) }
+    {
+        let mut front = first;
+        let mut layers = Vec::new(alloc);
+        let mut progress = Vec::new(alloc);
+        let mut room = most;
+        'layers: while !front.states.is_empty() {
+            let count = front.states.len();
+            if count > room {
+                return Ok(None);
+            }
+            room -= count;
+            let Some((layer, next)) = self.next_layer(alloc, plan, front, room, &mut progress)?
+            else {
+                return Ok(None);
+            };
+            push(&mut layers, layer)?;
+            front = next;
+        }
+        Ok(Some((layers, progress)))
+    }
+
     // Returns the graph of these layers, with all ends, numbers of pages and maps that were found.
     fn into_graph(self, layers: Vec<Layer>, progress: Vec<Vec<StepsDone>>) -> Graph
         ensures layers { result.layers ≡ layers }
@@ -335,7 +450,7 @@ impl Explorer {
     {
         let Explorer {
             turns,
-            came: _,
+            arrivals: _,
             held,
             maps,
         } = self;
@@ -354,37 +469,28 @@ fn search(alloc: Global, plan: &Plan, most: usize) -> Result<Option<Graph>, Faul
     ensures ok { IfOk result (λ it. IfSome it (IsFound (plan_view plan.now) most)) }
     ensures err { IfErr result HasNoGraph }
 {
-    let mut it = Explorer {
-        turns: Turns::new(alloc),
-        came: Vec::new(alloc),
-        held: Holdings::new(alloc),
-        maps: Vec::new(alloc),
+    let mut explorer = Explorer::new(alloc);
+    let first = explorer.first_front(alloc, plan)?;
+    let Some((layers, progress)) = explorer.layers(alloc, plan, first, most)? else {
+        return Ok(None);
     };
-    let first = State::first();
-    if !first.has_more(plan) {
-        it.map_of(alloc, plan, &[])?;
+    Ok(Some(explorer.into_graph(layers, progress)))
+}
+
+// Checks that a graph is whole, lists nothing twice, and has only runs of the plan as paths. `Mismatch`: it does not.
+fn check_graph(alloc: Global, plan: &Plan, graph: &Graph) -> Result<(), Fault>
+    ensures whole { OnOk result (IsWholeGraph (plan_view plan.now) graph.now) }
+    ensures distinct { OnOk result (IsGraphDistinct graph.now) }
+    ensures runs { OnOk result (ArePathsRuns (plan_view plan.now) graph.now) }
+    ensures err { IfErr result HasNoGraph }
+{
+    if !is_whole(plan, graph) || !is_distinct(graph) {
+        return Err(Fault::Mismatch);
     }
-    let held = it.held.number_of(first.held())?;
-    let mut front = Front::new(alloc);
-    front.add(first, FirstArrival { from: 0, build: 0 }, held, None)?;
-    let mut layers = Vec::new(alloc);
-    let mut progress = Vec::new(alloc);
-    let mut room = most;
-    'layers: while !front.states.is_empty() {
-        let (states, came) = front.into_states();
-        if states.len() > room {
-            return Ok(None);
-        }
-        room -= states.len();
-        push(&mut it.came, came)?;
-        push(&mut progress, progress_of(alloc, &states)?)?;
-        let Some((layer, next)) = it.layer(alloc, plan, &states, room)? else {
-            return Ok(None);
-        };
-        push(&mut layers, layer)?;
-        front = next;
+    if !are_paths_runs(alloc, plan, graph)? {
+        return Err(Fault::Mismatch);
     }
-    Ok(Some(it.into_graph(layers, progress)))
+    Ok(())
 }
 
 /// Creates and checks the state graph of a plan's schedules. Returns the whole graph, or `TooMany` if it has more than
@@ -400,14 +506,6 @@ pub fn explore(alloc: Global, plan: &Plan, most: usize) -> Result<Exploration, F
     let Some(graph) = search(alloc, plan, most)? else {
         return Ok(Exploration::TooMany);
     };
-    if !is_whole(plan, &graph) {
-        return Err(Fault::Mismatch);
-    }
-    if !is_distinct(&graph) {
-        return Err(Fault::Mismatch);
-    }
-    if !are_paths_runs(alloc, plan, &graph)? {
-        return Err(Fault::Mismatch);
-    }
+    check_graph(alloc, plan, &graph)?;
     Ok(Exploration::All(graph))
 }

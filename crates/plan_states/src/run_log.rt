@@ -4,10 +4,12 @@ ghost use Rattle.std.specs.Bool.{OnTrue};
 ghost use Rattle.std.specs.declared.alloc.Global.{Global};
 ghost use Rattle.std.specs.declared.string.String.{String};
 ghost use Rattle.realm_plan.specs.PlanView.{plan_view};
+ghost use Rattle.realm_program.specs.Replay.{opening_host};
+ghost use Rattle.plan_replay.specs.Run.{start};
 ghost use Rattle.plan_states.specs.Exploration.{HasNoGraph};
 ghost use Rattle.plan_states.specs.Questions.{pages_of_builds};
 ghost use Rattle.plan_states.specs.Runs.{end_named, IsLabelled, IsMapNamed};
-ghost use Rattle.plan_states.specs.RunLog.{position_of, IsLog, IsSnapshotNumber, IsShownBy};
+ghost use Rattle.plan_states.specs.RunLog.{position_of, IsAtSnapshot, IsLog, IsSnapshotNumber, IsSnapshotOfRun, IsShownBy};
 ghost use Rattle.plan_states.specs.Turned.{end_taken, AreWith};
 ghost use Rattle.plan_states.specs.declared.step_end.EndOfStep.{EndOfStep};
 
@@ -137,14 +139,22 @@ fn take_labelled(
     has_map(alloc, plan, &graph.maps, running, label.map)
 }
 
+// The snapshot at boot.
+fn boot_snapshot(alloc: Global, plan: &Plan) -> Result<Snapshot, Fault>
+    ensures ok { IfOk result (λ it. IsSnapshotOfRun (plan_view plan.now) it (start (opening_host (plan_view plan.now)))) }
+    ensures err { IfErr result HasNoGraph }
+{
+    let running = run_to(alloc, plan, &[])?;
+    Ok(snapshot_of(alloc, &running.host, &running.places)?)
+}
+
 impl RunLog {
     /// Creates a log that has the snapshot at boot and no turns.
     pub(crate) fn boot(alloc: Global, plan: &Plan) -> Result<RunLog, Fault>
         ensures ok { IfOk result (λ log. (ends : List EndOfStep) (held : List (List ℕ)) (maps : List (String Global)) → IsLog (plan_view plan.now) ends held maps log) }
         ensures err { IfErr result HasNoGraph }
     {
-        let running = run_to(alloc, plan, &[])?;
-        let first = snapshot_of(alloc, &running.host, &running.places)?;
+        let first = boot_snapshot(alloc, plan)?;
         let mut snapshots = Vec::new(alloc);
         push(&mut snapshots, first)?;
         Ok(RunLog {
@@ -182,6 +192,18 @@ impl RunLog {
         Ok(number)
     }
 
+    // Checks that a run is in the state of snapshot `at`. `Mismatch`: the run has another snapshot.
+    fn check_at(&self, alloc: Global, running: &Running, at: usize) -> Result<(), Fault>
+        ensures ok { OnOk result (IsAtSnapshot self.now.snapshots.items at (position_of running.now)) }
+        ensures err { IfErr result HasNoGraph }
+    {
+        let snapshot = snapshot_of(alloc, &running.host, &running.places)?;
+        if !self.has_snapshot(at, &snapshot) {
+            return Err(Fault::Mismatch);
+        }
+        Ok(())
+    }
+
     /// Runs a schedule, and checks that the run ends in the state of snapshot `at`.
     ///
     /// Errors. `Memory`: allocation failed. `Mismatch`: the run leads to another snapshot, or some turn is of a build
@@ -197,10 +219,7 @@ impl RunLog {
         ensures err { IfErr result HasNoGraph }
     {
         let running = run_to(alloc, plan, schedule)?;
-        let snapshot = snapshot_of(alloc, &running.host, &running.places)?;
-        if !self.has_snapshot(at, &snapshot) {
-            return Err(Fault::Mismatch);
-        }
+        self.check_at(alloc, &running, at)?;
         Ok(running)
     }
 

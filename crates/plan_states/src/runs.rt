@@ -104,7 +104,7 @@ impl Walk {
             push(&mut visits, unvisited(alloc, layer.len())?)?;
         }
         let mut walk = Walk { log, visits };
-        walk.come(0, 0, 0, 0, 0);
+        walk.note_arrival(0, 0, 0, 0, 0);
         Ok(walk)
     }
 
@@ -137,7 +137,14 @@ impl Walk {
     }
 
     // Notes the snapshot of a state and the turn that led to the state, unless the state has a snapshot.
-    fn come(&mut self, depth: usize, state: usize, snapshot: usize, from: usize, build: usize)
+    fn note_arrival(
+        &mut self,
+        depth: usize,
+        state: usize,
+        snapshot: usize,
+        from: usize,
+        build: usize,
+    )
         ensures { self.new.log ≡ self.old.log }
     {
         if let Some(layer) = self.visits.get_mut(depth) {
@@ -152,7 +159,7 @@ impl Walk {
     }
 
     // Notes that turn `turn` of the log ran the next edge of a state.
-    fn leave(&mut self, depth: usize, state: usize, turn: usize) -> Result<(), AllocError>
+    fn note_turn(&mut self, depth: usize, state: usize, turn: usize) -> Result<(), AllocError>
         ensures { self.new.log ≡ self.old.log }
     {
         if let Some(layer) = self.visits.get_mut(depth) {
@@ -210,8 +217,8 @@ impl Walk {
             at = self
                 .log
                 .turn(alloc, plan, graph, running, at, edge.label, known)?;
-            self.leave(depth, state, turn)?;
-            self.come(depth + 1, edge.to, at, state, edge.label.build);
+            self.note_turn(depth, state, turn)?;
+            self.note_arrival(depth + 1, edge.to, at, state, edge.label.build);
             state = edge.to;
         }
         Ok(())
@@ -245,8 +252,9 @@ impl Walk {
         ensures err { IfErr result HasNoGraph }
     {
         for depth in 0..graph.layers.len() {
-            for state in 0..graph.layers[depth].len() {
-                for edge in 0..graph.layers[depth][state].len() {
+            let layer = layer_at(graph, depth);
+            for state in 0..layer.len() {
+                for edge in 0..edges_at(layer, state).len() {
                     if self.run_count(depth, state) <= edge {
                         self.run_from(alloc, plan, graph, depth, state)?;
                     }

@@ -1,11 +1,13 @@
 //! The search for a shortest schedule whose last turn has a given property.
-ghost use Rattle.std.specs.Prelude.{◌≡◌, ◌<◌, true, false, [], map, length, option_map, slice_index_or, vec_items, IfOk, IfErr};
+ghost use Rattle.std.specs.Prelude.{◌≡◌, ◌<◌, ◌++◌, ◌∷◌, ℕ, List, true, false, [], map, length, option_map, slice_index_or, vec_items, IfOk, IfErr};
 ghost use Rattle.realm_plan.specs.PlanView.{plan_view};
 ghost use Rattle.schedule_graph.specs.First.{layers_in};
 ghost use Rattle.plan_states.specs.Exploration.{HasNoGraph};
 ghost use Rattle.schedule_graph.specs.Paths.{shows};
 ghost use Rattle.plan_states.specs.Questions.{is_answer_at};
-ghost use Rattle.plan_states.specs.Shortest.{any_layer_shows, cut_after, first_layer, is_answered, layer_shows, shortest_tally, EndsWithAnswer, IsUnanswered, IsWitness};
+ghost use Rattle.plan_states.specs.Reached.{IsReached};
+ghost use Rattle.plan_states.specs.RunLog.{position_of};
+ghost use Rattle.plan_states.specs.Shortest.{cut_after, first_layer, is_answered, layer_shows, shortest_tally, EndsWithAnswer, EndsWithoutAnswer, IsUnanswered, IsWitness};
 ghost use Rattle.plan_states.specs.Tallies.{count_of_tally};
 ghost use Rattle.plan_states.specs.Turned.{end_taken};
 
@@ -13,7 +15,7 @@ use crate::edges::Label;
 use crate::graph::{Exploration, Graph, Layer, explore};
 use crate::outcomes::tally_with;
 use crate::question::{AnswersQuestion, TurnQuestion, pages_of_builds};
-use crate::running::{TurnTaken, run_to, take};
+use crate::running::{Running, TurnTaken, run_to, take};
 use crate::step_end::EndOfStep;
 use crate::tally::PathTally;
 use realm_plan::Plan;
@@ -53,13 +55,6 @@ fn first_layer(layers: &[Layer], property: &AnswersQuestion) -> Option<usize>
     layers.iter().position(|layer| layer_shows(layer, property))
 }
 
-// Whether some layer has an edge with the property `property`.
-fn any_layer_shows(layers: &[Layer], property: &AnswersQuestion) -> bool
-    ensures { result ≡ any_layer_shows (is_answer_at property.now.ends.now property.now.held.now property.now.builds property.now.question) layers.now }
-{
-    layers.iter().any(|layer| layer_shows(layer, property))
-}
-
 // Whether some turn in the graph of a plan with `builds` builds answers a question.
 fn is_answered(graph: &Graph, builds: usize, question: TurnQuestion) -> bool
     ensures { result ≡ is_answered graph.now builds question }
@@ -70,7 +65,7 @@ fn is_answered(graph: &Graph, builds: usize, question: TurnQuestion) -> bool
         builds,
         question,
     };
-    any_layer_shows(&graph.layers, &property)
+    first_layer(&graph.layers, &property).is_some()
 }
 
 // The states of a layer; none if there is no such layer.
@@ -151,6 +146,21 @@ fn end_of(taken: &TurnTaken, build: usize) -> Option<EndOfStep>
     })
 }
 
+// Whether the next turn of a build answers a question. The result is `false` if the build has no step left.
+fn answers_next(plan: &Plan, running: &mut Running, build: usize, question: TurnQuestion) -> bool
+    ensures yes { (before : List ℕ) → IsReached (plan_view plan.now) before (position_of running.old)
+        → result ≡ true → EndsWithAnswer (plan_view plan.now) question (before ++ build ∷ []) }
+    ensures no { (before : List ℕ) → IsReached (plan_view plan.now) before (position_of running.old)
+        → result ≡ false → EndsWithoutAnswer (plan_view plan.now) question (before ++ build ∷ []) }
+{
+    let Some(taken) = take(&mut running.host, plan, &mut running.places, build) else {
+        return false;
+    };
+    let end = end_of(&taken, build);
+    let held = pages_of_builds(&running.host);
+    question.is_answer(plan.builds.len(), end, &held)
+}
+
 /// Whether the answer to a question about a schedule's last turn is yes. The result is `false` if the schedule is
 /// empty, or if the last turn's build has no step left.
 ///
@@ -169,12 +179,7 @@ pub fn answers(
         return Ok(false);
     };
     let mut running = run_to(alloc, plan, before)?;
-    let Some(taken) = take(&mut running.host, plan, &mut running.places, *last) else {
-        return Ok(false);
-    };
-    let end = end_of(&taken, *last);
-    let held = pages_of_builds(&running.host);
-    Ok(question.is_answer(plan.builds.len(), end, &held))
+    Ok(answers_next(plan, &mut running, *last, question))
 }
 
 /// Finds the first of the shortest schedules whose last turn has a requested property. `question` asks for the

@@ -1,23 +1,14 @@
-use Rattle.std.proofs.Common.{◌≤◌, vec_len, inr, refl, sym, subst, ◌∙◌}
+use Rattle.std.proofs.Common.{inr, sym, subst}
 use Rattle.realm_plan.specs.PlanView.{plan_view}
-use Rattle.plan_states.specs.Questions.{is_answer}
-use Rattle.plan_states.proofs.Answered.{answered_by, unanswered_by}
-use Rattle.plan_states.proofs.Builds.{builds_are}
+use Rattle.plan_states.specs.Shortest.{EndsWithAnswer, EndsWithoutAnswer}
 use Rattle.plan_states.proofs.shortest.answers.Goals as goal
 
 pub returns-clause-yes : goal.returns-clause-yes
 returns-clause-yes c = λ yes.
-    answered_by (plan_view c.args.plan.now) c.args.question c.args.schedule.now c.in-Some.before.now c.in-Some.last.now
-    (record { host = c.in_ok-running.running.host; places = c.in_ok-running.running.places }) (record { host = c.take.new.host; places = c.take.new.places })
-    c.in-Some-take.taken c.in-Some.ensures.cases.0 c.in_ok-running.ensures.ok c.in-Some-take.ensures.taken
-    ((λ i. is_answer (sym (builds_are c.args.plan.now c.len.result c.len.ensures) i) c.args.question (sym c.end_of-end.ensures i) (sym c.pages_of_builds-held.ensures i))
-    ∙ sym c.is_answer.ensures ∙ yes)
+    subst (EndsWithAnswer (plan_view c.args.plan.now) c.args.question) (sym c.in-Some.ensures.cases.0)
+    (c.answers_next.ensures.yes c.in-Some.before.now c.in_ok-running.ensures.ok yes)
 
 pub returns-clause-no : goal.returns-clause-no
 returns-clause-no c = λ no.
-    inr (unanswered_by (plan_view c.args.plan.now) c.args.question c.args.schedule.now c.in-Some.before.now c.in-Some.last.now
-    (record { host = c.in_ok-running.running.host; places = c.in_ok-running.running.places }) (record { host = c.take.new.host; places = c.take.new.places })
-    c.in-Some-take.taken c.in-Some.ensures.cases.0 c.in_ok-running.ensures.ok c.in-Some-take.ensures.taken
-    (subst (λ n. n ≤ 8) (builds_are c.args.plan.now (vec_len c.args.plan.now.builds) refl) c.args.plan.now.builds_in_limits.1)
-    ((λ i. is_answer (sym (builds_are c.args.plan.now c.len.result c.len.ensures) i) c.args.question (sym c.end_of-end.ensures i) (sym c.pages_of_builds-held.ensures i))
-    ∙ sym c.is_answer.ensures ∙ no))
+    inr (subst (EndsWithoutAnswer (plan_view c.args.plan.now) c.args.question) (sym c.in-Some.ensures.cases.0)
+    (c.answers_next.ensures.no c.in-Some.before.now c.in_ok-running.ensures.ok no))

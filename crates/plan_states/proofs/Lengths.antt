@@ -1,0 +1,18 @@
+-- Lemmas on the lengths of vectors: one more item, and the number of items that may still follow.
+use Rattle.std.proofs.Common.{◌≡◌, ℕ, ◌+◌, ◌-◌, ◌≤◌, List, [], ◌∷◌, ◌++◌, Vec, Global, vec_len, length, sym, ap, ◌∙◌, arith, length-append}
+use Rattle.std.specs.Prelude.{sum_by}
+use Rattle.std.proofs.lemmas.List.Sums.{sum_by_push}
+
+-- one more item at the end
+pub one_longer : {X : Type 0} (old new : Vec X Global) (x : X) (count : ℕ) → new.items ≡ old.items ++ x ∷ [] → vec_len old ≡ count → vec_len new ≡ count + 1
+one_longer old new x count more long =
+    new.ok.0 ∙ ap length more ∙ length-append old.items (x ∷ []) ∙ ap (λ n. n + 1) (sym old.ok.0 ∙ long)
+
+room_after : (old new one room most : ℕ) → new ≡ old + one → one ≤ room → old + room ≡ most → new + (room - one) ≡ most
+room_after old new one room most more inside all = omega arith
+
+-- a vector more, which takes a part of the room
+pub room_left : {X : Type 0} (old new : List (Vec X Global)) (it : Vec X Global) (room most : ℕ)
+    → new ≡ old ++ it ∷ [] → vec_len it ≤ room → sum_by vec_len old + room ≡ most → sum_by vec_len new + (room - vec_len it) ≡ most
+room_left old new it room most more inside all =
+    room_after (sum_by vec_len old) (sum_by vec_len new) (vec_len it) room most (ap (sum_by vec_len) more ∙ sum_by_push vec_len old it) inside all

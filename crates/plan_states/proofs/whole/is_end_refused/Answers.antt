@@ -1,0 +1,10 @@
+use Rattle.std.proofs.Common.{refl, sym, ap, ◌∙◌}
+use Rattle.plan_states.specs.Whole.{is_end_refused}
+use Rattle.plan_states.proofs.RunLogs.{seen_at_place}
+use Rattle.plan_states.proofs.whole.is_end_refused.Goals as goal
+
+pub returns-in-Some : goal.returns-in-Some
+returns-in-Some c =
+    c.is_some.ensures
+    ∙ ap is_end_refused (sym (seen_at_place c.args.ends.now c.args.ends.now c.args.number c.in-Some.end.now refl
+    c.in-Some.ensures.lookup.3.0 c.in-Some.ensures.lookup.1))
