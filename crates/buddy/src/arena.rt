@@ -52,7 +52,7 @@ impl BuddyArena {
         })
     }
 
-    /// Whether a block is free and is part of no larger free block. Such a block is a maximal free block.
+    /// Returns whether a block is free and is part of no larger free block. Such a block is a maximal free block.
     pub fn is_free_block(&self, order: Order, first: Gran) -> bool
         ensures { IsTrue result ↔
             IsMaximalBlock (⟦<BuddyArena as PageStore>⟧.free_flags self.now) order first }

@@ -54,7 +54,7 @@ impl FreeIndex {
         self.count
     }
 
-    /// Whether a block is free and is part of no larger free block.
+    /// Returns whether a block is free and is part of no larger free block.
     pub(crate) fn is_free_block(&self, order: usize, first: usize) -> bool
         requires { order < 10 }
         ensures { IsTrue result ↔ IsMaximalBlock self.now.flags order first }

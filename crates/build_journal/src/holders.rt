@@ -49,7 +49,7 @@ impl Holders {
         self.set_run(first.number(), order.size(), None);
     }
 
-    /// Whether the build leases the granule. It does not if the machine has no such granule.
+    /// Returns whether the build leases the granule. It does not if the machine has no such granule.
     pub fn is_held_by(&self, granule: Gran, build: BuildId) -> bool
         ensures { result ≡ is_leased_to (Some build) self.now granule }
     {

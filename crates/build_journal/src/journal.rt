@@ -43,8 +43,8 @@ impl Journal {
         self.entries.len() as u16
     }
 
-    /// Whether at least `count` operations can still be undone. A build can go back to a mark of `count` operations
-    /// exactly then.
+    /// Returns whether at least `count` operations can still be undone. A build can go back to a mark of `count`
+    /// operations exactly then.
     pub fn has(&self, count: u16) -> bool
         ensures { result ≡ nat_le count (length self.now) }
     {

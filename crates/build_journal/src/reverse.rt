@@ -49,7 +49,7 @@ pub fn reverse_of(act: &Act) -> Option<Act>
     }
 }
 
-/// Whether `back` is the reverse of `act`.
+/// Returns whether `back` is the reverse of `act`.
 pub fn takes_back(back: &Act, act: &Act) -> bool
     ensures { (result ≡ true) ↔ (acts.reverse_of act.now ≡ Some back.now) }
 {

@@ -79,8 +79,8 @@ impl<L: Ledgers> Worker<L> {
         self.seat.build()
     }
 
-    /// Whether the worker has run to its end, without being stopped by the scheduler (gate). The gate then gave it
-    /// every turn that it waited for.
+    /// Returns whether the worker has run to its end, without being stopped by the scheduler (gate). The gate then gave
+    /// it every turn that it waited for.
     pub fn has_ended(&self) -> bool
         ensures { result ≡ self.now.ended }
     {

@@ -5,7 +5,7 @@ ghost use Rattle.decimal_text.specs.Numbers.{IsPlain, AreNumbers, spelled_number
 
 use arrayvec::ArrayVec;
 
-/// Whether the text has no leading `+` and no leading zeros. The text `0` has no leading zero.
+/// Returns whether the text has no leading `+` and no leading zeros. The text `0` has no leading zero.
 fn is_plain(bytes: &[u8]) -> bool
     ensures { IsTrue result ↔ IsPlain bytes.now }
 {

@@ -44,7 +44,7 @@ impl IpaGran {
     }
 }
 
-/// Whether an IPA granule is in the protected, lower half of the realm's address space. RMM 1.0, Protected IPA.
+/// Returns whether an IPA granule is in the protected, lower half of the realm's address space. RMM 1.0, Protected IPA.
 pub fn is_protected(ipa: IpaGran, width: IpaWidth) -> bool
     ensures { result ≡ is_protected_at ipa width }
 {

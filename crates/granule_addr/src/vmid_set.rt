@@ -29,7 +29,7 @@ impl VmidSet {
         }
     }
 
-    /// Whether the set has the VMID.
+    /// Returns whether the set has the VMID.
     pub fn contains(&self, vmid: Vmid) -> bool
         ensures { result ≡ is_used self.now vmid }
     {

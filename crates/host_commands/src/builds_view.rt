@@ -8,11 +8,11 @@ use granule_addr::{BuildId, Gran};
 pub trait BuildsView {
     ghost seen: { Self → BuildsSummary };
 
-    /// Whether the host has the build.
+    /// Returns whether the host has the build.
     fn has_build(&self, build: BuildId) -> bool
         ensures { result ≡ nat_lt build (seen self.now).builds };
 
-    /// Whether the build is being aborted.
+    /// Returns whether the build is being aborted.
     fn is_aborting(&self, build: BuildId) -> bool
         requires { build < (seen self.now).builds }
         ensures { result ≡ (seen self.now).aborting build };
@@ -24,7 +24,7 @@ pub trait BuildsView {
         ensures value { result ≡ granule_of_page (seen self.now) build page }
         ensures few { IsSome result → page < 4096 };
 
-    /// Whether the build has a realm.
+    /// Returns whether the build has a realm.
     fn has_realm(&self, build: BuildId) -> bool
         requires { build < (seen self.now).builds }
         ensures { result ≡ (seen self.now).realm build };
@@ -40,7 +40,7 @@ pub trait BuildsView {
         requires { build < (seen self.now).builds }
         ensures { result ≡ (seen self.now).room_left build };
 
-    /// Whether the host has a free VMID for a new realm.
+    /// Returns whether the host has a free VMID for a new realm.
     fn has_vmid(&self) -> bool
         ensures { result ≡ (seen self.now).vmid };
 }

@@ -177,7 +177,7 @@ impl HostLedger {
         self.builds.len() as u8
     }
 
-    /// Whether the host has the build.
+    /// Returns whether the host has the build.
     pub fn has_build(&self, build: BuildId) -> bool
         ensures there { result ≡ nat_lt build self.now.limits.builds }
         ensures none { OnFalse result (acts_of build self.now.history ≡ []) }
@@ -308,7 +308,7 @@ impl HostLedger {
         self.leases.count(build)
     }
 
-    /// Whether the machine has the granule and the build leases it.
+    /// Returns whether the machine has the granule and the build leases it.
     pub fn is_leased_by(&self, granule: Gran, build: BuildId) -> bool
         ensures { result ≡ is_leased_to (Some build) (world_of self.now).leases granule }
     {

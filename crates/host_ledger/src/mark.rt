@@ -28,7 +28,7 @@ impl Mark {
         self.place
     }
 
-    /// Whether the two marks are the same.
+    /// Returns whether the two marks are the same.
     pub fn is(self, other: Mark) -> bool
         ensures { result ≡ is_same_mark self other }
     {

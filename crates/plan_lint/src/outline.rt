@@ -223,7 +223,7 @@ impl Outline {
     }
 }
 
-/// Whether `names` contains `name`.
+/// Returns whether `names` contains `name`.
 pub(crate) fn is_among(names: &[&'static str], name: &str) -> bool {
     for it in names {
         if *it == name {

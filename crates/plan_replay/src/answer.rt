@@ -28,7 +28,7 @@ pub enum TurnAnswer {
 impl TurnAnswer {
     ghost use Rattle.plan_replay.specs.Place.{is_refusal};
 
-    /// Whether the answer is a refusal.
+    /// Returns whether the answer is a refusal.
     pub fn is_refusal(&self) -> bool
         ensures { result ≡ is_refusal self.now }
     {

@@ -70,7 +70,7 @@ fn are_maps_distinct(maps: &[String]) -> bool
     true
 }
 
-/// Whether a state graph lists each step outcome and each page map only once.
+/// Returns whether a state graph lists each step outcome and each page map only once.
 pub(crate) fn is_distinct(graph: &Graph) -> bool
     ensures { OnTrue result (IsGraphDistinct graph.now) }
 {

@@ -30,9 +30,9 @@ fn is_unseen(
     Ok(without.as_str() == map)
 }
 
-/// Whether builds whose reversible operations are all undone have no effect on the page map. The map has to stay the
-/// same if any one of these builds is left out of the history. A theorem says that it always does. The one error is
-/// that allocation failed.
+/// Returns whether builds whose reversible operations are all undone have no effect on the page map. The map has to
+/// stay the same if any one of these builds is left out of the history. A theorem says that it always does. The one
+/// error is that allocation failed.
 pub fn leave_nothing(
     alloc: Global,
     plan: &Plan,

@@ -85,9 +85,9 @@ fn all_held(held: &PagesHeld) -> usize
 }
 
 impl TurnQuestion {
-    /// Whether a turn has the property that the question asks for. `end` is the outcome of the step that the turn
-    /// ended, if any. `held` gives the pages that builds hold after the turn, and `builds` is the number of the plan's
-    /// builds.
+    /// Returns whether a turn has the property that the question asks for. `end` is the outcome of the step that the
+    /// turn ended, if any. `held` gives the pages that builds hold after the turn, and `builds` is the number of the
+    /// plan's builds.
     pub(crate) fn is_answer(&self, builds: usize, end: Option<EndOfStep>, held: &PagesHeld) -> bool
         ensures { result ≡ is_answer builds self.now end held.now }
     {

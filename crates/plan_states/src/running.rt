@@ -152,7 +152,7 @@ pub(crate) fn turn_after(
     }
 }
 
-/// Whether any build of a plan has a step left to run.
+/// Returns whether any build of a plan has a step left to run.
 pub(crate) fn has_more(plan: &Plan, places: &[PlanCursor; 8]) -> bool
     ensures { OnFalse result (AreOver (plan_view plan.now) places.now) }
 {

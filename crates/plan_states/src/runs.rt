@@ -315,7 +315,7 @@ impl Walk {
     }
 }
 
-/// Whether each path of a state graph is a run of the plan.
+/// Returns whether each path of a state graph is a run of the plan.
 ///
 /// Errors. `Memory`: allocation failed. `Mismatch`: a run along the graph contradicts the graph, or an earlier run.
 pub(crate) fn are_paths_runs(alloc: Global, plan: &Plan, graph: &Graph) -> Result<bool, Fault>

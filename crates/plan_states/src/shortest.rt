@@ -161,8 +161,8 @@ fn answers_next(plan: &Plan, running: &mut Running, build: usize, question: Turn
     question.is_answer(plan.builds.len(), end, &held)
 }
 
-/// Whether the answer to a question about a schedule's last turn is yes. The result is `false` if the schedule is
-/// empty, or if the last turn's build has no step left.
+/// Returns whether the answer to a question about a schedule's last turn is yes. The result is `false` if the schedule
+/// is empty, or if the last turn's build has no step left.
 ///
 /// Errors. `Memory`: allocation failed. `Mismatch`: a turn before the last is of a build that has no step left then.
 pub fn answers(

@@ -156,7 +156,7 @@ fn is_same_build(one: &BuildSnapshot, other: &BuildSnapshot) -> bool
     is_same_point(&one.point, &other.point) && are_same_events(&one.events, &other.events)
 }
 
-/// Whether two snapshots of runs agree on all eight builds.
+/// Returns whether two snapshots of runs agree on all eight builds.
 pub(crate) fn is_same(one: &Snapshot, other: &Snapshot) -> bool
     ensures { OnTrue result (AreSameBuilds 8 one.now.builds.items other.now.builds.items) }
 {

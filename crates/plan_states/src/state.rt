@@ -105,7 +105,7 @@ impl State {
         ]
     }
 
-    /// Whether any build of a plan has a step left to run.
+    /// Returns whether any build of a plan has a step left to run.
     pub(crate) fn has_more(&self, plan: &Plan) -> bool
         ensures { OnFalse result (AreAllDone (plan_view plan.now) self.now) }
     {

@@ -320,7 +320,8 @@ fn is_at_start(states: &[StepsDone]) -> bool
     }
 }
 
-/// Whether a state graph is whole: its first layer has only the start, each state has its turns, and there is a map.
+/// Returns whether a state graph is whole: its first layer has only the start, each state has its turns, and there is a
+/// map.
 pub(crate) fn is_whole(plan: &Plan, graph: &Graph) -> bool
     ensures { OnTrue result (IsWholeGraph (plan_view plan.now) graph.now) }
 {

@@ -148,8 +148,8 @@ impl<S: PageStore> Host<S> {
         }
     }
 
-    /// Whether a build's newest open operation created a running REC. Such an operation cannot be undone now. An
-    /// operation is open if it has a reverse and is not undone yet. False if there is no such build.
+    /// Returns whether a build's newest open operation created a running REC. Such an operation cannot be undone now.
+    /// An operation is open if it has a reverse and is not undone yet. False if there is no such build.
     pub fn is_newest_running(&self, build: BuildId) -> bool
         ensures { result ≡ is_newest_running self.now build }
     {
@@ -162,7 +162,7 @@ impl<S: PageStore> Host<S> {
         }
     }
 
-    /// Whether an abort of a build has begun and is not finished.
+    /// Returns whether an abort of a build has begun and is not finished.
     pub fn is_aborting(&self, build: BuildId) -> bool
         ensures { result ≡ is_aborting self.now build }
     {

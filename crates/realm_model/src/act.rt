@@ -125,7 +125,7 @@ pub struct Event {
 }
 
 impl Event {
-    /// Whether two events have the same operation and the same build.
+    /// Returns whether two events have the same operation and the same build.
     pub fn is_same(&self, event: &Event) -> bool
         ensures { (result ≡ true) ↔ (self.now ≡ event.now) }
     {
@@ -148,7 +148,7 @@ impl Act {
     ghost use Rattle.std.specs.Prelude.{Some, None, if◌then◌else◌};
     ghost use Rattle.realm_model.specs.Act as acts;
 
-    /// Whether two operations have the same kind, granules and numbers.
+    /// Returns whether two operations have the same kind, granules and numbers.
     pub fn is_same(&self, act: &Act) -> bool
         ensures { (result ≡ true) ↔ (self.now ≡ act.now) }
     {
@@ -257,7 +257,7 @@ impl Act {
         Some(paired)
     }
 
-    /// Whether the operation has a reverse.
+    /// Returns whether the operation has a reverse.
     #[tactic(auto, using(crate::proofs::PairedKinds::paired_by_kind))]
     pub fn is_paired(&self) -> bool
         ensures { result ≡ acts.is_paired self.now }
@@ -265,7 +265,7 @@ impl Act {
         kind_of(self).is_some()
     }
 
-    /// Whether the operation is the reverse of another.
+    /// Returns whether the operation is the reverse of another.
     #[tactic(auto, unfolding(crate::specs::Act::is_reverse))]
     pub fn is_reverse(&self) -> bool
         ensures { result ≡ acts.is_reverse self.now }

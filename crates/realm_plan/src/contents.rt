@@ -102,7 +102,7 @@ fn is_among(names: &[&str], key: &str) -> bool
     false
 }
 
-/// Whether each key of a TOML table is in the list `names`.
+/// Returns whether each key of a TOML table is in the list `names`.
 fn has_only_keys(table: &Table, names: &[&str]) -> bool
     ensures { result ≡ has_only (map (λ n. n.now) names.now) (table_view table.now) }
 {

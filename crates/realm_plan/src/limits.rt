@@ -74,7 +74,7 @@ pub fn numbers_of(contents: &Contents<'_>) -> Result<Numbers, PlanError>
     })
 }
 
-/// Whether each build has at most `MOST_STEPS` steps.
+/// Returns whether each build has at most `MOST_STEPS` steps.
 fn are_short(builds: &[Vec<PlanStep>]) -> bool
     ensures { result ≡ list_all (λ steps. nat_le (vec_len steps) 1024) builds.now }
 {

@@ -39,8 +39,8 @@ fn follow(opened: &mut Vec<Act>, act: &Act) -> Result<(), AllocError>
     Ok(())
 }
 
-/// Whether the lines of a report match the events of its build in a history. The accepted lines have to match the
-/// events one by one.
+/// Returns whether the lines of a report match the events of its build in a history. The accepted lines have to match
+/// the events one by one.
 ///
 /// The steps are the build's plan. The history is any list of events, and need not be legal. There are as many accepted
 /// lines as events of the build, and the question of each is that of its event. For a command, the event has the
@@ -71,8 +71,8 @@ pub fn fits(
     Ok(next == history.len())
 }
 
-/// Whether all given reports match the events of a history. Each report is checked with the steps that are paired with
-/// it.
+/// Returns whether all given reports match the events of a history. Each report is checked with the steps that are
+/// paired with it.
 pub fn fit_all(
     alloc: Global,
     history: &[Event],

@@ -65,8 +65,8 @@ fn is_reply_to(opened: &[Act], reply: &Reply, act: &Act) -> bool
     }
 }
 
-/// Whether `act` can be the operation of a build's command `cmd`, with `reply` as the reply to the command. The build's
-/// open operations are `opened`.
+/// Returns whether `act` can be the operation of a build's command `cmd`, with `reply` as the reply to the command. The
+/// build's open operations are `opened`.
 pub(crate) fn command_and_reply_match(opened: &[Act], cmd: &Cmd, reply: &Reply, act: &Act) -> bool
     ensures { IsTrue result ↔ IsFittingReply (flat_map pages_held opened.now) cmd.now reply.now act.now }
 {

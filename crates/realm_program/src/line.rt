@@ -13,7 +13,7 @@ use builders::{Answer, Asked, ReportLine};
 use host_commands::{Cmd, Step};
 use realm_model::{Act, Event};
 
-/// Whether an answer says that the host accepted a command or an undo. Only such an answer has an event.
+/// Returns whether an answer says that the host accepted a command or an undo. Only such an answer has an event.
 pub(crate) fn is_done(answer: &Answer) -> bool
     ensures { result ≡ is_done answer.now }
 {
@@ -70,9 +70,9 @@ fn step_fits(opened: &[Act], history: &[Event], next: usize, step: &Step, answer
     }
 }
 
-/// Whether a line of a report agrees with a history of events. The line's answer must agree with the build's open
-/// operations `opened`, and with the build's next event. The event is at index `next` of the history. A line of a step
-/// that the plan does not have agrees with nothing.
+/// Returns whether a line of a report agrees with a history of events. The line's answer must agree with the build's
+/// open operations `opened`, and with the build's next event. The event is at index `next` of the history. A line of a
+/// step that the plan does not have agrees with nothing.
 pub(crate) fn line_fits(
     opened: &[Act],
     history: &[Event],

@@ -49,7 +49,7 @@ fn granule_at(opened: &[Act], page: usize) -> Option<Gran>
     None
 }
 
-/// Whether a build has exactly `count` pages. The build's open operations are `opened`.
+/// Returns whether a build has exactly `count` pages. The build's open operations are `opened`.
 pub(crate) fn has_pages(opened: &[Act], count: u16) -> bool
     ensures { IsTrue result ↔ (length (flat_map pages_held opened.now) ≡ count) }
 {

@@ -16,8 +16,8 @@ fn is_of_kind(act: &Act, kind: Kind) -> bool
     }
 }
 
-/// Whether `act` is the reverse of the newest open operation of a build, and `undone` is the reply to that undo. The
-/// build's open operations are `opened`.
+/// Returns whether `act` is the reverse of the newest open operation of a build, and `undone` is the reply to that
+/// undo. The build's open operations are `opened`.
 pub(crate) fn undo_and_reply_match(opened: &[Act], undone: &Undone, act: &Act) -> bool
     ensures { IsTrue result ↔ IsFittingUndo opened.now undone.now act.now }
 {

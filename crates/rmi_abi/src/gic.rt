@@ -26,15 +26,15 @@ impl GicFields {
         word_in(page, 97 + k as usize)
     }
 
-    /// Whether a host may set the field gicv3_hcr to the value `hcr`.
+    /// Returns whether a host may set the field gicv3_hcr to the value `hcr`.
     pub fn is_hcr_allowed(hcr: u64) -> bool
         ensures { result ≡ gic.is_gicv3_hcr hcr }
     {
         hcr % 2 == 0 && hcr / 0x100 % 0x40 == 0 && hcr / 0x8000 == 0
     }
 
-    /// Whether a host may set GICv3 list register `k` to its value in the run page. `num_lrs` is the number of the last
-    /// list register.
+    /// Returns whether a host may set GICv3 list register `k` to its value in the run page. `num_lrs` is the number of
+    /// the last list register.
     pub fn is_lr_allowed(num_lrs: u8, page: &[u8], k: u8) -> bool
         requires page { length page.now ≡ 4096 }
         requires below { k < 16 }

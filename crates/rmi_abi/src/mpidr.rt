@@ -2,7 +2,8 @@
 ghost use Rattle.std.specs.Prelude.{◌≡◌};
 ghost use Rattle.rmi_abi.specs.Mpidr as affinities;
 
-/// Whether a number is a valid MPIDR of a REC: each bit that is set belongs to an affinity field. RMM 1.0, RmiRecMpidr.
+/// Returns whether a number is a valid MPIDR of a REC: each bit that is set belongs to an affinity field. RMM 1.0,
+/// RmiRecMpidr.
 pub fn is_mpidr(mpidr: u64) -> bool
     ensures { result ≡ affinities.is_mpidr mpidr }
 {

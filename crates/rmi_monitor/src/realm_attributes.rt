@@ -57,7 +57,7 @@ impl RealmDesc {
         }
     }
 
-    /// Whether the realm is NEW.
+    /// Returns whether the realm is NEW.
     pub fn is_new(&self) -> bool
         ensures { result ≡ checks.is_new self.now.state }
     {

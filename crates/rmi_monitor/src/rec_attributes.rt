@@ -71,7 +71,7 @@ impl Rec {
         self.state
     }
 
-    /// Whether the REC is READY.
+    /// Returns whether the REC is READY.
     pub fn is_ready(&self) -> bool
         ensures { result ≡ checks.is_ready self.now.state }
     {

@@ -104,8 +104,8 @@ fn allows_name(checks: &EvaluatedChecks, place: usize, rest: &[TraceWord]) -> bo
     allows_written(checks, (place - RMI_SUCCESS) as u64, rest)
 }
 
-/// Whether an answer in a trace is an allowed refusal other than the model's. Such a refusal has a word that the
-/// evaluated checks allow, and that is not the deciding check's word. The word is written as the name of its status
+/// Returns whether an answer in a trace is an allowed refusal other than the model's. Such a refusal has a word that
+/// the evaluated checks allow, and that is not the deciding check's word. The word is written as the name of its status
 /// with an index, or as X0.
 pub fn is_allowed(written: &[TraceWord], checks: &EvaluatedChecks) -> bool
     ensures { result ≡ judging.is_refusal_allowed written.now checks.now }

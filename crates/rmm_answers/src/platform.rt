@@ -115,8 +115,8 @@ fn open(alloc: Global, words: &[TraceWord]) -> Result<Option<Rmm<PlainStore>>, A
     }
 }
 
-/// Whether a question in a trace begins with the word `platform`. Such a question opens a fresh machine, if the number
-/// of granules and each setting are in range.
+/// Returns whether a question in a trace begins with the word `platform`. Such a question opens a fresh machine, if the
+/// number of granules and each setting are in range.
 pub fn is_platform(question: &[TraceWord]) -> bool
     ensures { result ≡ (first_place question.now == PLATFORM) }
 {

@@ -112,7 +112,7 @@ impl TraceReply {
         put(&mut self.words, Atom::Name(COMMAND));
     }
 
-    /// Whether the reply has neither words nor a measurement. The line is then printed without an answer.
+    /// Returns whether the reply has neither words nor a measurement. The line is then printed without an answer.
     pub fn is_empty(&self) -> bool
         ensures { result ≡ replies.is_unanswered self.now }
     {

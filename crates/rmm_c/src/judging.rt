@@ -104,8 +104,8 @@ pub extern "C" fn rmm_deciding_check(
     check
 }
 
-/// Whether an RMM in the handle's current state may return `x0` in X0 for the call with the given registers. The call
-/// is not performed.
+/// Returns whether an RMM in the handle's current state may return `x0` in X0 for the call with the given registers.
+/// The call is not performed.
 ///
 /// X0 may be the word of each check that is made and fails, and RMI_SUCCESS if none does. For a function that is no
 /// command, and on a closed handle, it is NOT_SUPPORTED alone. RMM 1.0, failure conditions and their ordering.

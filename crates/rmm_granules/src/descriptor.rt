@@ -12,8 +12,8 @@ fn is_shareability(settings: &RmmSettings, desc: u64) -> bool
     sh == 0 || (settings.takes_shareability && sh != 1)
 }
 
-/// Whether a descriptor of an unprotected mapping has only attributes that a host may choose. The attributes are all
-/// bits outside the address field.
+/// Returns whether a descriptor of an unprotected mapping has only attributes that a host may choose. The attributes
+/// are all bits outside the address field.
 pub fn has_attributes(settings: &RmmSettings, desc: u64) -> bool
     ensures { result ≡ mapping.has_attributes settings.now desc }
 {

@@ -46,7 +46,7 @@ pub fn realm_in<S: PageStore>(granules: &Granules<S>, rd: Gran) -> Option<RmmRea
     }
 }
 
-/// Whether two owners of granules are the same RD, or are both absent.
+/// Returns whether two owners of granules are the same RD, or are both absent.
 pub fn is_same_owner(a: Option<Gran>, b: Option<Gran>) -> bool
     ensures { result ≡ completing.is_same_owner a b }
 {

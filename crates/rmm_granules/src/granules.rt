@@ -133,7 +133,7 @@ impl<S: PageStore> Granules<S> {
 
     // ---- addresses
 
-    /// Whether an address lies in a granule of the machine.
+    /// Returns whether an address lies in a granule of the machine.
     #[tactic(auto, unfolding(rmm_model::specs::Machine::is_inside))]
     pub fn is_inside(&self, address: u64) -> bool
         ensures { result ≡ machine.is_inside self.now address }
@@ -153,7 +153,7 @@ impl<S: PageStore> Granules<S> {
         Gran::from_number(number as u16)
     }
 
-    /// Whether an address lies in the platform's range of Secure memory.
+    /// Returns whether an address lies in the platform's range of Secure memory.
     #[tactic(auto, unfolding(rmm_model::specs::Machine::is_secure))]
     pub fn is_secure(&self, address: u64) -> bool
         ensures { result ≡ machine.is_secure self.now address }
@@ -324,7 +324,7 @@ impl<S: PageStore> Granules<S> {
 
     // ---- VMIDs
 
-    /// Whether some realm uses a VMID.
+    /// Returns whether some realm uses a VMID.
     pub fn is_vmid_used(&self, vmid: u16) -> bool
         ensures { result ≡ machine.is_vmid_used self.now vmid }
     {

@@ -9,7 +9,7 @@ pub const PSCI_SUCCESS: u64 = 0;
 
 const PSCI_DENIED: u64 = 0xFFFF_FFFF_FFFF_FFFD;
 
-/// Whether a PSCI request waits for the host to complete it.
+/// Returns whether a PSCI request waits for the host to complete it.
 pub fn is_pending(request: PsciRequest) -> bool
     ensures { result ≡ command.is_pending request }
 {
@@ -38,7 +38,8 @@ fn can_be_denied(request: PsciRequest) -> bool
     matches!(request, PsciRequest::CpuOn { .. })
 }
 
-/// Whether the host may complete a PSCI request with a status. The status has to be success, or DENIED for a CPU_ON.
+/// Returns whether the host may complete a PSCI request with a status. The status has to be success, or DENIED for a
+/// CPU_ON.
 pub fn is_status(request: PsciRequest, status: u64) -> bool
     ensures { result ≡ command.is_status request status }
 {

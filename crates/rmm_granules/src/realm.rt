@@ -43,7 +43,7 @@ fn has_live_table<S: PageStore>(granules: &Granules<S>, realm: &RmmRealm) -> boo
     false
 }
 
-/// Whether a realm has a REC, or a live entry in a starting table.
+/// Returns whether a realm has a REC, or a live entry in a starting table.
 #[tactic(auto, unfolding(rmm_model::specs::Command::RealmDestroy::is_realm_live))]
 pub fn is_realm_live<S: PageStore>(granules: &Granules<S>, realm: &RmmRealm) -> bool
     requires { IsServed (granule_count granules.now) realm.now }

@@ -20,8 +20,8 @@ fn fits_features(settings: &RmmSettings, p: &RealmParams) -> bool
     p.num_bps <= settings.bps && p.num_wps <= settings.wps && p.sve_vl == 0
 }
 
-/// Whether the RMM supports the parameters of a realm. Supported parameters set no flag, and have an IPA width that the
-/// RMM supports. If settings say so, breakpoints, watchpoints and vectors are within feature register 0 too.
+/// Returns whether the RMM supports the parameters of a realm. Supported parameters set no flag, and have an IPA width
+/// that the RMM supports. If settings say so, breakpoints, watchpoints and vectors are within feature register 0 too.
 pub fn is_supported(settings: &RmmSettings, p: &RealmParams) -> bool
     ensures { result ≡ command.is_supported settings.now p.now }
 {
@@ -31,7 +31,7 @@ pub fn is_supported(settings: &RmmSettings, p: &RealmParams) -> bool
         && (!settings.checks_params || fits_features(settings, p))
 }
 
-/// Whether a realm with an address space of `s2sz` bits can have `count` starting tables at a level.
+/// Returns whether a realm with an address space of `s2sz` bits can have `count` starting tables at a level.
 #[tactic(auto, unfolding(rmm_model::specs::Realm::is_start))]
 pub fn is_start(s2sz: u8, level: u64, count: u32) -> bool
     requires { s2sz ≤ 48 }
@@ -45,7 +45,7 @@ pub fn is_start(s2sz: u8, level: u64, count: u32) -> bool
         && count as u64 == start_count(s2sz, level as u8)
 }
 
-/// Whether `rd` is the address of one of a new realm's starting tables.
+/// Returns whether `rd` is the address of one of a new realm's starting tables.
 pub fn is_start_table(p: &RealmParams, rd: u64) -> bool
     ensures { result ≡ command.is_start_table p.now rd }
 {
@@ -80,7 +80,7 @@ fn are_delegated<S: PageStore>(granules: &Granules<S>, first: Gran, count: u16) 
     true
 }
 
-/// Whether each starting table of a new realm is a DELEGATED granule.
+/// Returns whether each starting table of a new realm is a DELEGATED granule.
 #[tactic(auto, unfolding(rmm_model::specs::Command::RealmCreate::can_start))]
 pub fn can_start<S: PageStore>(granules: &Granules<S>, p: &RealmParams) -> bool
     ensures value { result ≡ command.can_start granules.now p.now }
@@ -93,7 +93,7 @@ pub fn can_start<S: PageStore>(granules: &Granules<S>, p: &RealmParams) -> bool
     are_delegated(granules, first, p.rtt_num_start as u16)
 }
 
-/// Whether a VMID is in the RMM's range, and no realm has it.
+/// Returns whether a VMID is in the RMM's range, and no realm has it.
 #[tactic(auto, unfolding(rmm_model::specs::Command::RealmCreate::is_vmid_valid))]
 pub fn is_vmid_valid<S: PageStore>(granules: &Granules<S>, vmid: u16) -> bool
     ensures { result ≡ command.is_vmid_valid granules.now vmid }

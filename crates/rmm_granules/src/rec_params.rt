@@ -49,8 +49,8 @@ fn all_aux<S: PageStore>(granules: &Granules<S>, page: &[u8], test: AuxTest, cou
 
 // ---- the tests
 
-/// Whether the addresses of a REC's auxiliary granules are aligned. The first `count` addresses in the REC's parameters
-/// have to be multiples of 4,096.
+/// Returns whether the addresses of a REC's auxiliary granules are aligned. The first `count` addresses in the REC's
+/// parameters have to be multiples of 4,096.
 pub fn are_aux_aligned<S: PageStore>(granules: &Granules<S>, page: &[u8], count: u8) -> bool
     requires page { length page.now ≡ 4096 }
     requires few { count ≤ 16 }
@@ -59,8 +59,8 @@ pub fn are_aux_aligned<S: PageStore>(granules: &Granules<S>, page: &[u8], count:
     all_aux(granules, page, AuxTest::Aligned, count)
 }
 
-/// Whether a REC's auxiliary granules are in the machine. The first `count` addresses in the REC's parameters have to
-/// lie in granules of the machine.
+/// Returns whether a REC's auxiliary granules are in the machine. The first `count` addresses in the REC's parameters
+/// have to lie in granules of the machine.
 pub fn are_aux_inside<S: PageStore>(granules: &Granules<S>, page: &[u8], count: u8) -> bool
     requires page { length page.now ≡ 4096 }
     requires few { count ≤ 16 }
@@ -69,8 +69,8 @@ pub fn are_aux_inside<S: PageStore>(granules: &Granules<S>, page: &[u8], count: 
     all_aux(granules, page, AuxTest::Inside, count)
 }
 
-/// Whether a REC's auxiliary granules are DELEGATED. The first `count` addresses in the REC's parameters have to lie in
-/// DELEGATED granules of the machine.
+/// Returns whether a REC's auxiliary granules are DELEGATED. The first `count` addresses in the REC's parameters have
+/// to lie in DELEGATED granules of the machine.
 pub fn are_aux_delegated<S: PageStore>(granules: &Granules<S>, page: &[u8], count: u8) -> bool
     requires page { length page.now ≡ 4096 }
     requires few { count ≤ 16 }
@@ -89,7 +89,7 @@ fn is_apart<S: PageStore>(granules: &Granules<S>, page: &[u8], rec: u64, k: u8) 
     address != rec && all_aux(granules, page, AuxTest::Not(address), k)
 }
 
-/// Whether a REC's granule and its first `count` auxiliary granules all differ.
+/// Returns whether a REC's granule and its first `count` auxiliary granules all differ.
 pub fn are_aux_apart<S: PageStore>(granules: &Granules<S>, page: &[u8], rec: u64, count: u8) -> bool
     requires page { length page.now ≡ 4096 }
     requires few { count ≤ 16 }

@@ -26,8 +26,8 @@ fn is_aligned_above(entry: RmmRttEntry, level: u8) -> bool
     !entry.is_mapping() || entry_offset(level - 1, entry.descriptor() / 4096 * 4096) == 0
 }
 
-/// Whether the entries of a translation table are the children of one non-TABLE entry of the level above. Whether that
-/// level allows blocks is not checked.
+/// Returns whether the entries of a translation table are the children of one non-TABLE entry of the level above.
+/// Whether that level allows blocks is not checked.
 #[tactic(auto, unfolding(rmm_model::specs::Command::RttFold::is_homogeneous))]
 pub fn is_homogeneous(page: &[u8], level: u8) -> bool
     requires page { length page.now ≡ 4096 }
@@ -38,7 +38,7 @@ pub fn is_homogeneous(page: &[u8], level: u8) -> bool
     !first.is_table() && is_aligned_above(first, level) && has_parts(page, first, level)
 }
 
-/// Whether folding a table would make a block at a level that allows no blocks.
+/// Returns whether folding a table would make a block at a level that allows no blocks.
 pub fn is_block_too_high(settings: &RmmSettings, page: &[u8], level: u8) -> bool
     requires { length page.now ≡ 4096 }
     ensures { result ≡ command.is_block_too_high settings.now page.now level }

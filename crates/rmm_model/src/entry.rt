@@ -116,7 +116,7 @@ impl RmmRttEntry {
         self.kind_word() + self.descriptor() % ADDRESSES
     }
 
-    /// Whether the entry leads to a page, a block or a table.
+    /// Returns whether the entry leads to a page, a block or a table.
     pub fn is_live(self) -> bool
         ensures { result ≡ entries.is_live self }
     {
@@ -151,7 +151,7 @@ impl RmmRttEntry {
         matches!(self, RmmRttEntry::Table(_))
     }
 
-    /// Whether the entry leads to a page or a block.
+    /// Returns whether the entry leads to a page or a block.
     pub fn is_mapping(self) -> bool
         ensures { result ≡ entries.is_mapping self }
     {
@@ -185,7 +185,7 @@ impl RmmRttEntry {
         }
     }
 
-    /// Whether a command that changes the RIPAS of `changeable` entries changes this entry.
+    /// Returns whether a command that changes the RIPAS of `changeable` entries changes this entry.
     pub fn can_change(self, changeable: Changeable) -> bool
         ensures { result ≡ entries.can_change changeable self }
     {

@@ -109,7 +109,7 @@ impl RmmRec {
         matches!(self.state, RmmRecState::Running)
     }
 
-    /// Whether the REC is on in the sense of PSCI. A REC is on if it is runnable or RUNNING.
+    /// Returns whether the REC is on in the sense of PSCI. A REC is on if it is runnable or RUNNING.
     pub fn is_on(&self) -> bool
         ensures { result ≡ recs.is_on self.now }
     {

@@ -45,7 +45,7 @@ fn are_low(page: &[u8], first: u16) -> bool
     (a | b | c | d | e | f | g | h) < LEAST_LIVE
 }
 
-/// Whether any entry of a table is live.
+/// Returns whether any entry of a table is live.
 #[tactic(auto, unfolding(crate::specs::Table::has_live))]
 pub fn has_live(page: &[u8]) -> bool
     requires { length page.now ≡ 4096 }

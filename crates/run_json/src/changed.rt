@@ -84,7 +84,7 @@ pub fn rec_named_by(act: &Act) -> Option<RecNo>
     }
 }
 
-/// Whether an operation changes a realm's existence, state, measurement or next REC number.
+/// Returns whether an operation changes a realm's existence, state, measurement or next REC number.
 pub fn changes_realm(act: &Act) -> bool
     ensures { result ≡ changes_realm act.now }
 {

@@ -16,7 +16,7 @@ pub struct Edge<L> {
 pub trait LabelProperty<L> {
     ghost holds_for: { Self → L → Bool };
 
-    /// Whether an edge's label has the property.
+    /// Returns whether an edge's label has the property.
     fn holds_for(&self, label: &L) -> bool
         ensures { result ≡ holds_for self.now label.now };
 }

@@ -190,14 +190,14 @@ impl Count {
         add_digits(&mut self.digits, &other.digits)
     }
 
-    /// Whether the number is 0.
+    /// Returns whether the number is 0.
     pub fn is_zero(&self) -> bool
         ensures { result ≡ (self.now == 0) }
     {
         trimmed(&self.digits).is_empty()
     }
 
-    /// Whether the two numbers are the same.
+    /// Returns whether the two numbers are the same.
     pub fn is_same(&self, other: &Count) -> bool
         ensures { result ≡ (self.now == other.now) }
     {

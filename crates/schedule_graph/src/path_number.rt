@@ -54,7 +54,7 @@ impl PathNumber {
         self.high.add(&other.high)
     }
 
-    /// Whether the number is 0.
+    /// Returns whether the number is 0.
     pub fn is_zero(&self) -> bool
         ensures { result ≡ (self.now == 0) }
     {

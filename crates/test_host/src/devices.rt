@@ -54,7 +54,7 @@ pub(crate) struct Sink {
 }
 
 impl Sink {
-    /// Whether exactly the given bytes were written to the output.
+    /// Returns whether exactly the given bytes were written to the output.
     pub(crate) fn has(&self, bytes: &[u8]) -> bool {
         self.got.as_slice() == bytes
     }

@@ -150,7 +150,7 @@ fn measure(
     Ok(())
 }
 
-/// Whether an input begins with `machine`, as every script does and no plan does.
+/// Returns whether an input begins with `machine`, as every script does and no plan does.
 pub(crate) fn is_script(bytes: &[u8]) -> bool {
     bytes.starts_with(b"machine ")
 }
