@@ -1,4 +1,5 @@
--- Aligned blocks of 2^order granules: one of each order contains a given granule, and any two are nested or disjoint.
+-- Proofs on aligned blocks of 2^order granules: one of each order contains a given granule, and any two are nested or
+-- disjoint.
 use Rattle.std.proofs.Common.{◌≡◌, ℕ, suc, ◌+◌, ◌-◌, ◌*◌, ◌/◌, ◌%◌, ◌^◌, ◌<◌, ◌≤◌, ◌⊎◌, inl, inr, sym, ap, ◌∙◌, arith}
 use Rattle.std.proofs.Math.Nat.{div-add-mod', div-mul-le_self, lt-div-mul-add, mul-le-mul_right, mul-mod_left, suc-mul, zero-mod, add-mod_right}
 use Rattle.std.proofs.Math.Pow.{mod-mod-pow}

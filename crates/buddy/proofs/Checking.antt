@@ -1,4 +1,5 @@
--- The steps of cutting a block out of the free lists: each visits one order and preserves the loop's invariant.
+-- Proofs on the loop that cuts a block out of the free lists: each turn visits one order and preserves the loop's
+-- invariant.
 use Rattle.std.proofs.Common.{◌≡◌, ◌≢◌, ℕ, ◌+◌, ◌%◌, ◌^◌, ◌<◌, ◌≤◌, ◌↔◌, Bool, true, false, List, length, set, inl, inr, refl, sym, ap, subst, ◌∙◌, arith}
 use Rattle.std.specs.Prelude.{IsTrue}
 use Rattle.std.specs.Bool.{OnTrue}

@@ -1,4 +1,5 @@
--- The number of free granules, as blocks are taken and given back.
+-- Proofs that taking a block lowers the number of free granules by the block's size, and that giving it back raises it
+-- again.
 use Rattle.std.proofs.Common.{◌≡◌, ℕ, zero, suc, ◌+◌, ◌^◌, ◌≤◌, Bool, true, false, List, [], ◌∷◌, ◌++◌, length, take, drop, replicate, refl, ap, ◌∙◌, arith, length-append}
 use Rattle.std.specs.Prelude.{filter}
 use Rattle.std.proofs.lemmas.List.Elements.{filter-append}

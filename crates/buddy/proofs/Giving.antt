@@ -1,4 +1,5 @@
--- The steps of giving a block back: it is merged with its free buddy, or inserted into the free lists.
+-- Proofs that giving a block back, by merging it with its free buddy or inserting it into the free lists, keeps the
+-- invariant.
 use Rattle.std.proofs.Common.{◌≡◌, ◌≢◌, ℕ, ◌+◌, ◌<◌, ◌≤◌, Bool, List, length, set, inl, inr, subst, arith}
 use Rattle.std.proofs.lemmas.List.{get_or-set_same}
 use Rattle.std.proofs.lemmas.Nat.{pow_pos}

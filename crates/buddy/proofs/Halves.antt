@@ -1,4 +1,4 @@
--- The two halves of a block: they are aligned, disjoint, and buddies of each other.
+-- Proofs that the two halves of a block are aligned, disjoint, and buddies of each other.
 use Rattle.std.proofs.Common.{◌≡◌, ℕ, ◌+◌, ◌*◌, ◌/◌, ◌%◌, ◌^◌, ◌<◌, ◌⊎◌, inl, inr, refl, sym, ap, ◌∙◌, arith}
 use Rattle.std.specs.Prelude.{bit_xor}
 use Rattle.std.specs.Int.Bits.{xor_add_and, xor_zero_r}

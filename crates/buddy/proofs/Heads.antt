@@ -1,4 +1,4 @@
--- The table of maximal free blocks, by first granule, after a block is taken out of it or put into it.
+-- Proofs that the table of heads still has exactly the maximal free blocks after one of them is taken out or put in.
 use Rattle.std.proofs.Common.{◌≡◌, ℕ, ◌+◌, ◌-◌, ◌^◌, ◌<◌, ◌≤◌, Bool, true, false, List, length, set, inl, inr, sym, ap, subst, ◌∙◌, arith, length-set}
 use Rattle.std.proofs.lemmas.Bool.{cases_eq, cases_lt}
 use Rattle.std.proofs.lemmas.List.{get_or-set_same, get_or-set_other}

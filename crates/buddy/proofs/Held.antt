@@ -1,4 +1,4 @@
--- The set of free granules as a function of the maximal free blocks.
+-- The proof that the maximal free blocks determine the set of free granules.
 use Rattle.std.proofs.Common.{◌≡◌, ℕ, ◌+◌, ◌<◌, Bool, true, false, List, length, get_or, sym, ap, ◌∙◌, arith}
 use Rattle.std.specs.Prelude.{map}
 use Rattle.std.specs.List.{list_any, range_with_len}

@@ -1,4 +1,5 @@
--- The split of a free block that is in no free list, and its merge with its buddy.
+-- Lemmas on a free block that is in no free list: its split, its merge with its buddy, and its insertion into a free
+-- list.
 use Rattle.std.proofs.Common.{◌≡◌, ◌≢◌, ℕ, ◌+◌, ◌^◌, ◌<◌, ◌≤◌, Bool, true, false, List, length, set, sym, subst, ◌∙◌, arith}
 use Rattle.std.proofs.lemmas.Nat.{pow_pos}
 use Rattle.page_arena.specs.Block.{IsFreeBlock, IsTakenBlock, with_taken, with_given}

@@ -1,4 +1,5 @@
--- The insertion of a block into the doubly linked list of its order, and its removal from the list.
+-- Proofs that inserting a block into the doubly linked list of its order, or removing it, preserves the invariant of
+-- the lists.
 use Rattle.std.proofs.Common.{◌≡◌, ◌≢◌, ℕ, zero, suc, ◌+◌, ◌<◌, ◌≤◌, List, length, set, sym, refl, ap, ◌∙◌, subst, arith, ◌⊎◌, inl, inr, length-set}
 use Rattle.std.proofs.lemmas.Bool.{cases_eq, cases_lt}
 use Rattle.std.proofs.lemmas.List.{get_or-set_same, get_or-set_other}

@@ -1,4 +1,4 @@
--- Maximal blocks: each free block lies in one, and no two of them share a granule.
+-- Proofs that each free block lies in a maximal free block, and that no two maximal free blocks share a granule.
 use Rattle.std.proofs.Common.{◌≡◌, ◌≢◌, ℕ, zero, suc, ◌+◌, ◌-◌, ◌%◌, ◌^◌, ◌<◌, ◌≤◌, Bool, true, List, inl, inr, arith}
 use Rattle.std.proofs.Math.Pow.{pow_mono}
 use Rattle.std.proofs.lemmas.Bool.{cases_lt}

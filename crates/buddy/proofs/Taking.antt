@@ -1,4 +1,5 @@
--- The cut of a block out of the first block in the nonempty free list of the smallest order that suffices.
+-- Proofs that the block to take is free, and is at the start of the first block in the list of the smallest order that
+-- suffices.
 use Rattle.std.proofs.Common.{◌≡◌, ℕ, ◌+◌, ◌%◌, ◌^◌, ◌<◌, ◌≤◌, Bool, true, List, length, inl, inr, subst, arith}
 use Rattle.std.specs.Prelude.{Option, None, Some, IfNone}
 use Rattle.std.proofs.Math.Pow.{pow_mono}

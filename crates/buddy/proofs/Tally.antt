@@ -1,4 +1,4 @@
--- The invariant of the index of free granules, after a block is taken or given back.
+-- Proofs that the invariant of the index of free granules still holds after a block is taken or given back.
 use Rattle.std.proofs.Common.{◌≡◌, ℕ, ◌+◌, ◌-◌, ◌^◌, ◌<◌, ◌≤◌, Bool, true, false, List, length, replicate, inl, inr, sym, ap, subst, ◌∙◌, arith}
 use Rattle.std.proofs.Math.Nat.{mod-one}
 use Rattle.std.proofs.lemmas.Bool.{cases_lt}

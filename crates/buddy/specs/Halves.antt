@@ -1,4 +1,4 @@
--- The two halves of a block.
+-- The condition that two blocks are the two halves of a block of the next higher order.
 use Rattle.std.specs.Prelude.{◌≡◌, ℕ, ◌+◌, ◌%◌, ◌^◌, ◌⊎◌}
 
 -- The blocks of order `order` at `one` and `other` are the halves of the next larger block, which begins at `base`.

@@ -1,4 +1,4 @@
--- A free block that is in none of the free lists, during a split or a merge.
+-- The condition that a free block is in none of the free lists, as it is during a split or a merge.
 use Rattle.std.specs.Prelude.{◌≡◌, ℕ, ◌+◌, ◌^◌, ◌<◌, ◌≤◌, Bool, true, false, List}
 use Rattle.page_arena.specs.Block.{IsFreeBlock, with_taken}
 use Rattle.buddy.specs.MaximalBlock.{IsMaximalBlock}

@@ -86,8 +86,8 @@ impl PageStore for BuddyArena {
     }
 
     /// Takes a block of order `order`, if there is a free one. The block is cut out of the first block in the nonempty
-    /// free list of the smallest order that suffices. The visits are one for each order up to that of the list. If no
-    /// order has a block, there are no visits.
+    /// free list of the smallest order that suffices. Visits each order from `order` up to that of the list. If no list
+    /// suffices, there are no visits.
     fn take(&mut self, order: Order) -> Option<Gran>
         ensures first { result ≡ first_block self.old.index.lists order }
         ensures block { IfSome result (IsFreeBlock self.old.index.flags order) }

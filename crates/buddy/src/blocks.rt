@@ -1,4 +1,4 @@
-//! Splits and merges free blocks.
+//! Functions that split and merge free blocks.
 ghost use Rattle.std.specs.Prelude.{◌≡◌, ◌≢◌, ℕ, ◌+◌, ◌^◌, ◌%◌, ◌<◌, ◌≤◌, ◌↔◌, Bool, true, List, length, IsTrue, IfSome, IfNone};
 ghost use Rattle.std.specs.Bool.{OnTrue, OnFalse};
 ghost use Rattle.page_arena.specs.Block.{IsFreeBlock, IsTakenBlock, with_taken, with_given};
@@ -17,7 +17,7 @@ fn order_of(number: usize) -> Order
     Order::new(number as u8).unwrap()
 }
 
-/// The number of granules in a block of a given order.
+/// Returns the number of granules in a block of a given order.
 pub(crate) fn size_of(order: usize) -> u16
     requires { order < 10 }
     ensures size { result ≡ 2 ^ order }

@@ -47,7 +47,7 @@ impl FreeIndex {
         })
     }
 
-    /// The number of free granules.
+    /// Returns the number of free granules.
     pub(crate) fn count(&self) -> u16
         ensures { result ≡ length (filter (λ flag. flag) self.now.flags) }
     {

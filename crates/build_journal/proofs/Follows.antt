@@ -1,4 +1,5 @@
--- Proofs on a stack of open operations after one more operation: its bound, its invariant, and the removal of its top.
+-- Lemmas on a build's stack of open operations: a push has room within the bound, all operations stay reversible, and a
+-- reverse removes the top.
 use Rattle.std.proofs.Common.{◌≡◌, ◌+◌, ◌-◌, ◌≤◌, true, false, List, [], ◌∷◌, ◌++◌, length, take, refl, sym, ap, ◌∙◌, subst, length-append}
 use Rattle.std.proofs.lemmas.Bool.{and_from}
 use Rattle.std.proofs.lemmas.List.Folds.{list_all-append}

@@ -1,4 +1,4 @@
--- Proofs that one lease written over a range of granules equals the lease set at each granule in turn.
+-- Proofs that writing one lease over a range of granules gives the same table as setting the lease granule by granule.
 use Rattle.std.proofs.Common.{◌≡◌, ℕ, zero, suc, ◌+◌, ◌-◌, ◌≤◌, List, [], ◌∷◌, ◌++◌, length, take, drop, set, replicate, Option, sym, ap, ◌∙◌, arith, append_assoc, length-drop}
 use Rattle.std.proofs.Math.Seq.{paste, paste-zero}
 use Rattle.std.proofs.lemmas.List.{length-set, length-replicate, length-take-le, take_all, take-append-le, take_more_set, drop-set-lt}

@@ -1,4 +1,4 @@
--- The condition that each operation on a stack has a reverse.
+-- The condition that each operation in a build's stack of open operations has a reverse.
 use Rattle.std.specs.Prelude.{Bool, List}
 use Rattle.std.specs.List.{list_all}
 use Rattle.realm_model.specs.declared.act.Act.{Act}

@@ -1,4 +1,4 @@
--- A theorem on the length of a stack of pages after a block of 2^order pages is pushed.
+-- A theorem that pushing a block of 2^order pages makes a stack of pages longer by 2^order.
 use Rattle.std.specs.Prelude.{◌≡◌, ℕ, ◌+◌, ◌^◌, List, length}
 use Rattle.std.specs.List.{range_with_len}
 use Rattle.std.proofs.Common.{ap, ◌∙◌, length-append}

@@ -1,4 +1,4 @@
--- The pages that each build leases, as a stack in the sequence of taking.
+-- The leased pages of each build, as a stack with the page that was taken last on top.
 use Rattle.std.specs.Prelude.{ℕ, ◌-◌, ◌^◌, ◌≤◌, ◌++◌, List, [], length, take, map, slice_index_or, slice_set, vec_len, vec_capacity, All}
 use Rattle.std.specs.List.{range_with_len}
 use Rattle.std.specs.Global.{Vec}

@@ -70,7 +70,7 @@ impl Leases {
         stack.get(k as usize).copied()
     }
 
-    /// The number of pages that a build leases.
+    /// Returns the number of pages that a build leases.
     pub fn count(&self, build: BuildId) -> u16
         requires { build < length self.now.stacks }
         ensures value { result ≡ length (stack_of self.now build) }

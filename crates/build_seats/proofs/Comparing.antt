@@ -1,4 +1,5 @@
--- Proofs on the comparison of a seat's events with its build's events in the history.
+-- Proofs that comparing a session handle's event list with the history, event by event to the ends, decides whether the
+-- list is its build's part.
 use Rattle.std.proofs.Common.{◌<◌, ◌≡◌, ℕ, ◌≤◌, ◌↔◌, IsTrue, List, [], length, drop, get_or, nat_eq, refl, sym, ap, ◌∙◌, arith, length-drop}
 use Rattle.std.specs.List.{All}
 use Rattle.std.proofs.lemmas.List.{drop_all}

@@ -1,4 +1,4 @@
--- A proof that the accepted lines of a report match the events of its build one by one.
+-- A proof that the accepted lines of a worker's report match the worker's accepted commands and undos one by one.
 use Rattle.std.proofs.Common.{◌≡◌, ℕ, zero, suc, ◌+◌, Bool, true, false, cond, List, [], ◌∷◌, ◌++◌, length, map, replicate, refl, sym, ap, subst, ◌∙◌, arith, append_assoc, length-append}
 use Rattle.std.specs.Prelude.{Option, Some, None, Ok, Err, filter, min, slice_get, option_map, ⊤}
 use Rattle.std.specs.List.{AllZip}

@@ -1,5 +1,4 @@
--- A bound on the number of questions that clear a build of running RECs and open operations: each step adds at most
--- one.
+-- Proofs that each step of a worker adds at most one to the number of exits and undos that would clear its build.
 use Rattle.std.proofs.Common.{◌≡◌, ℕ, zero, suc, ◌+◌, ◌-◌, ◌≤◌, Bool, true, false, List, [], ◌∷◌, length, refl, sym, ap, subst, arith, cond, eqb, ltb, not}
 use Rattle.std.specs.Prelude.{Option, Some, None, Ok, Err, replicate, min}
 use Rattle.std.proofs.lemmas.List.Filters.{length-filter_both}

@@ -1,4 +1,5 @@
--- Proofs on lists of a worker's questions that are asked one after another.
+-- Proofs that a list of a worker's questions asked part by part is asked as a whole, with one report line for each
+-- exchange.
 use Rattle.std.proofs.Common.{◌≡◌, ℕ, ◌+◌, ◌≤◌, List, [], ◌∷◌, ◌++◌, length, refl, sym, ap, subst, ◌∙◌, arith, append_assoc, length-append}
 use Rattle.std.proofs.lemmas.List.{append-nil}
 use Rattle.build_seats.specs.Asked.{told, line, ArePut, all_put, cut_short, refused, accepted}

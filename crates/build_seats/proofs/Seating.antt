@@ -1,4 +1,4 @@
--- Proofs for the loop that makes each build's seat from its pass and an empty trail.
+-- Proofs that the loop which makes the session handles (`Seat`) gives each build a handle with no events counted.
 use Rattle.std.proofs.Common.{◌≡◌, ℕ, suc, ◌+◌, ◌-◌, ◌<◌, List, [], ◌∷◌, ◌++◌, length, map, take, get_or, replicate, Option, Some, None, sym, ap, ◌∙◌, subst, arith, zero-add}
 use Rattle.std.specs.Array.Iter.{array_into_iter_items, array_steps}
 use Rattle.std.specs.List.{range_with_len}

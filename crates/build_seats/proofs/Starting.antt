@@ -1,4 +1,4 @@
--- A proof that a host with an empty history satisfies the invariant of the data under the lock.
+-- A proof that a host with an empty history satisfies the invariant of the data under a shared host's lock.
 use Rattle.std.proofs.Common.{◌≡◌, ℕ, Bool, true, false, List, [], ◌∷◌, length, get_or, refl, sym, ap, ◌∙◌, arith}
 use Rattle.std.proofs.lemmas.List.{get_or-replicate}
 use Rattle.realm_model.specs.declared.act.Event.{Event}

@@ -1,4 +1,4 @@
--- Proofs on the parts of a worker's run: one question, no question, and two adjacent parts joined.
+-- Proofs that one question, no question, and two adjacent parts joined are each a part of a worker's run.
 use Rattle.std.proofs.Common.{◌≡◌, ℕ, ◌+◌, Bool, true, false, List, [], ◌∷◌, ◌++◌, length, refl, sym, ap, subst, ◌∙◌, arith, append_assoc, cond, ltb}
 use Rattle.std.specs.Prelude.{Some, Result, Ok, Err, MatchResult}
 use Rattle.std.proofs.lemmas.List.{append-nil}

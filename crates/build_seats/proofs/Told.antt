@@ -1,4 +1,5 @@
--- Proofs on the report of steps that ask the host nothing, and of rollbacks to a mark.
+-- Proofs that steps that ask the host nothing, and rollbacks to a mark, get the report lines that the specification
+-- requires.
 use Rattle.std.proofs.Common.{◌≡◌, ℕ, ◌<◌, true, false, List, [], ◌∷◌, ◌++◌, length, refl, sym, subst, ◌∙◌, arith}
 use Rattle.std.specs.Prelude.{Ok, Err, min, Option, None}
 use Rattle.std.proofs.lemmas.List.{append-nil}

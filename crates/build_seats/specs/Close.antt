@@ -1,4 +1,5 @@
--- The conditions for closing a shared host: each build has one seat, whose trail is the build's part of the history.
+-- The conditions for closing a shared host: each build has one session handle (`Seat`), whose event list is the build's
+-- part of the history.
 use Rattle.std.specs.Prelude.{◌≡◌, ◌≢◌, ℕ, ◌<◌, ◌==◌, List, length, filter}
 use Rattle.std.specs.List.{All}
 use Rattle.realm_model.specs.declared.act.Event.{Event}

@@ -1,4 +1,4 @@
--- An injective encoding of the data under the lock: a host and its event counts.
+-- An injective encoding of the data under a shared host's lock: the host, and the number of events of each build.
 use Rattle.std.specs.Prelude.{ℕ, List, refl}
 use Rattle.std.specs.Coded.{Coded, code_by, coded×, coded_ℕ, coded_list}
 use Rattle.host_ledger.specs.Codes.{host_code}

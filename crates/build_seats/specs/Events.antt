@@ -1,4 +1,4 @@
--- The accepted lines of a report, matched with the events of the build.
+-- The condition that the accepted lines of a worker's report match the worker's accepted commands and undos one by one.
 use Rattle.std.specs.Prelude.{◌≡◌, Bool, true, false, List, filter, Option, Some, slice_get, option_map}
 use Rattle.std.specs.List.{AllZip}
 use Rattle.host_commands.specs.declared.cmd.Cmd.TheVariants as cmd

@@ -1,4 +1,4 @@
--- Exchanges between a worker and its teller: a question, and its answer.
+-- Exchanges of a worker with its `Teller`, the client side of a host: each is a question and its answer.
 use Rattle.std.specs.Prelude.{ℕ, Bool, true, false, Result, Ok, Err}
 use Rattle.host_ledger.specs.declared.mark.Mark.{Mark}
 use Rattle.host_commands.specs.declared.cmd.Cmd.{Cmd}

@@ -1,4 +1,4 @@
--- The reasons for which the close of a shared host is refused.
+-- The reasons why a shared host is not closed, as conditions on the host and the session handles (`Seat`).
 use Rattle.std.specs.Prelude.{List}
 use Rattle.host_ledger.specs.View.{HostView}
 use Rattle.build_seats.specs.declared.close.CloseFault.{CloseFault}

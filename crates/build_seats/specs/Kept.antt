@@ -1,4 +1,5 @@
--- The data that the lock protects: a host, and for each build the number of its events.
+-- The data that a shared host's lock protects (the host, and each build's number of events), and the invariant of the
+-- data.
 use Rattle.std.specs.Prelude.{◌≡◌, ℕ, ◌+◌, ◌<◌, List, length, false, slice_index, slice_set}
 use Rattle.realm_model.specs.declared.act.Act.{Act}
 use Rattle.realm_model.specs.declared.act.Event.{Event}

@@ -1,4 +1,4 @@
--- The view of a seat: its build, and the number and the list of the build's counted events.
+-- The view of a session handle (`Seat`): its build, the number of the build's counted events, and their list.
 use Rattle.std.specs.Prelude.{ℕ, ◌+◌, List, [], ◌∷◌, ◌++◌}
 use Rattle.realm_model.specs.declared.act.Event.{Event}
 

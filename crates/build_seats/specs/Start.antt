@@ -1,4 +1,4 @@
--- The condition that a host has the limits and the capacity of the host with which builds were started.
+-- The condition that a host has the same limits and history capacity as the host that was first put under the lock.
 use Rattle.std.specs.Prelude.{◌≡◌}
 use Rattle.host_ledger.specs.Booted.{booted}
 use Rattle.host_ledger.specs.View.{HostView}

@@ -1,4 +1,5 @@
--- The view of the only share of a build's ghost ledger: the build, the parts and the amount.
+-- The view of the only share of a build's ghost ledger: the build, the number of the ledger's parts, and the counted
+-- amount.
 use Rattle.std.specs.Prelude.{ℕ}
 use Rattle.build_seats.specs.declared.ledgers.Whole.{Whole}
 use Rattle.build_seats.specs.declared.ledgers.Whole.TheVariants.{Build0, Build1, Build2, Build3, Build4, Build5, Build6, Build7}

@@ -1,5 +1,5 @@
-//! The checks before a shared host is closed. Each build has to have one seat, and the seat's trail has to be the
-//! build's part of the history.
+//! The checks before a shared host is closed. Each build has to have one session handle (`Seat`), whose trail has to be
+//! the build's part of the history.
 ghost use Rattle.std.specs.Prelude.{◌≡◌, ◌+◌, ◌<◌, ◌≤◌, ◌↔◌, [], filter, slice_index, true, IsTrue, IfSome, IfNone};
 ghost use Rattle.std.specs.List.{All};
 ghost use Rattle.build_seats.specs.Close.{seats_of, Fits, IsMissing, AreSeatsWhole, Differs, FitsAll};
@@ -13,13 +13,14 @@ use realm_model::Event;
 /// The reason why a shared host is not closed.
 #[derive(Clone, Copy, PartialEq, Eq)]
 pub enum CloseFault {
-    /// A build that does not have exactly one seat on the shared host.
+    /// A build that does not have exactly one session handle (`Seat`) on the shared host.
     SeatMissing(BuildId),
-    /// A build whose seat has a list of events that differs from the build's events in the host's history.
+    /// A build whose session handle (`Seat`) has a list of events that differs from the build's events in the host's
+    /// history.
     RecordMismatch(BuildId),
 }
 
-/// Proves that the event count of each seat in `seats` equals its build's count in `books`. Nothing changes.
+/// Proves that the event count of each session handle in `seats` equals its build's count in `books`. Nothing changes.
 pub fn audit<L: Ledgers>(books: &mut Books<L>, seats: &mut [Seat<L>])
     ensures books { books.new ≡ books.old }
     ensures seats { seats.new ≡ seats.old }
@@ -30,7 +31,7 @@ pub fn audit<L: Ledgers>(books: &mut Books<L>, seats: &mut [Seat<L>])
     }
 }
 
-/// Finds the lowest-numbered build that does not have exactly one seat.
+/// Finds the lowest-numbered build that does not have exactly one session handle (`Seat`).
 #[tactic(auto, unfolding(crate::specs::Close::AreSeatsWhole))]
 pub fn missing<L: Ledgers>(seats: &[Seat<L>], builds: u8) -> Option<BuildId>
     requires { builds ≤ 8 }
@@ -53,8 +54,7 @@ fn seat_count<L: Ledgers>(seats: &[Seat<L>], build: BuildId) -> usize
     seats.iter().filter(|seat| seat.build() == build).count()
 }
 
-/// Finds the lowest-numbered build whose seat disagrees with the host's history. The seat's trail has to be the build's
-/// part of the history.
+/// Finds the lowest-numbered build with a session handle (`Seat`) whose trail is not the build's part of the history.
 #[tactic(auto, unfolding(crate::specs::Close::FitsAll))]
 pub fn mismatch<L: Ledgers>(seats: &[Seat<L>], history: &[Event]) -> Option<BuildId>
     ensures some { IfSome result (λ build. Differs build history.now seats.now) }

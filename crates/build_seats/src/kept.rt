@@ -52,9 +52,9 @@ impl<S: PageStore, L: Ledgers> Model for Kept<S, L> {
 }
 
 impl<S: PageStore, L: Ledgers> Kept<S, L> {
-    /// Prepares a host to be shared, and makes a seat for each build. The host's history is empty. The seat of the
-    /// lowest build comes first. All memory for the builds' events is taken here. If an allocation fails, the blanks
-    /// and the host are returned.
+    /// Wraps a host for use under a lock, and makes a session handle (`Seat`) for each build. The host's history is
+    /// empty. The handle of the lowest build comes first. All memory for the builds' events is taken here. If an
+    /// allocation fails, the blanks and the host are returned.
     pub fn start(
         alloc: Global,
         blanks: Blanks,
@@ -81,8 +81,9 @@ impl<S: PageStore, L: Ledgers> Kept<S, L> {
         Ok((Kept { host, books }, seats))
     }
 
-    /// Asks the host to perform a command of the seat's build. The answer is the host's. An accepted command appends
-    /// one event of the build to the history and to the trail. A refusal leaves both as they are. No memory is taken.
+    /// Asks the host to perform a command of the build whose session handle is `seat`. The answer is the host's. An
+    /// accepted command appends one event of the build to the history and to the trail. A refusal leaves both as they
+    /// are. No memory is taken.
     pub fn call(&mut self, seat: &mut Seat<L>, cmd: Cmd) -> Result<Reply, Refusal>
         ensures answer { IsAnswer self.old.host seat.old.build (Ask cmd) (replied result) self.new.host }
         ensures noted { IfOk result (λ _. IsNoted self.old seat.old self.new seat.new) }
@@ -97,9 +98,9 @@ impl<S: PageStore, L: Ledgers> Kept<S, L> {
         Ok(reply)
     }
 
-    /// Undoes the newest open (not yet undone) operation of the seat's build. The answer is the host's. An accepted
-    /// undo appends one event of the build to the history and to the trail. A refusal leaves both as they are. No
-    /// memory is taken.
+    /// Undoes the newest open (not yet undone) operation of the build whose session handle is `seat`. The answer is the
+    /// host's. An accepted undo appends one event of the build to the history and to the trail. A refusal leaves both
+    /// as they are. No memory is taken.
     pub fn undo(&mut self, seat: &mut Seat<L>) -> Result<Undone, Refusal>
         ensures answer { IsAnswer self.old.host seat.old.build Undo (undone result) self.new.host }
         ensures noted { IfOk result (λ _. IsNoted self.old seat.old self.new seat.new) }
@@ -114,7 +115,8 @@ impl<S: PageStore, L: Ledgers> Kept<S, L> {
         Ok(undone)
     }
 
-    /// Sets a rollback mark for the seat's build. Returns the host's answer. A mark is not an event.
+    /// Sets a rollback mark for the build whose session handle is `seat`. Returns the host's answer. A mark is not an
+    /// event.
     pub fn mark(&mut self, seat: &mut Seat<L>) -> Result<Mark, Refusal>
         ensures answer { IsMarked self.old.host seat.old.build result self.new.host }
         ensures books { self.new.books ≡ self.old.books }
@@ -143,8 +145,8 @@ impl<S: PageStore, L: Ledgers> Kept<S, L> {
         self.host.check_back(build, mark)
     }
 
-    /// Takes back the builds' seats, and returns the host unchanged. Each build has to have one seat, with the events
-    /// that the history has of the build. At `Err` the host is returned too.
+    /// Takes back the builds' session handles (`Seat`), and returns the host unchanged. Each build has to have one
+    /// handle, with the events that the history has of the build. At `Err` the host is returned too.
     pub fn close(self, mut seats: Vec<Seat<L>>) -> Result<Host<S>, (CloseFault, Host<S>)>
         ensures closed { IfOk result (λ host. IsClosed host seats.items) }
         ensures fault { IfErr result (λ e. IsFault e.0 e.1 seats.items) }

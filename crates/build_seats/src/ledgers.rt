@@ -1,5 +1,5 @@
-//! Ghost ledgers, each of which counts the events of one build. The lock protects their counts, and the seats carry
-//! their passes.
+//! Ghost ledgers, each of which counts the events of one build. The lock protects their counts, and the session handles
+//! (`Seat`) carry their passes.
 ghost use Rattle.std.specs.Prelude.{◌≡◌, ℕ, ◌+◌, ◌<◌, [], ◌∷◌, length, map, slice_index, slice_set};
 ghost use Rattle.std.specs.List.{range_with_len};
 ghost use Rattle.host_ledger.specs.View.{HostView};

@@ -1,5 +1,5 @@
-//! A shared host, with a seat for each of its builds. A seat is the session handle of a build. The work of a build is
-//! here too. Nothing in this crate depends on locks or threads.
+//! A shared host, with a session handle (`Seat`) for each of its builds. The work of a build is here too. Nothing in
+//! this crate depends on locks or threads.
 //!
 //! `Kept` is what a lock protects: the host, and for each build the number of its events in the history. A `Seat` has
 //! the same number for its build, and a list of these events. A call of `Kept` asks the host. For an accepted command

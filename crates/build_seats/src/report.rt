@@ -41,6 +41,6 @@ pub struct Report {
     pub lines: Vec<ReportLine>,
 }
 
-/// The error of a build's worker whose next turn was withheld by the scheduler.
+/// The error that the scheduler (`Gate`) withholds the next turn of a build's worker.
 #[derive(Clone, Copy)]
 pub struct Stuck;

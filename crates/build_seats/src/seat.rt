@@ -1,4 +1,4 @@
-//! The seats of builds on a shared host, and the trails of their accepted events.
+//! Session handles (`Seat`) of builds on a shared host, and the lists (`Trail`) of the accepted events of each build.
 ghost use Rattle.std.specs.Prelude.{◌≡◌, ◌+◌, ◌<◌, ◌≤◌, [], ◌∷◌, ◌++◌, length, map, vec_len, vec_capacity, replicate, IfOk};
 ghost use Rattle.std.specs.List.{range_with_len};
 ghost use Rattle.build_seats.specs.Passes.{unused};
@@ -74,8 +74,8 @@ pub(crate) fn new_trails<L: Ledgers>(
     Ok(trails)
 }
 
-/// The seat of a build on a shared host. It has the build's pass, which counts the build's events in the history, and
-/// the list of these events.
+/// The session handle of a build on a shared host. It has the build's pass, which counts the build's events in the
+/// history, and the list of these events.
 pub struct Seat<L: Ledgers> {
     pub(crate) pass: Pass<L>,
     pub(crate) trail: Trail<L>,
@@ -99,7 +99,7 @@ impl<L: Ledgers> Model for Seat<L> {
 }
 
 impl<L: Ledgers> Seat<L> {
-    /// Returns the seat's build.
+    /// Returns the build of the session handle.
     pub fn build(&self) -> BuildId
         ensures build { result ≡ self.now.build }
         ensures range { self.now.build < 8 }
@@ -107,7 +107,8 @@ impl<L: Ledgers> Seat<L> {
         self.pass.build()
     }
 
-    /// Returns the number of the build's events that the seat has counted. It is the length of the seat's trail.
+    /// Returns the number of the build's events that the session handle has counted. It is the length of the handle's
+    /// trail.
     pub fn count(&self) -> usize
         ensures count { result ≡ self.now.count }
         ensures trail { result ≡ length self.now.trail }
@@ -115,7 +116,7 @@ impl<L: Ledgers> Seat<L> {
         self.trail.events().len()
     }
 
-    /// Returns the accepted events of the seat's build, in sequence.
+    /// Returns the accepted events of the session handle's build, in sequence.
     pub fn trail(&self) -> &[Event]
         ensures { result.now ≡ self.now.trail }
     {
@@ -123,8 +124,8 @@ impl<L: Ledgers> Seat<L> {
     }
 }
 
-/// Makes a seat from each event list, for builds 0, 1 and so on. Each seat has its build's pass too, and the lowest
-/// build comes first. The passes that are left are dropped.
+/// Makes a session handle (`Seat`) from each event list, for builds 0, 1 and so on. Each handle has its build's pass
+/// too, and the lowest build comes first. The passes that are left are dropped.
 pub(crate) fn seats_of_trails<L: Ledgers>(
     mut seats: Vec<Seat<L>>,
     passes: [Pass<L>; 8],

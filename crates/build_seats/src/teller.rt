@@ -9,7 +9,7 @@ use host_commands::{Cmd, Refusal, Reply, Undone};
 use host_ledger::Mark;
 
 /// A client of a host, which passes on the requests of one build's worker. A teller asks the host the worker's
-/// questions, and returns the answers. A seat with its shared host is a teller.
+/// questions, and returns the answers. A session handle (`Seat`) with its shared host is a teller.
 pub trait Teller {
     /// Whether a list has all exchanges of the teller so far, in sequence. An exchange is a question to the teller,
     /// with its answer.

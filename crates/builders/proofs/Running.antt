@@ -1,4 +1,4 @@
--- A proof that the result of a run of all workers follows from the result of each worker.
+-- A proof that a run of all workers meets its specification if the run of each worker meets its own.
 use Rattle.std.proofs.Common.{◌≡◌, ℕ, suc, ◌<◌, List, [], ◌∷◌, length, get_or, subst, arith}
 use Rattle.std.specs.List.{AllZip}
 use Rattle.host_ledger.specs.View.{HostView}

@@ -1,4 +1,4 @@
--- Proofs that a seat's trail has one event for each accepted question of its worker.
+-- Proofs that the event list of a session handle (`Seat`) has one event for each accepted question of its worker.
 use Rattle.std.proofs.Common.{◌≡◌, ℕ, List, [], ◌∷◌, ◌++◌, refl, sym, ap, subst, ◌∙◌}
 use Rattle.std.proofs.lemmas.List.{append-nil, append_assoc}
 use Rattle.std.proofs.lemmas.List.Elements.{filter-append}

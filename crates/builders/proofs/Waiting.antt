@@ -1,4 +1,5 @@
--- A proof that the lowest build whose worker has not ended is the minimum of a list of builds.
+-- A proof that taking the minimum over the builds of unended workers finds the lowest of them, or none if all workers
+-- have ended.
 use Rattle.std.proofs.Common.{◌≡◌, ℕ, zero, suc, ◌≤◌, min, Bool, true, false, not, cond, List, [], ◌∷◌, map, fold, filter, MatchOption, ◌⊎◌, inl, inr, refl, sym, subst, ◌∙◌, arith}
 use Rattle.std.proofs.lemmas.Bool.Decides.{leb_tells}
 use Rattle.std.proofs.lemmas.Iterator.Adapters.{option_map_id}

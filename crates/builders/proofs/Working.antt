@@ -1,4 +1,4 @@
--- Proofs on a worker's trail and report: a run meets its contract, and without a report line there is no event.
+-- Proofs that a worker's run meets its contract, and that a worker with an empty report has no events.
 use Rattle.std.proofs.Common.{◌≡◌, ℕ, Bool, false, List, [], ◌∷◌, length, inl, inr, refl, sym, ◌∙◌, ap, subst}
 use Rattle.std.specs.Prelude.{filter}
 use Rattle.std.specs.List.{AllZip}

@@ -1,4 +1,5 @@
--- The answers to a seat's questions, one after the other.
+-- The condition that hosts under the lock give a list of answers to the questions of a session handle (`Seat`), one
+-- after another.
 use Rattle.std.specs.Prelude.{◌≡◌, List, [], ◌∷◌, Ok, Err}
 use Rattle.host_ledger.specs.View.{HostView}
 use Rattle.realm_host.specs.Call.{Ask, Undo}

@@ -1,4 +1,5 @@
--- The trail of a seat, with one event for each accepted question of its worker, in sequence.
+-- The condition that the event list of a session handle (`Seat`) has one event for each accepted question of its
+-- worker, in sequence.
 use Rattle.std.specs.Prelude.{◌≡◌, ℕ, List, filter, Some, Ok}
 use Rattle.std.specs.List.{AllZip}
 use Rattle.host_commands.specs.Acts.{act_of}

@@ -1,4 +1,4 @@
--- The view of a worker: its seat, its steps and its report.
+-- The view of a worker: its session handle (`Seat`), its steps, its report, and whether it has ended.
 use Rattle.std.specs.Prelude.{◌≡◌, ℕ, ◌<◌, ◌⊎◌, Bool, false, List, [], length}
 use Rattle.host_ledger.specs.View.{HostView}
 use Rattle.host_commands.specs.declared.cmd.Step.{Step}

@@ -1,5 +1,5 @@
-//! A realm host that the threads of its builds share under a lock. Each build of the host has a seat, and workers run
-//! the builds in threads.
+//! A realm host that the threads of its builds share under a lock. Each build of the host has a session handle
+//! (`Seat`), and workers run the builds in threads.
 //!
 //! A call through `Shared` takes the lock, and asks the host under it (`build_seats::Kept`). `Shared::close` gives the
 //! host back, with an error if the seats' lists are not the history. Without one, a caller knows that each of its

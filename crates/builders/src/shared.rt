@@ -23,9 +23,9 @@ pub struct Shared<S: PageStore, L: Ledgers> {
 }
 
 impl<S: PageStore, L: Ledgers> Shared<S, L> {
-    /// Puts a host under a lock, and returns a seat for each build. The host has no history. The seat of the lowest
-    /// build comes first. All memory for the builds' events is taken here. If an allocation fails, the blanks and the
-    /// host are returned.
+    /// Puts a host under a lock, and returns a session handle (`Seat`) for each build. The host has no history. The
+    /// handle of the lowest build comes first. All memory for the builds' events is taken here. If an allocation fails,
+    /// the blanks and the host are returned.
     pub fn start(
         alloc: Global,
         blanks: Blanks,
@@ -42,7 +42,8 @@ impl<S: PageStore, L: Ledgers> Shared<S, L> {
         Ok((Shared { kept }, seats))
     }
 
-    /// Performs a command of the seat's build on the shared host. Returns the reply, or the host's refusal.
+    /// Performs, on the shared host, a command of the build whose session handle is `seat`. Returns the reply, or the
+    /// host's refusal.
     pub fn call(&self, rt: &impl Wait, seat: &mut Seat<L>, cmd: Cmd) -> Result<Reply, Refusal>
         ensures told { IfOk result (λ reply. IsCallTold L.opened (Ask cmd) (Replied reply) seat.old seat.new) }
         ensures refused { IfErr result (λ refusal. IsCallRefused L.opened (Ask cmd) refusal seat.old × (seat.new ≡ seat.old)) }
@@ -50,7 +51,8 @@ impl<S: PageStore, L: Ledgers> Shared<S, L> {
         self.kept.lock(rt).call(seat, cmd)
     }
 
-    /// Undoes the newest open operation of the seat's build: the newest that has a reverse and is not undone yet.
+    /// Undoes the newest open operation of the build whose session handle is `seat`. It is the newest one that has a
+    /// reverse and is not undone yet.
     pub fn undo(&self, rt: &impl Wait, seat: &mut Seat<L>) -> Result<Undone, Refusal>
         ensures told { IfOk result (λ done. IsCallTold L.opened Undo (WasUndone done) seat.old seat.new) }
         ensures refused { IfErr result (λ refusal. IsCallRefused L.opened Undo refusal seat.old × (seat.new ≡ seat.old)) }
@@ -58,8 +60,9 @@ impl<S: PageStore, L: Ledgers> Shared<S, L> {
         self.kept.lock(rt).undo(seat)
     }
 
-    /// Sets a mark to which the seat's build can later be rolled back. Returns the mark, or the host's refusal. The
-    /// seat is borrowed mutably, since its count is compared with the one under the lock; it stays as it is.
+    /// Sets a mark to which the build whose session handle is `seat` can later be rolled back. Returns the mark, or the
+    /// host's refusal. The handle is borrowed mutably, since its count is compared with the one under the lock; it
+    /// stays as it is.
     pub fn mark(&self, rt: &impl Wait, seat: &mut Seat<L>) -> Result<Mark, Refusal>
         ensures told { IsMarkTold L.opened seat.old result }
         ensures seat { seat.new ≡ seat.old }
@@ -67,8 +70,8 @@ impl<S: PageStore, L: Ledgers> Shared<S, L> {
         self.kept.lock(rt).mark(seat)
     }
 
-    /// Returns the number of undos that would roll the seat's build back to a mark. The error is the host's refusal.
-    /// The seat is borrowed as for `mark`.
+    /// Returns the number of undos that would roll the build of the session handle `seat` back to a mark. The error is
+    /// the host's refusal. The handle is borrowed as for `mark`.
     pub fn check_back(&self, rt: &impl Wait, seat: &mut Seat<L>, mark: Mark) -> Result<u16, Refusal>
         ensures told { IsBackTold L.opened seat.old mark result }
         ensures seat { seat.new ≡ seat.old }
@@ -76,11 +79,11 @@ impl<S: PageStore, L: Ledgers> Shared<S, L> {
         self.kept.lock(rt).check_back(seat, mark)
     }
 
-    /// Ends the sharing: takes back each build's seat and returns the host. Each build has to have one seat, with the
-    /// events that the history has of the build. At `Err` the host is returned too. Either way the host has the limits
-    /// and the capacity of the host that was handed to `start`. At `Ok` its world is a function of the limits and the
-    /// seats' lists alone. The schedule in which the builds took the lock is in the history, and leaves nothing behind
-    /// in the world.
+    /// Ends the sharing: takes back each build's session handle (`Seat`) and returns the host. Each build has to have
+    /// one handle, with the events that the history has of the build. At `Err` the host is returned too. Either way the
+    /// host has the limits and the capacity of the host that was handed to `start`. At `Ok` its world is a function of
+    /// the limits and the handles' lists alone. The schedule in which the builds took the lock is in the history, and
+    /// leaves nothing behind in the world.
     pub fn close(self, seats: Vec<Seat<L>>) -> Result<Host<S>, (CloseFault, Host<S>)>
         ensures closed { IfOk result (λ host. IsClosed host seats.items) }
         ensures order { IfOk result (λ host. IsWorldOfSeats host seats.items) }

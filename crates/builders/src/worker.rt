@@ -12,8 +12,8 @@ use std::alloc::{AllocError, Global};
 use std::marker::Model;
 use std::sync::Wait;
 
-/// A worker that performs the steps of one build on a shared host. It has the build's seat and steps, and the answers
-/// that the worker got.
+/// A worker that performs the steps of one build on a shared host. It has the build's session handle (`Seat`) and
+/// steps, and the answers that the worker got.
 pub struct Worker<L: Ledgers> {
     seat: Seat<L>,
     steps: Vec<Step>,
@@ -45,8 +45,8 @@ impl<L: Ledgers> Model for Worker<L> {
 }
 
 impl<L: Ledgers> Worker<L> {
-    /// Creates a worker that performs `steps` for the seat's build. Its report is empty. If the allocation of the
-    /// report fails, the seat and the steps are returned.
+    /// Creates a worker that performs `steps` for the build whose session handle is `seat`. Its report is empty. If the
+    /// allocation of the report fails, the handle and the steps are returned.
     pub fn build(
         alloc: Global,
         seat: Seat<L>,
@@ -103,7 +103,7 @@ impl<L: Ledgers> Worker<L> {
         *ended = work_at(rt, shared, seat, steps.as_slice(), report, gate);
     }
 
-    /// Consumes the worker, and returns its seat, its steps and its report.
+    /// Consumes the worker, and returns its session handle (`Seat`), its steps and its report.
     pub fn end(self) -> (Seat<L>, Vec<Step>, Report)
         ensures parts { (result.0 ≡ self.seat) × (result.1.items ≡ self.steps) × (result.2.lines.items ≡ self.lines) }
         ensures build { result.2.build ≡ self.seat.build }

@@ -1,4 +1,5 @@
--- Lemmas on the bytes that an input has left after one or more reads.
+-- Lemmas on the remaining bytes of an input: without a read all remain, and consecutive reads consume their bytes in
+-- sequence.
 use Rattle.std.proofs.Common.{ℕ, List, [], ◌++◌, Option, Some, None, refl, sym, ap, ◌∙◌, append_assoc}
 use Rattle.std.specs.Io.KnownBytes.{Keeps, Consumes}
 

@@ -1,4 +1,5 @@
--- Lemmas on the bytes that an output has after one or more writes.
+-- Proofs that consecutive writes append their bytes to an output in sequence, and that partial writes append a prefix
+-- of the text.
 use Rattle.std.proofs.Common.{◌≡◌, ℕ, List, [], ◌++◌, take, drop, Option, Some, None, sym, ap, ◌∙◌}
 use mathlib.Core.List.{append_assoc, append-nil}
 use Rattle.std.proofs.lemmas.List.{take-append-drop}

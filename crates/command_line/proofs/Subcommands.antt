@@ -1,4 +1,4 @@
--- Proofs about the subcommand in an accepted command line of a program that requires a subcommand.
+-- Proofs that an accepted command line of a program that requires a subcommand names one of the program's subcommands.
 use Rattle.std.proofs.Common.{◌≡◌, ◌∙◌, List, [], ◌∷◌, ◌++◌, map, Bool, true, false, refl, sym, ap, ap₂, subst, ◌⊎◌, inl, inr}
 use Rattle.std.specs.Prelude.{not, ◌&&◌, find, Option, Some, None, option_map, is_some, Box}
 use Rattle.std.specs.Box.{box_value}

@@ -1,4 +1,5 @@
--- The schedules that the options of `realmview` select, and the behaviour of builds after a refusal.
+-- The meaning of `realmview` options: the schedules to explore, the question to answer, and the behaviour of builds
+-- after a refusal.
 use Rattle.std.specs.Prelude.{ℕ, ◌==◌, ◌||◌, Bool, true, false, Option, Some, None, unwrap_or, nat_lt, if◌then◌else◌, Result, Ok, Err}
 use Rattle.command_line.specs.declared.realmview.Schedules.{Schedules}
 use Rattle.command_line.specs.declared.realmview.Schedules.TheVariants.{All, Drawn}

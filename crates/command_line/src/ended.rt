@@ -22,7 +22,8 @@ pub enum Ended<V> {
 }
 
 impl<V> Ended<V> {
-    /// Returns the outcome of a run, or the run's fault. A run that failed because the output is closed is no fault.
+    /// Returns the outcome of a program's run, or its fault as the reason to stop. A run that failed because the output
+    /// is closed is no fault.
     pub fn of_run<F>(outcome: Result<V, F>, is_closed: bool) -> Result<Ended<V>, Stop<F>>
     where
         V: Drop,

@@ -9,7 +9,7 @@ use clap::{Arg, ArgAction, ArgMatches, Command, Error, value_parser};
 use granule_addr::BuildId;
 use std::alloc::Global;
 
-/// The `clap` definition of a program, to which subcommands are yet to be added. The program has a version, and
+/// Returns the `clap` definition of a program, to which subcommands are yet to be added. The program has a version, and
 /// requires a subcommand.
 pub(crate) fn program<'a>(alloc: Global, name: &'a str, about: &'a str) -> Command<'a>
     ensures { app_of result ≡ program_named name.now }
@@ -18,7 +18,7 @@ pub(crate) fn program<'a>(alloc: Global, name: &'a str, about: &'a str) -> Comma
     named.subcommand_required(true)
 }
 
-/// The `clap` definition of a subcommand without options.
+/// Returns the `clap` definition of a subcommand without options.
 pub(crate) fn subcommand<'a>(alloc: Global, name: &'a str, about: &'a str) -> Command<'a>
     ensures app { app_of result ≡ new_app name.now }
     ensures local { (fields_of result).has_globals ≡ false }
@@ -26,7 +26,7 @@ pub(crate) fn subcommand<'a>(alloc: Global, name: &'a str, about: &'a str) -> Co
     Command::new(alloc, name).about(about)
 }
 
-/// The `clap` definition of the option `--erase`, which leaves out a build.
+/// Returns the `clap` definition of the option `--erase`, which leaves out a build.
 pub(crate) fn erase<'a>(alloc: Global, help: &'a str) -> Arg<'a>
     ensures rule { rule_of result ≡ erase_option }
     ensures local { result.global ≡ false }

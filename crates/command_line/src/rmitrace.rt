@@ -137,7 +137,7 @@ fn rmitrace() -> Program {
 // ---- names
 
 impl NameSet {
-    /// Returns whether the set has the name with index `place` in the crate `rmm_trace`.
+    /// Returns whether the set has the name whose index in the crate `rmm_trace` is `place`.
     pub fn has(&self, place: usize) -> bool
         ensures { result ≡ is_name_in self.now place }
     {

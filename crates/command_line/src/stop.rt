@@ -11,7 +11,7 @@ use std::fmt::Display;
 /// A reason why a program has not done what its command line asks for. The text of the reason is a line for standard
 /// error.
 pub trait Reason: Display + Drop {
-    /// The function from each reason to its exit status.
+    /// The exit status of each reason, as a logical function.
     ghost status_of: { Self → ℕ };
 
     /// The reason to stop after a failed allocation.

@@ -20,8 +20,8 @@ pub(crate) enum Opt {
     Text(&'static str, &'static str, &'static str),
 }
 
-/// Describes a subcommand of a program by its name, help texts and options. The help texts are a description, examples,
-/// and the help for its argument FILE.
+/// A description of a program's subcommand: its name, help texts and options. The help texts are a description,
+/// examples, and the help for its argument FILE.
 #[derive(Clone, Copy)]
 pub(crate) struct Subcommand {
     pub name: &'static str,
@@ -31,8 +31,8 @@ pub(crate) struct Subcommand {
     pub options: &'static [Opt],
 }
 
-/// Describes the command line of a program by its name, help texts and subcommands. The help texts are a description
-/// and examples. A command line has to name a subcommand.
+/// A description of a program's command line: the program's name, help texts and subcommands. The help texts are a
+/// description and examples. A command line has to name a subcommand.
 #[derive(Clone, Copy)]
 pub(crate) struct Program {
     pub name: &'static str,

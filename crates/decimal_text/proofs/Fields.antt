@@ -1,4 +1,4 @@
--- The loop invariant of `numbers_of`: the unread text spells the numbers of the list that are not yet found.
+-- Proofs that the loop of `numbers_of` keeps its invariant: the unread text spells the numbers that are not yet found.
 use Rattle.std.proofs.Common.{◌≡◌, ◌≢◌, ℕ, ◌<◌, ◌^◌, List, [], ◌∷◌, ◌++◌, length, length-append, sym, ap, ◌∙◌, arith}
 use mathlib.Core.List.{append_assoc}
 use Rattle.std.specs.List.{AllByRecursion}

@@ -1,4 +1,5 @@
--- Case analysis over a table of words: a property shown for the values of each word holds for every value of the table.
+-- Lemmas for case analysis over a table of words: a property shown for each word's values holds for every value of the
+-- table.
 use Rattle.std.proofs.Common.{◌≡◌, ℕ, ◌≤◌, List, [], ◌∷◌, cond, leb, ◌&&◌, Bool, true, false, Option, Some, None, option_map, refl, subst, inl, inr}
 use Rattle.std.specs.Option.{option_or, option_zip}
 use Rattle.std.specs.Str.{bytes_eq}

@@ -1,4 +1,5 @@
--- Proof that `up_to` gives a list exactly if it has at most `most` numbers, each of them at most the maximum.
+-- Proof that `up_to` accepts a list if and only if the list has at most `most` numbers, each of them at most the
+-- maximum.
 use Rattle.std.proofs.Common.{◌≡◌, ℕ, zero, suc, ◌≤◌, ◌<◌, ◌^◌, List, [], ◌∷◌, length, replicate, take, get_or, ◌+◌, true, leb, ltb, ◌&&◌, Some, None, refl, ap, ◌∙◌, arith}
 use Rattle.std.specs.List.{list_all, AllByRecursion}
 use Rattle.std.proofs.lemmas.Bool.{le-leb, lt-leb, leb-true, ltb-true, and_parts}

@@ -1,4 +1,4 @@
--- Facts about lists to which an item is appended, and about tests of all numbers in a range.
+-- Lemmas on lists with one more item, on successive appends, and on whether all or some numbers of a range pass a test.
 use Rattle.std.specs.Prelude.{ℕ, ◌+◌, ◌<◌, ◌≤◌, Bool, true, false, ◌&&◌, ◌||◌, List, [], ◌∷◌, ◌++◌, length, map, Option, Some, None}
 use Rattle.std.proofs.Common.{◌≡◌, zero, suc, take, get_or, refl, sym, ap, ◌∙◌, subst, append_assoc, arith}
 use Rattle.std.specs.List.{filter_map, cons_option, list_all, list_any, range_with_len}

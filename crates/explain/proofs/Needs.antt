@@ -1,4 +1,4 @@
--- Proof that the parts of `needs_checks`, appended one after another, are the whole list.
+-- Proof that appending the parts of `needs_checks` one after another appends the whole list.
 use Rattle.std.proofs.Common.{◌≡◌, ℕ, List, [], ◌∷◌, ◌++◌, map, ap, ◌∙◌}
 use Rattle.host_ledger.specs.View.{HostView}
 use Rattle.host_commands.specs.declared.cmd.Cmd.{Cmd}

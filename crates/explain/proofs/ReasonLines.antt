@@ -1,5 +1,5 @@
--- Proof that the lines that explain a refusal are those of its error, its help and its passed checks, appended one
--- after another.
+-- Proof that appending the lines of a refusal's error, help and passed checks one after another gives the lines that
+-- explain the refusal.
 use Rattle.std.proofs.Common.{◌≡◌, ℕ, ◌+◌, Bool, true, false, List, [], ◌∷◌, ◌++◌, length, string_bytes, if◌then◌else◌, append_assoc, ap, sym, ◌∙◌}
 use Rattle.std.specs.Prelude.{codes}
 use Rattle.std.specs.List.{flat_map}

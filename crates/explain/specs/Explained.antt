@@ -1,4 +1,5 @@
--- The runs of a plan, with the checks of each turn that is refused.
+-- The reports of the turns of a plan's run: each turn's line, and the checks of a refused step up to the first failed
+-- check.
 use Rattle.std.specs.Prelude.{◌≡◌, ℕ, Bool, List, [], ◌∷◌, cond, map, string_bytes, Option, Some, None, option_map}
 use Rattle.host_ledger.specs.View.{HostView}
 use Rattle.host_commands.specs.declared.cmd.Step.{Step}

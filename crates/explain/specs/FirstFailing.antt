@@ -1,4 +1,5 @@
--- The statements that the first failed check of a step gives the same refusal as the host.
+-- The statements that the first failed check determines the host's refusal, for `undo`, `mark`, `back`, an abort's
+-- first turn, and a command's requirements.
 use Rattle.std.specs.Prelude.{◌≡◌, ℕ, ◌+◌, nat_le, List, map, true, Option, Some, None}
 use Rattle.host_commands.specs.Checks.{Check as HostCheck, build_checks as host_build_checks, checks_of, first_that_holds}
 use Rattle.host_commands.specs.Needs.{tables_named}

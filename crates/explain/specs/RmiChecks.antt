@@ -1,4 +1,4 @@
--- The check of a fact that the RMM requires, whose failure gives an RMI result.
+-- The check that consists of a fact that the RMM requires, whether the fact fails, and the RMI result for a failure.
 use Rattle.std.specs.Prelude.{Bool}
 use Rattle.host_commands.specs.declared.refusal.Refusal.TheVariants.{Rmi}
 use Rattle.realm_model.specs.declared.rmi.Rmi as answer

@@ -1,4 +1,4 @@
--- The checks of a step's turn, by ascending number of the refusals that they give.
+-- The checks of a step's turn, by ascending number of the refusals that their failures give.
 use Rattle.std.specs.Prelude.{ℕ, ◌==◌, nat_lt, List, [], ◌∷◌, ◌++◌, length, Bool, true, false, Option, Some, None, Result, Err, if◌then◌else◌}
 use Rattle.realm_model.specs.Running.{running_count}
 use Rattle.realm_model.specs.World.{realm_of}

@@ -41,7 +41,7 @@ pub(crate) fn push_error(
     text.push_str(")")
 }
 
-/// Returns the phrase that explains a failed check of a step, by the required fact and the fact that was found.
+/// Returns the error phrase for a failed check of a step, which states the required fact and the found fact.
 pub(crate) fn error_of<S: PageStore>(
     host: &Host<S>,
     build: BuildId,

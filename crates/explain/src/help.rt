@@ -34,7 +34,7 @@ enum Steps {
 }
 
 impl Help {
-    /// Creates the help for a check that has none.
+    /// Creates help without words or steps, for a check that has no help.
     pub(crate) fn nothing() -> Self {
         Help::say(plain(""))
     }

@@ -71,8 +71,8 @@ fn realm_first<S: PageStore>(host: &Host<S>, build: BuildId, step: &Step) -> Phr
     }
 }
 
-/// Proposes to undo the creation of a build's realm, after the words `before`. Returns the words `alone` if that
-/// creation is not open.
+/// Creates help that proposes to undo the creation of a build's realm, with the words `before` in front. Returns the
+/// words `alone` if that creation is not open.
 pub(crate) fn undoing_realm<S: PageStore>(
     host: &Host<S>,
     build: BuildId,

@@ -1,4 +1,5 @@
-//! Theorems that relate the first failed check of a step to the host's refusal.
+//! Theorems that the first failed check determines the host's refusal, for `undo`, `mark`, `back`, an abort's first
+//! turn, and a command's requirements.
 ghost use Rattle.std.specs.Prelude.{ℕ, Option};
 ghost use Rattle.host_commands.specs.declared.cmd.Cmd.{Cmd};
 ghost use Rattle.host_ledger.specs.View.{HostView};

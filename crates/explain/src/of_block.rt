@@ -1,4 +1,4 @@
-//! The check that a block is free, for refusal 11 (`NoBlock`).
+//! The check that an aligned block is free, whose failure gives refusal 11 (`NoBlock`).
 ghost use Rattle.std.specs.Prelude.{◌≡◌, ◌+◌, ◌<◌, ◌≤◌};
 ghost use Rattle.explain.specs.OfBlock.{is_unleased, are_unleased, is_free_at, has_block, block_check};
 
@@ -56,7 +56,7 @@ pub(crate) fn has_block<S: PageStore>(host: &Host<S>, order: Order) -> bool
     false
 }
 
-/// Creates the check that an aligned block of the given order is free. The check is for refusal 11 (`NoBlock`).
+/// Creates the check that an aligned block of the given order is free. A failure gives refusal 11 (`NoBlock`).
 pub(crate) fn block_check<S: PageStore>(host: &Host<S>, order: Order) -> Check
     ensures { result ≡ block_check host.now order }
 {

@@ -1,4 +1,4 @@
-//! The checks of each command, in sequence. RMM 1.0, RMI commands.
+//! The checks that the host, the page store and the RMM make of each command, in sequence. RMM 1.0, RMI commands.
 ghost use Rattle.std.specs.Prelude.{◌≡◌, ◌++◌, ◌≤◌, OnOk, length};
 ghost use Rattle.explain.specs.Commands.{above_of, take_checks, rtt_create_checks, init_ripas_checks, data_create_checks, unknown_checks};
 ghost use Rattle.explain.specs.Commands.{guest_write_checks, enter_checks, recs_checks, tables_checks, monitor_checks, command_checks};

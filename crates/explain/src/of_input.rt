@@ -35,7 +35,7 @@ fn page_check(page: u16, found: Option<GranuleState>, required: GranuleState, fa
     input_check(Fact::Input(fact), fails)
 }
 
-/// The check that the granule of a build's page is DELEGATED.
+/// Creates the check that the granule of a given page of a build is DELEGATED.
 pub(crate) fn page_delegated<S: PageStore>(host: &Host<S>, build: BuildId, page: u16) -> Check
     ensures { result ≡ page_delegated host.now build page }
 {
@@ -43,7 +43,7 @@ pub(crate) fn page_delegated<S: PageStore>(host: &Host<S>, build: BuildId, page:
     page_check(page, now, Delegated, !matches!(now, Some(Delegated)))
 }
 
-/// Adds the checks that the granules of a build's pages are DELEGATED.
+/// Adds the checks that the granules of the given pages of a build are DELEGATED.
 pub(crate) fn add_delegated<S: PageStore>(
     host: &Host<S>,
     build: BuildId,
@@ -58,7 +58,7 @@ pub(crate) fn add_delegated<S: PageStore>(
     Ok(())
 }
 
-/// The check that the granule of a build's page is UNDELEGATED.
+/// Creates the check that the granule of a given page of a build is UNDELEGATED.
 pub(crate) fn page_undelegated<S: PageStore>(host: &Host<S>, build: BuildId, page: u16) -> Check
     ensures { result ≡ page_undelegated host.now build page }
 {
@@ -87,7 +87,7 @@ fn is_protected_at(ipa: u32, width: u8) -> bool
     ipa < 1 << top
 }
 
-/// The check that an IPA granule lies in the protected half of the address space of the build's realm.
+/// Creates the check that an IPA granule lies in the protected half of the address space of a build's realm.
 pub(crate) fn protected<S: PageStore>(host: &Host<S>, build: BuildId, ipa: u32) -> Check
     ensures { result ≡ protected host.now build ipa }
 {
@@ -98,7 +98,7 @@ pub(crate) fn protected<S: PageStore>(host: &Host<S>, build: BuildId, ipa: u32) 
     )
 }
 
-/// The check that the level of a new table is 2 or 3.
+/// Creates the check that the level of a new table is 2 or 3.
 pub(crate) fn table_level(level: u8) -> Check
     ensures { result ≡ table_level level }
 {
@@ -108,7 +108,7 @@ pub(crate) fn table_level(level: u8) -> Check
     )
 }
 
-/// The check that the first IPA granule of a table is aligned for the level of the table.
+/// Creates the check that the first IPA granule of a table is aligned for the level of the table.
 pub(crate) fn table_start(ipa: u32, level: u8) -> Check
     ensures { result ≡ table_start ipa level }
 {
@@ -119,7 +119,8 @@ pub(crate) fn table_start(ipa: u32, level: u8) -> Check
     )
 }
 
-/// The check that the count of a `ripas` step is 1 to 512. The step sets the RIPAS of that many pages to RAM.
+/// Creates the check that the count of a `ripas` step is from 1 to 512. The step sets the RIPAS of that many pages to
+/// RAM.
 pub(crate) fn run_count(count: u16) -> Check
     ensures { result ≡ run_count count }
 {
@@ -129,7 +130,7 @@ pub(crate) fn run_count(count: u16) -> Check
     )
 }
 
-/// The check that one table of level 3 covers the `count` IPA granules from `ipa` on.
+/// Creates the check that one table of level 3 covers the `count` IPA granules from `ipa` on.
 pub(crate) fn one_table(ipa: u32, count: u16) -> Check
     ensures { result ≡ one_table ipa count }
 {

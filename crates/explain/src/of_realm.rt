@@ -29,7 +29,7 @@ fn state_check(found: Option<RealmState>, required: RealmState, fails: bool) -> 
     rmi_check(fact, fails, Rmi::REALM)
 }
 
-/// The check that the realm of a build is NEW.
+/// Creates the check that the realm of a build is NEW.
 pub(crate) fn realm_new<S: PageStore>(host: &Host<S>, build: BuildId) -> Check
     ensures { result ≡ realm_new host.now build }
 {
@@ -37,7 +37,7 @@ pub(crate) fn realm_new<S: PageStore>(host: &Host<S>, build: BuildId) -> Check
     state_check(found, New, !matches!(found, Some(New)))
 }
 
-/// The check that the realm of a build is ACTIVE.
+/// Creates the check that the realm of a build is ACTIVE.
 pub(crate) fn realm_active<S: PageStore>(host: &Host<S>, build: BuildId) -> Check
     ensures { result ≡ realm_active host.now build }
 {

@@ -61,7 +61,7 @@ fn state_of_rec<S: PageStore>(host: &Host<S>, build: BuildId, number: RecNo) -> 
     }
 }
 
-/// The check that the realm of a build has REC `number`.
+/// Creates the check that the realm of a build has REC `number`.
 pub(crate) fn rec_there<S: PageStore>(host: &Host<S>, build: BuildId, number: RecNo) -> Check
     ensures { result ≡ rec_there host.now build number }
 {
@@ -81,7 +81,7 @@ fn rec_check(number: RecNo, found: Option<RecState>, required: RecState, fails: 
     rmi_check(fact, fails, Rmi::REC)
 }
 
-/// The check that the REC is READY.
+/// Creates the check that REC `number` of a build's realm is READY.
 pub(crate) fn rec_ready<S: PageStore>(host: &Host<S>, build: BuildId, number: RecNo) -> Check
     ensures { result ≡ rec_ready host.now build number }
 {
@@ -89,7 +89,7 @@ pub(crate) fn rec_ready<S: PageStore>(host: &Host<S>, build: BuildId, number: Re
     rec_check(number, found, Ready, !matches!(found, Some(Ready)))
 }
 
-/// The check that the REC is RUNNING.
+/// Creates the check that REC `number` of a build's realm is RUNNING.
 pub(crate) fn rec_is_running<S: PageStore>(host: &Host<S>, build: BuildId, number: RecNo) -> Check
     ensures { result ≡ rec_is_running host.now build number }
 {

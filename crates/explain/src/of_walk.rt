@@ -1,5 +1,5 @@
-//! Checks on the end of a table walk: its level and its entry. The refusal is RMI_ERROR_RTT, unless a check says
-//! otherwise. RMM 1.0, RTT walk, RMI_ERROR_RTT.
+//! Checks on the end of a table walk: its level and its entry. The refusal is RMI_ERROR_RTT, unless stated otherwise.
+//! RMM 1.0, RTT walk, RMI_ERROR_RTT.
 ghost use Rattle.std.specs.Prelude.{◌≡◌, ◌+◌, ◌-◌, ◌≤◌};
 ghost use Rattle.realm_host.specs.declared.reading.RowView.{RowView as Row};
 ghost use Rattle.explain.specs.OfWalk.{rtt_check, level_of, state_of, granule_of_row, walk_ends, entry_unassigned};
@@ -55,7 +55,7 @@ fn granule_of_row(row: Option<RowView>) -> Option<Gran>
     }
 }
 
-/// The check that the walk for an IPA granule towards a level ends at that level.
+/// Creates the check that the walk for an IPA granule towards a level ends at that level.
 pub(crate) fn walk_ends<S: PageStore>(host: &Host<S>, build: BuildId, ipa: u32, to: Level) -> Check
     ensures { result ≡ walk_ends host.now build ipa to }
 {
@@ -69,7 +69,7 @@ pub(crate) fn walk_ends<S: PageStore>(host: &Host<S>, build: BuildId, ipa: u32, 
     rtt_check(fact, ended != required, ended)
 }
 
-/// The check that the last entry of a walk to level 3 is UNASSIGNED.
+/// Creates the check that the last entry of the walk for an IPA granule towards level 3 is UNASSIGNED.
 pub(crate) fn entry_unassigned<S: PageStore>(host: &Host<S>, build: BuildId, ipa: u32) -> Check
     ensures { result ≡ entry_unassigned host.now build ipa }
 {
@@ -83,7 +83,7 @@ pub(crate) fn entry_unassigned<S: PageStore>(host: &Host<S>, build: BuildId, ipa
     rtt_check(fact, !matches!(found, Some(EntryState::Unassigned)), level)
 }
 
-/// The check that the last entry of a walk to level 3 is ASSIGNED.
+/// Creates the check that the last entry of the walk for an IPA granule towards level 3 is ASSIGNED.
 pub(crate) fn entry_assigned<S: PageStore>(host: &Host<S>, build: BuildId, ipa: u32) -> Check
     ensures { result ≡ entry_assigned host.now build ipa }
 {
@@ -97,7 +97,7 @@ pub(crate) fn entry_assigned<S: PageStore>(host: &Host<S>, build: BuildId, ipa: 
     rtt_check(fact, !matches!(found, Some(EntryState::Assigned)), level)
 }
 
-/// The check that the last entry of a walk towards a level is not TABLE.
+/// Creates the check that the last entry of the walk for an IPA granule towards a level is not TABLE.
 pub(crate) fn entry_no_table<S: PageStore>(
     host: &Host<S>,
     build: BuildId,
@@ -115,7 +115,8 @@ pub(crate) fn entry_no_table<S: PageStore>(
     )
 }
 
-/// The check that the last entry of a walk to level 3 leads to a granule. The refusal is RMI_ERROR_INPUT.
+/// Creates the check that the last entry of the walk for an IPA granule towards level 3 leads to a granule. The refusal
+/// is RMI_ERROR_INPUT.
 pub(crate) fn entry_leads<S: PageStore>(host: &Host<S>, build: BuildId, ipa: u32) -> Check
     ensures { result ≡ entry_leads host.now build ipa }
 {

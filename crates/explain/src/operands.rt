@@ -46,7 +46,7 @@ fn push_all(pages: &mut ArrayVec<u16, 17>, more: &[u16])
     }
 }
 
-/// Returns the pages that a command names, in the order of its operands.
+/// Returns the pages that a command names, in the sequence of its operands.
 #[tactic(auto, unfolding(host_commands::specs::Needs::operands))]
 pub(crate) fn pages_named(cmd: &Cmd) -> ArrayVec<u16, 17>
     ensures value { result.items ≡ pages_named cmd.now }
@@ -86,7 +86,8 @@ fn push_found(granules: &mut ArrayVec<Gran, 17>, found: Option<Gran>)
     }
 }
 
-/// Returns the granules of the given pages, in order. Pages that the build does not have are left out.
+/// Returns the granules of the given pages, in the sequence of the pages. Pages that the build does not have are left
+/// out.
 pub(crate) fn granules_of<S: PageStore>(
     host: &Host<S>,
     build: BuildId,

@@ -1,4 +1,4 @@
-//! The phrases for the passed checks of a step.
+//! The phrases that describe the passed checks of a step.
 use crate::check::Fact;
 use crate::host_facts::{BuildFact, RoomFact, UndoFact};
 use crate::names::{entry_state, rec_state};

@@ -63,7 +63,7 @@ pub(crate) fn pages(count: u16) -> Value {
     many(count as usize, "page", "pages")
 }
 
-/// Returns the value for a page's number, or a placeholder letter if there is no page.
+/// Returns the value for a page's number, or for a placeholder letter if there is no page.
 pub(crate) fn page_or(page: Option<u16>, letter: &'static str) -> Value {
     match page {
         Some(page) => Value::Number(page as u64),

@@ -1,4 +1,4 @@
-//! Functions that read values for messages from a host or a step, beyond the values of the failed check.
+//! Functions that read, from a host or a step, the values for messages that the failed check does not contain.
 use crate::of_block::has_block;
 use crate::operands::pages_named;
 use arrayvec::ArrayVec;
@@ -105,7 +105,7 @@ pub(crate) fn first_of_tables<S: PageStore>(
     None
 }
 
-/// Returns the build's page number for a granule, if any.
+/// Returns the page number that a build has for a granule, or `None` if the build has none.
 pub(crate) fn page_of<S: PageStore>(host: &Host<S>, build: BuildId, granule: Gran) -> Option<u16> {
     for page in 0..host.page_count(build) {
         if host.page_granule(build, page) == Some(granule) {
@@ -136,7 +136,7 @@ pub(crate) fn size_of_order(order: u8) -> u16 {
     }
 }
 
-/// Returns the least order whose blocks have at least `count` pages.
+/// Returns the least order whose blocks have at least `count` pages, or `None` if no block has so many.
 pub(crate) fn order_for(count: u16) -> Option<Order> {
     for number in 0..10 {
         if let Some(order) = Order::new(number) {
@@ -242,7 +242,7 @@ pub(crate) fn is_unassigned<S: PageStore>(host: &Host<S>, build: BuildId, ipa: u
     }
 }
 
-/// Finds the first IPA granule from `from` on that has an UNASSIGNED level 3 entry, or lacks one if `unassigned` is
+/// Finds the first IPA granule from `from` on with an UNASSIGNED level 3 entry, or without one if `unassigned` is
 /// `false`. Only the table of level 3 that serves `from` is searched.
 pub(crate) fn first_entry<S: PageStore>(
     host: &Host<S>,

@@ -1,4 +1,4 @@
-//! Aborts of builds that are unfinished when a plan's run ends.
+//! Unfinished aborts at the end of a plan's run, and the lines that report them.
 ghost use Rattle.std.specs.Prelude.{◌≡◌, ◌++◌, [], IfOk, OnOk, string_bytes};
 ghost use Rattle.std.specs.List.{cons_option, filter_map, flat_map, range_with_len};
 ghost use Rattle.explain.specs.Unfinished.{unfinished_abort, turns_noun, abort_lines};
@@ -43,7 +43,7 @@ fn add_if(
     Ok(())
 }
 
-/// Returns the unfinished aborts of a host, in the order of their builds.
+/// Returns the unfinished aborts of a host, by ascending number of their builds.
 pub fn unfinished_aborts<S: PageStore>(
     alloc: Global,
     host: &Host<S>,

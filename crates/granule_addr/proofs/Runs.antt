@@ -1,4 +1,4 @@
--- Runs of consecutive numbers: a run with one more number at its end, and the first numbers of a run.
+-- Lemmas on runs of consecutive numbers: the run with one more number at its end, and the first numbers of a run.
 use Rattle.std.proofs.Common.{◌≡◌, ℕ, ◌+◌, ◌≤◌, ◌∷◌, [], ◌++◌, take, sym, ap, ◌∙◌}
 use Rattle.std.specs.List.{range_with_len}
 use Rattle.std.proofs.lemmas.List.{map-id}

@@ -1,4 +1,4 @@
--- Lists of one repeated value.
+-- The proof that each element of a list of one repeated value is that value.
 use Rattle.std.proofs.Common.{◌≡◌, ℕ, zero, suc, replicate, get_or, refl}
 
 -- each element of a list of one repeated value is that value

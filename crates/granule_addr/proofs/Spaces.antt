@@ -1,4 +1,5 @@
--- The address space of each IPA width: the starting tables serve all of it, and half of it is protected.
+-- Proofs, for each IPA width, that the starting tables serve exactly the address space, and that half of it is
+-- protected.
 use Rattle.std.proofs.Common.{◌≡◌, ◌+◌, ◌-◌, ◌*◌, ◌^◌, ◌≤◌, ℕ, true, sym, ap, ◌∙◌, arith}
 use Rattle.std.proofs.lemmas.Bool.{and_parts, leb-true}
 use Rattle.std.proofs.lemmas.Nat.{pow-add}

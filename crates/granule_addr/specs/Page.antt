@@ -1,4 +1,4 @@
--- The bytes of a page. RMM 1.0, Granule: 4 KiB.
+-- The bytes of a page that has one value in each byte. RMM 1.0, Granule: 4 KiB.
 use Rattle.std.specs.Prelude.{ℕ, List, replicate}
 
 -- a page with one value in each byte

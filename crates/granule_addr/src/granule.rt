@@ -1,4 +1,4 @@
-//! The numbers by which a machine's granules are named.
+//! Granule numbers, and the largest number of granules that a machine can have.
 ghost use Rattle.std.specs.Prelude.{◌≡◌, ◌<◌, ◌&&◌, nat_lt, Some, None, if◌then◌else◌};
 
 use std::marker::Model;

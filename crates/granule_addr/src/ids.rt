@@ -1,4 +1,4 @@
-//! The numbers that name builds, realms and RECs.
+//! The numbers of builds and RECs, and the VMIDs of realms.
 ghost use Rattle.std.specs.Prelude.{◌≡◌, ◌<◌, ◌≤◌, nat_lt, nat_le, Some, None, if◌then◌else◌};
 
 use std::marker::Model;

@@ -1,4 +1,5 @@
--- Proofs that a prepared command or undo is refused by the host's own checks, or else yields its actions.
+-- Proofs that preparing a command or an undo gives the refusal of the host's own checks, or else the actions for its
+-- operation.
 use Rattle.std.proofs.Common.{◌≡◌, ℕ, ◌<◌, Bool, true, false, List, Option, Some, None, Result, Ok, Err, sym, ap, ◌∙◌}
 use Rattle.std.specs.Prelude.{nat_lt, option_and_then}
 use Rattle.std.specs.List.{last_or}

@@ -1,4 +1,5 @@
--- Proofs on the search for a free block: the tests of granules and ranges, and the refusal of a Take.
+-- Proofs that the search of the leases finds whether a block is free, and that a Take is refused if and only if none
+-- is.
 use Rattle.std.proofs.Common.{◌≡◌, ℕ, zero, suc, ◌+◌, ◌<◌, ◌≤◌, Bool, true, false, not, ◌&&◌, ◌||◌, List, [], ◌∷◌, length, Option, Some, None, refl, ap, ◌∙◌, subst, arith}
 use Rattle.std.specs.Prelude.{is_none, is_some, unwrap_or, slice_index_or}
 use Rattle.std.specs.List.{list_all, list_any, range_with_len}

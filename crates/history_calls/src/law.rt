@@ -15,8 +15,8 @@ pub fn calls_lead_to_the_machine()
     ensures { (limits : Limits) (history : List Event) → LeadsToItsMachine limits history }
 {}
 
-/// Proves that a host performs exactly the operation computed beforehand for a command. It does so when the command is
-/// committed. This holds of each command but the read of a page, whose byte is not known before.
+/// Proves that for each command but a Peek, a host performs exactly the operation computed beforehand. It does so when
+/// the command is committed. The byte that a Peek reads is not known before.
 pub fn prepared_is_performed()
     ensures { (host : HostView) (build : ℕ) (cmd : Cmd) → IsPreparedAsAsked host build cmd }
 {}

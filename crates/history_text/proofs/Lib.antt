@@ -1,4 +1,4 @@
--- proofs on words and their numbers
+-- Proofs on the texts of operations, each a word and its numbers, and then on the lines of a history.
 pub mod Auxiliaries
 pub mod ActMeans
 pub mod RowsMake

@@ -1,4 +1,4 @@
--- Proofs that the rows of the parser return an operation exactly if all numbers are in range.
+-- Proofs that each row of the parser's table gives an operation if and only if all its numbers are in range.
 use Rattle.std.proofs.Common.{◌≡◌, ℕ, ◌≤◌, List, [], ◌∷◌, length, replicate, Bool, true, false, get_or, cond, leb, ◌&&◌, Option, Some, None, option_map, refl, subst}
 use Rattle.std.specs.Option.{option_zip}
 use Rattle.std.proofs.lemmas.Bool.{le-leb, leb-true, and_parts}

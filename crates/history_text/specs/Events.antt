@@ -1,4 +1,4 @@
--- The text of an event: the number of its build, a space, and its operation.
+-- The text of an event: the number of its build, a space, and the text of its operation.
 use Rattle.std.specs.Prelude.{◌≡◌, ℕ, ◌<◌, List, ◌∷◌, ◌++◌}
 use Rattle.std.specs.Fmt.{decimal}
 use Rattle.realm_model.specs.declared.act.Event.{Event}

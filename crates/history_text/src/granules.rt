@@ -1,4 +1,4 @@
-//! Granule numbers and IPA granule numbers in the text of a history.
+//! The largest granule and IPA granule numbers in a history's text, and the conversion of numbers to granules.
 ghost use Rattle.std.specs.Prelude.{◌≡◌, ◌≤◌};
 ghost use Rattle.decimal_text.specs.Rows.{up_to};
 ghost use Rattle.history_text.specs.Written.{granule, ipa};

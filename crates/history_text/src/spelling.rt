@@ -10,7 +10,7 @@ use realm_model::Act;
 /// this many: the granule and the number of the REC, and 16 auxiliary granules.
 const MOST_NUMBERS: usize = 18;
 
-/// The word for an operation in the text of a history.
+/// Returns the word for an operation in the text of a history.
 pub fn word_of(act: &Act) -> &'static str
     ensures { result.now ≡ (written_act act.now).word }
 {
@@ -94,7 +94,7 @@ fn rec_numbers(granule: Gran, number: RecNo, auxiliaries: &[Gran]) -> ArrayVec<u
     numbers
 }
 
-/// The numbers in the text of an operation, from left to right.
+/// Returns the numbers in the text of an operation, from left to right.
 pub fn numbers_of(act: &Act) -> ArrayVec<u32, MOST_NUMBERS>
     ensures { result.items ≡ (written_act act.now).numbers }
 {

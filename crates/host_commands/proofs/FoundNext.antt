@@ -1,4 +1,5 @@
--- Proofs on page lookups that follow one another: the granules found so far, or the first missing page.
+-- Proofs that page lookups one after another give the granules of all pages, or else the refusal of the first missing
+-- page.
 use Rattle.std.proofs.Common.{◌≡◌, ℕ, ◌+◌, ◌<◌, List, [], ◌∷◌, ◌++◌, map, length, take, drop, get_or, Option, Some, None, Ok, Err, refl, sym, ap, ◌∙◌, subst, append_assoc, arith}
 use Rattle.std.specs.Prelude.{Result}
 use Rattle.std.proofs.lemmas.List.{map-append, length-append, take_more, take-append-drop}

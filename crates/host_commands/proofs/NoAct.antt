@@ -1,4 +1,4 @@
--- A proof that an IPA granule or level which no operation can have fails an input check of the RMM.
+-- A proof that a command with an IPA granule or level that no operation can have fails an input check of the RMM.
 use Rattle.std.proofs.Common.{◌≡◌, ℕ, ◌-◌, ◌^◌, ◌<◌, ◌≤◌, true, false, Bool, cond, List, [], ◌∷◌, length, Option, Some, None, Err, refl, sym, ap, ◌∙◌, arith}
 use Rattle.std.specs.Prelude.{◌&&◌, ◌||◌, ◌==◌, ◌%◌, nat_le}
 use Rattle.std.specs.FinMap.{get}

@@ -1,4 +1,5 @@
--- Proofs on the refusal that a list of checks gives: that of the first check that holds.
+-- Proofs that a list of checks gives the refusal of the first check whose condition holds, and none if no condition
+-- holds.
 use Rattle.std.proofs.Common.{◌≡◌, ℕ, true, false, cond, List, [], ◌∷◌, ◌++◌, map, Option, Some, None, Ok, Err, refl, sym, ap, ◌∙◌}
 use Rattle.std.specs.Prelude.{Result, is_none}
 use Rattle.host_commands.specs.declared.refusal.Refusal.{Refusal}

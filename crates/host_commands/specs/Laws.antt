@@ -1,4 +1,5 @@
--- Theorems on the operation of a command, and on its outcome.
+-- The statements of the theorems on a command's operation: its granules, its agreement with the machine, its outcome
+-- and its input errors.
 use Rattle.std.specs.Prelude.{◌≡◌, ◌==◌, ℕ, List, length, slice_index, true, false, Option, Some, None, Err}
 use Rattle.std.specs.List.{All}
 use Rattle.granule_addr.specs.Ipa.{is_width}

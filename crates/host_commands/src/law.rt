@@ -25,7 +25,7 @@ pub fn outcome_ignores_allocation()
 {}
 
 /// Proves that a command with an impossible IPA granule or level gets RMI_ERROR_INPUT. Such a granule or level can be
-/// in no operation. The RMM refuses the command so, whatever else is wrong.
+/// in no operation. The RMM refuses the command so, whatever else is wrong, if the realm's IPA width is valid.
 pub fn missing_act_is_an_input_error()
     ensures { (cmd : Cmd) (granules : List ℕ) (allocated : Allocated) (rd : Seen) (cells : List Seen) → NoActIsInputError cmd granules allocated rd cells }
 {}

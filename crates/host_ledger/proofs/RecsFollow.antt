@@ -1,4 +1,4 @@
--- The RECs of a build's realm after one more operation of the build.
+-- Proofs that the ledger's update of a build's RECs gives the RECs after one more operation, with rising numbers.
 use Rattle.std.proofs.Common.{◌≡◌, ℕ, ◌+◌, ◌-◌, ◌<◌, ◌≤◌, ⊎_elim, List, [], ◌∷◌, ◌++◌, length, take, refl, sym, ap, ◌∙◌, subst, arith}
 use Rattle.std.specs.List.{flat_map}
 use Rattle.std.proofs.lemmas.Bool.{cases_lt}

@@ -1,4 +1,5 @@
--- The number of a build's running RECs, and the room that the build has used, after one more operation of the build.
+-- Proofs that one more operation of a build changes its number of running RECs and its used room by that operation's
+-- own amounts.
 use Rattle.std.proofs.Common.{◌≡◌, ℕ, ◌+◌, Bool, true, false, cond, List, [], ◌∷◌, ◌++◌, length, Some, refl, ap, ◌∙◌, arith}
 use Rattle.std.proofs.lemmas.List.{length-append}
 use Rattle.realm_model.specs.declared.act.Act.{Act}

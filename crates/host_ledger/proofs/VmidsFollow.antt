@@ -1,4 +1,4 @@
--- The VMIDs in use after one more operation.
+-- Proofs that the ledger's update of the VMID pool gives the VMIDs in use after one more operation.
 use Rattle.std.proofs.Common.{◌≡◌, ℕ, ◌%◌, ◌==◌, Bool, true, false, not, ◌&&◌, List, map, Ok, Some, refl, sym, ap, ◌∙◌, ⊎_elim}
 use Rattle.std.specs.Prelude.{nat_le}
 use Rattle.std.specs.List.{list_all}

@@ -1,4 +1,4 @@
--- The records that a host keeps beside its history, as functions of the history.
+-- The records that a host keeps in addition to its history, as functions of the history.
 use Rattle.std.specs.Prelude.{◌≡◌, ℕ, nat_lt, ◌+◌, ◌-◌, ◌*◌, ◌^◌, ◌<◌, ◌≤◌, true, false, ◌&&◌, List, [], ◌∷◌, ◌++◌, map, take, Option, Some, None, length, slice_get, vec_capacity}
 use Rattle.std.specs.List.{All}
 use Rattle.std.specs.Global.{Vec}

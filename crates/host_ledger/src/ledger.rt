@@ -147,9 +147,9 @@ impl HostLedger {
         })
     }
 
-    /// The events recorded so far, which form a legal history. No build has used more than its room in it, or had more
-    /// than 512 operations open at any time. A build in abort has something open, and each mark is one that its build
-    /// can go back to. Each build can be left out of the history.
+    /// Returns the events recorded so far, which form a legal history. No build has used more than its room in it, or
+    /// had more than 512 operations open at any time. A build in abort has something open, and each mark is one that
+    /// its build can go back to. Each build can be left out of the history.
     pub fn history(&self) -> &[Event]
         ensures events { result.now ≡ self.now.history }
         ensures legal { IsLegal self.now.limits self.now.history }
@@ -161,7 +161,7 @@ impl HostLedger {
         self.history.as_slice()
     }
 
-    /// The number of history entries reserved for each build.
+    /// Returns the number of history entries reserved for each build.
     pub fn capacity(&self) -> u16
         ensures value { result ≡ self.now.capacity }
         ensures few { result ≤ 16384 }
@@ -169,7 +169,7 @@ impl HostLedger {
         self.capacity
     }
 
-    /// The number of builds.
+    /// Returns the number of builds.
     pub fn build_count(&self) -> u8
         ensures value { result ≡ self.now.limits.builds }
         ensures few { result ≤ 8 }
@@ -300,7 +300,7 @@ impl HostLedger {
         self.leases.page(build, page)
     }
 
-    /// The number of pages of a build.
+    /// Returns the number of pages of a build.
     pub fn page_count(&self, build: BuildId) -> u16
         requires { build < self.now.limits.builds }
         ensures { result ≡ length (pages_of_build self.now build) }
@@ -315,8 +315,8 @@ impl HostLedger {
         self.holders.is_held_by(granule, build)
     }
 
-    /// The build that leases the granule. The result is `None` if no build does, or if the machine does not have the
-    /// granule.
+    /// Returns the build that leases the granule. The result is `None` if no build does, or if the machine does not
+    /// have the granule.
     pub fn holder(&self, granule: Gran) -> Option<BuildId>
         ensures { result ≡ slice_index_or (world_of self.now).leases granule None }
     {

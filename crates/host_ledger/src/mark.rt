@@ -14,14 +14,14 @@ pub struct Mark {
 }
 
 impl Mark {
-    /// The number of operations that the build could still undo when the mark was set.
+    /// Returns the number of operations that the build could still undo when the mark was set.
     pub fn length(&self) -> u16
         ensures { result ≡ self.now.length }
     {
         self.length
     }
 
-    /// The number of events in the history when the mark was set.
+    /// Returns the number of events in the history when the mark was set.
     pub fn place(&self) -> u32
         ensures { result ≡ self.now.place }
     {

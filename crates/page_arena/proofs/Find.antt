@@ -1,4 +1,4 @@
--- The first element of a list that passes a test.
+-- Proofs that a search of a list finds the first element that passes a test, or nothing if no element passes.
 use Rattle.std.proofs.Common.{◌≡◌, ℕ, zero, suc, ◌<◌, Bool, true, false, List, [], ◌∷◌, length, get_or, refl, ◌∙◌, arith}
 use Rattle.std.specs.Prelude.{None, Some}
 use Rattle.std.specs.List.{find}

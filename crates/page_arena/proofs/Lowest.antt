@@ -1,4 +1,4 @@
--- The lowest free block of an order.
+-- Proofs that a linear scan finds the lowest free block of an order, or nothing if there is no such block.
 use Rattle.std.proofs.Common.{◌≡◌, ℕ, suc, ◌+◌, ◌-◌, ◌*◌, ◌/◌, ◌%◌, ◌^◌, ◌<◌, ◌≤◌, Bool, true, false, List, length, get_or, inl, inr, refl, sym, ap, subst, ◌∙◌, arith}
 use Rattle.std.specs.Prelude.{◌==◌, ◌&&◌, if◌then◌else◌, None, Some, nat_le, nat_lt}
 use Rattle.std.specs.List.{list_all, range_with_len}

@@ -1,5 +1,5 @@
--- The ownership of a row (an array of items): items are split off and joined again. Assumes the separation logic
--- `Logic`.
+-- Proofs that ownership of a row (an array of items) can be split into ownership of single items and joined again.
+-- Assumes the separation logic `Logic`.
 --     Starts, Owner, start_val, owner_val      the two structs, and the machine values that they are
 --     found            the item at an index.        begins_below      the offset where it begins fits 64 bits
 --     null_lends, null_owns        nothing lies at null

@@ -14,8 +14,9 @@ use granule_addr::MOST_PAGES;
 use std::alloc::{AllocError, Global};
 use std::marker::Model;
 
-/// All pages of a machine, in one allocation. Each page has 4,096 bytes, which are in its slot. The slots that are used
-/// come first, and nothing is written yet after them. The allocation is freed on drop.
+/// All pages of a machine, in one allocation. Each page's 4,096 bytes are in its own slot, or in slot 0, which has
+/// zeros and is shared. The slots in use are at the start of the allocation, and the memory after them is not written
+/// yet. The allocation is freed on drop.
 pub struct RawPages {
     start: Start<[u8; 4096]>,
     slots: Slots,

@@ -1,4 +1,5 @@
--- Proofs that the stated properties of findings still hold after the findings are sorted, or after one is added.
+-- Lemmas on findings: sorting them, or adding an error to errors, keeps their severity and leaves their spans inside
+-- the text.
 use Rattle.std.proofs.Common.{List, [], ◌∷◌, ◌++◌, ◌≡◌, ℕ, length, ap, sym, ◌∙◌, subst}
 use Rattle.std.specs.Prelude.{All, Any, Ok, Err, Some, None, Result}
 use Rattle.std.specs.List.Sorted.{IsPermutation, IsNonDecreasingBy}

@@ -1,4 +1,5 @@
--- Arbitrary bytes shown as one line of text, without ASCII control characters and invalid UTF-8.
+-- The text that shows arbitrary bytes as one line, without ASCII control characters or invalid UTF-8, and the form of
+-- an excerpt.
 use Rattle.std.specs.Prelude.{◌≡◌, ℕ, ◌==◌, ◌||◌, nat_lt, max, List, [], ◌∷◌, ◌++◌, map, replicate, if◌then◌else◌}
 use Rattle.std.specs.Str.Lossy.{utf8_lossy}
 

@@ -1,4 +1,4 @@
-//! The search for the mistakes in a document that is no valid plan.
+//! The search for the mistakes in a document that is not a valid plan.
 use crate::builds::{count_of_builds, report_builds};
 use crate::finding::{Finding, Findings, Span};
 use crate::keys::{report_numbers, report_unknown_keys};
@@ -11,7 +11,7 @@ use realm_plan::{MOST_BYTES, PlanFault};
 use std::alloc::{AllocError, Global};
 use std::str::from_utf8;
 
-/// Finds the mistakes in bytes that are not a plan. The reader of plans refused the bytes with `fault`. The one error
+/// Finds the mistakes in bytes that are not a plan. The parser of plans rejected the bytes with `fault`. The one error
 /// is that allocation failed.
 pub(crate) fn errors_in(
     alloc: Global,

@@ -96,7 +96,7 @@ fn shown_back(alloc: Global, back: &[u8]) -> Result<Vec<u8>, AllocError> {
     Ok(line)
 }
 
-/// The first `len` bytes, or all bytes if there are fewer.
+/// Returns the first `len` bytes, or all bytes if there are fewer.
 pub(crate) fn first_of(bytes: &[u8], len: usize) -> &[u8] {
     &bytes[..len.min(bytes.len())]
 }

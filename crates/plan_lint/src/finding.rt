@@ -12,7 +12,7 @@ pub struct Span {
 }
 
 impl Span {
-    /// The span of the `len` bytes from `start` on.
+    /// Creates the span of the `len` bytes from `start` on.
     pub(crate) fn new(start: usize, len: usize) -> Span {
         let end = start.saturating_add(len);
         Span { start, end }

@@ -47,7 +47,7 @@ pub struct Form {
 }
 
 impl Form {
-    /// Returns the kind of the step's argument at a place.
+    /// Returns the kind of the step's argument at index `place`.
     pub(crate) fn kind_at(&self, place: usize) -> OperandKind {
         self.kinds.get(place).copied().unwrap_or(OperandKind::Page)
     }

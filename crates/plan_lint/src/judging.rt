@@ -23,7 +23,7 @@ pub struct Size {
 pub struct Judged {
     /// The findings, sorted by the start offsets of their spans.
     pub findings: Vec<Finding>,
-    /// The size of the plan, or `None` if the bytes are no plan.
+    /// The size of the plan, or `None` if the document is not a plan.
     pub size: Option<Size>,
 }
 

@@ -2,7 +2,7 @@
 //!
 //! No function reads a device or depends on a host. `realm_plan` decides whether bytes are a plan, and its fault is
 //! always among the errors. The rest of this crate finds the messages and the positions. A walk over the text finds
-//! keys, steps and turns with their positions; each module has one kind of mistake.
+//! keys, steps and turns with their positions; each module finds one kind of mistake.
 #![tactic(auto)]
 
 mod builds;

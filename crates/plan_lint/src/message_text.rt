@@ -18,7 +18,7 @@ pub enum Piece<'a> {
 }
 
 /// Appends a message template with its gaps filled. Each `{}` of `words` is a gap, and the pieces fill the gaps in
-/// order.
+/// sequence.
 pub(crate) fn push_filled(
     text: &mut String,
     words: &str,

@@ -5,8 +5,9 @@ use strsim::osa_distance;
 /// The maximum length of a word for which a name is searched, in bytes.
 const LONGEST: usize = 32;
 
-/// Returns the name that is nearest to a word, if one is near enough. A near name is the same but for capital letters,
-/// or differs in up to a third of the longer of the two. Of several, the first.
+/// Returns the name that is nearest to a word, if one is near enough. A name is near enough if it differs from the word
+/// only in case, or by at most one edit for every three bytes of the longer one. Of equally near names, the first is
+/// returned.
 pub(crate) fn nearest(
     alloc: Global,
     names: &[&'static str],

@@ -1,8 +1,8 @@
 //! A lower bound on the number of turns that a build's steps take, whatever other builds do.
 //!
 //! A `take` is surely accepted if all takes of the plan together ask for no more than the machine has. A `delegate` of
-//! a page of such a take is accepted too, and so is a `realm` in two pages that were delegated so. Nothing else is
-//! known without a run.
+//! a page of such a take is accepted too, and so is a `realm` with two pages that were delegated in this way. Nothing
+//! else is known without a run.
 use granule_addr::IpaWidth;
 use host_commands::{Cmd, Step};
 use realm_plan::{Plan, PlanStep};
@@ -14,7 +14,7 @@ const MOST_OPEN: usize = 512;
 /// The greatest order of a block.
 pub const MOST_ORDER: u8 = 9;
 
-/// The number of pages in a block of the given order, or 4,096 if the block has more pages.
+/// Returns the number of pages in a block of the given order, or 4,096 if the block has more pages.
 pub(crate) fn block_len(order: u8) -> usize {
     1 << order.min(12)
 }

@@ -165,7 +165,7 @@ impl Outline {
         }
     }
 
-    /// Notes the keys of a plan that are not among the parts that were found.
+    /// Records which keys of a plan the text lacks.
     pub(crate) fn note_missing_keys(&mut self) -> Result<(), AllocError> {
         for name in plan_keys() {
             let has_builds = *name == "build" && !self.builds.is_empty();

@@ -6,7 +6,7 @@ use realm_plan::PlanFault;
 use std::ops::Range;
 use std::str::from_utf8;
 
-/// Reports the mistake at which the TOML reader stopped. The message is the reader's, unless a more specific message
+/// Reports the mistake at which the TOML parser stopped. The message is the parser's, unless a more specific message
 /// exists for the mistake.
 pub(crate) fn report_syntax(
     bytes: &[u8],

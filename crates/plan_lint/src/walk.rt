@@ -1,4 +1,4 @@
-//! The walk that finds the parts of a plan in its text.
+//! The walk through a plan's text that finds the parts of the plan.
 //!
 //! The TOML parser has accepted the text already, so the walk only checks which part is next. The walk ends at the
 //! first part that it does not expect, and finds no part after it.

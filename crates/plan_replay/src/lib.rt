@@ -1,4 +1,4 @@
-//! The run of a plan on a host, and its output. The output has a line for each turn, and the host's final map.
+//! The run of a plan on a host, and the run's output. The output has a line for each turn, and the host's final map.
 //!
 //! A turn asks the host for the next step of its build. Its line has the step as it is in the plan, with the host's own
 //! answer (`specs/Turn.antt`, `specs/Run.antt`, `specs/Text.antt`). An abort and a `back` step take a turn for each

@@ -23,7 +23,8 @@ pub fn number_after(gives_up: bool, is_refused: bool, done: usize) -> usize
 }
 
 /// The progress of a build in a plan: the number of steps done, the remaining undos of the current step, and the last
-/// mark. In a plan that gives up the number of steps may be `GIVING_UP`, and once that abort is over the next one.
+/// mark. In a plan that gives up, the number of steps is `GIVING_UP` during the abort that follows a refused step, and
+/// one more after it.
 #[derive(Clone, Copy)]
 pub struct PlanCursor {
     pub done: usize,

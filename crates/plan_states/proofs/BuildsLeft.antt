@@ -1,4 +1,5 @@
--- Proofs that the edges of a state in the graph belong to exactly the builds with a step left, in sequence.
+-- Proofs that the check of a state's edges succeeds only if they belong to exactly the builds with a step left, in
+-- sequence.
 use Rattle.std.proofs.Common.{◌≡◌, ℕ, ◌+◌, ◌<◌, ◌≤◌, ◌==◌, Bool, true, false, cond, List, [], ◌∷◌, ◌++◌, map, length, get_or, take, Option, Some, None, refl, sym, ap, ◌∙◌, append-nil, arith, eqb-true}
 use Rattle.std.specs.Prelude.{filter, slice_get}
 use Rattle.std.specs.Bool.{OnTrue}

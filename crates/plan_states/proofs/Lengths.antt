@@ -1,4 +1,5 @@
--- Lemmas on the lengths of vectors: one more item, and the number of items that may still follow.
+-- Lemmas on lengths of vectors: an added item adds one, and an added vector lowers the remaining capacity by its
+-- length.
 use Rattle.std.proofs.Common.{◌≡◌, ℕ, ◌+◌, ◌-◌, ◌≤◌, List, [], ◌∷◌, ◌++◌, Vec, Global, vec_len, length, sym, ap, ◌∙◌, arith, length-append}
 use Rattle.std.specs.Prelude.{sum_by}
 use Rattle.std.proofs.lemmas.List.Sums.{sum_by_push}

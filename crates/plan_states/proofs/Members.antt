@@ -1,4 +1,5 @@
--- Lemmas on membership in lists: in mapped, filtered and concatenated lists, and in ranges of numbers.
+-- Lemmas on membership in mapped, filtered and concatenated lists and in ranges, and on relations between all pairs of
+-- members.
 use Rattle.std.proofs.Common.{◌≡◌, ℕ, zero, suc, ◌+◌, ◌<◌, ◌≤◌, ◌⊎◌, inl, inr, Bool, true, false, cond, List, [], ◌∷◌, ◌++◌, map, length, get_or, All, refl, sym, ap, subst, ◌∙◌, arith}
 use Rattle.std.specs.Prelude.{AllPairs, Contains, filter}
 use Rattle.std.specs.List.{flat_map, list_all, range_with_len}

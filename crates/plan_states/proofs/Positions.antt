@@ -1,4 +1,5 @@
--- Lemmas on list items by index, and on the index of the first item that passes a test.
+-- Lemmas on list indices: a search finds an index if and only if some item passes, and the vector at an index has the
+-- listed items.
 use Rattle.std.proofs.Common.{◌≡◌, ℕ, zero, suc, ◌+◌, ◌<◌, ◌||◌, Bool, true, false, cond, List, [], ◌∷◌, map, length, get_or, Vec, Global, vec_items, Some, refl, ap, ◌∙◌}
 use Rattle.std.specs.Prelude.{is_some, slice_get, slice_index_or}
 use Rattle.std.specs.List.{list_any, position, position_from}

@@ -1,4 +1,5 @@
--- Lemmas on snapshots of a run's positions: one more build, and one more event.
+-- Proofs that a partial snapshot of a run stays correct when one more build, or one more event of the history, is
+-- added.
 use Rattle.std.proofs.Common.{◌≡◌, ℕ, zero, suc, ◌+◌, ◌<◌, Bool, cond, List, [], ◌∷◌, ◌++◌, length, get_or, take, Some, sym, ap, ◌∙◌, subst, below_more}
 use Rattle.std.specs.Prelude.{◌==◌, option_map, slice_get}
 use Rattle.std.proofs.lemmas.List.{take_more}

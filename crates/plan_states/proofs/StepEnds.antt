@@ -1,4 +1,5 @@
--- Lemmas on the step that a turn ends, and on the steps left for the rest of a path.
+-- Lemmas on steps along a path: a turn ends its build's next step or none, and that step and those left after it are
+-- those left before.
 use Rattle.std.proofs.Common.{◌≡◌, ℕ, suc, ◌+◌, ◌-◌, ◌<◌, ◌≤◌, ◌==◌, ◌&&◌, inl, inr, Bool, true, false, cond, List, [], ◌∷◌, ◌++◌, map, length, Option, Some, None, is_some, refl, sym, ap, subst, ◌∙◌, arith, eqb-true, eq-eqb, ne_eqb}
 use Rattle.std.specs.Prelude.{filter, fold, option_and_then, option_map, option_to_list, slice_get, unwrap_or}
 use Rattle.std.specs.List.{range_with_len}

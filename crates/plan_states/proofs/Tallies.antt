@@ -1,4 +1,5 @@
--- Lemmas on the tally of the paths with a given outcome, and on the sequence of several tallies.
+-- Lemmas on tallies of paths: each has the count and the first schedule of an outcome's paths, and is inserted by that
+-- schedule.
 use Rattle.std.proofs.Common.{◌≡◌, ℕ, zero, suc, ◌+◌, ◌<◌, ◌≤◌, Bool, true, false, cond, List, [], ◌∷◌, ◌++◌, map, length, min, get_or, take, drop, Vec, Global, Option, Some, None, refl, sym, subst, ap, ◌∙◌, add-one, drop-cons, arith}
 use Rattle.std.specs.Prelude.{filter, option_map, slice_index_or}
 use Rattle.std.specs.List.{find, insert}

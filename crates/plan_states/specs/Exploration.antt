@@ -1,4 +1,4 @@
--- The result of an exploration of a plan's schedules.
+-- The correct results of exploring a plan's schedules: a whole state graph whose paths are runs, or `TooMany`.
 use Rattle.std.specs.Prelude.{ℕ, ◌≤◌, List, All, sum_by, vec_len, string_bytes}
 use Rattle.std.specs.declared.alloc.Global.{Global}
 use Rattle.std.specs.declared.string.String.{String}

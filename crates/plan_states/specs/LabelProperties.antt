@@ -1,4 +1,5 @@
--- Properties of edge labels, by which schedules are counted.
+-- The properties of edge labels by which schedules are counted: a given outcome or map, or the refusal of a build's
+-- step.
 use Rattle.std.specs.Prelude.{ℕ, ◌==◌, Bool, true, false, ◌&&◌, List, Option, Some, None, is_some, slice_get}
 use Rattle.plan_states.specs.declared.edges.Label.{Label}
 use Rattle.plan_states.specs.declared.step_end.EndOfStep.{EndOfStep}

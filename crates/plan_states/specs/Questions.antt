@@ -1,4 +1,5 @@
--- The test whether a turn answers a question about a schedule, such as whether a given step is refused.
+-- The test whether the last turn of a schedule has the property that a question asks for, such as the refusal of a
+-- given step.
 use Rattle.std.specs.Prelude.{ℕ, ◌==◌, nat_le, Bool, true, false, not, ◌&&◌, List, length, map, sum, Option, Some, None, slice_get}
 use Rattle.std.specs.List.{list_any, range_with_len}
 use Rattle.host_commands.specs.declared.refusal.Refusal.{Refusal}

@@ -1,4 +1,4 @@
--- The log of the turns that were run to check a state graph. Each edge of the graph has a logged turn.
+-- The conditions that the log of the turns run along a state graph is correct, and that it has a turn for each edge.
 use Rattle.std.specs.Prelude.{◌≡◌, ◌<◌, ◌+◌, ℕ, List, [], All, map, length, Option, Some, Vec, vec_items, option_and_then, slice_get, slice_index_or}
 use Rattle.std.specs.declared.alloc.Global.{Global}
 use Rattle.std.specs.declared.string.String.{String}

@@ -1,4 +1,5 @@
--- The schedules that a rule allows for a plan, and the relation of the rule to the paths of the state graph.
+-- The schedules that a rule for builds with a step left allows, and the condition that a rule agrees with a state
+-- graph's paths.
 use Rattle.std.specs.Prelude.{◌≡◌, ◌<◌, ◌==◌, ◌&&◌, ◌+◌, ℕ, zero, suc, Bool, true, false, List, [], ◌∷◌, ◌++◌, map, filter, Contains, count_by, fold, Option, Some, None, is_some, option_to_list, slice_get, slice_index_or}
 use Rattle.std.specs.List.{find, flat_map, range_with_len}
 use Rattle.realm_plan.specs.Plan.{Plan}

@@ -31,8 +31,8 @@ use std::collections::HashMap;
 /// edges.
 pub type Layer = Vec<Vec<Edge<Label>>>;
 
-/// The state graph of a plan, whose paths are the plan's schedules. The graph is a list of layers, and its first layer
-/// has one state.
+/// A plan's state graph, whose paths are the plan's schedules. The graph is a list of layers, and its first layer has
+/// one state.
 #[derive(Drop)]
 pub struct Graph {
     pub layers: Vec<Layer>,

@@ -39,7 +39,7 @@ impl Holdings {
         }
     }
 
-    /// Finds or adds an entry, and returns its index.
+    /// Returns the index of the given page counts in the table, and adds them if they are missing.
     pub(crate) fn number_of(&mut self, held: PagesHeld) -> Result<usize, AllocError>
         ensures number { IfOk result (λ number. slice_get self.new.all.items number ≡ Some held) }
         ensures all { OnOk result (AreWith self.old.all.items (Some held) self.new.all.items) }
@@ -53,7 +53,7 @@ impl Holdings {
         Ok(number)
     }
 
-    /// Returns all entries of the table, sorted by index.
+    /// Consumes the table, and returns all its entries in the sequence of their indices.
     pub(crate) fn into_all(self) -> Vec<PagesHeld>
         ensures { result ≡ self.all }
     {

@@ -1,4 +1,4 @@
-//! Properties of a state graph's edge labels, for counting schedules.
+//! Properties of edge labels, by which the schedules of a state graph are counted.
 ghost use Rattle.std.specs.Prelude.{◌≡◌, option_map};
 ghost use Rattle.plan_states.specs.LabelProperties.{has_number, is_asked, refuses_asked};
 
@@ -16,7 +16,8 @@ fn has_number(number: usize, other: Option<usize>) -> bool
     }
 }
 
-/// The property that an edge label's turn ends a step with a given outcome. The field is the index of the outcome.
+/// A property of edge labels: the turn that the label describes ends a step with a given outcome. The field is the
+/// index of the outcome.
 #[derive(Clone, Copy)]
 pub(crate) struct HasEnd(pub(crate) usize);
 
@@ -30,7 +31,8 @@ impl LabelProperty<Label> for HasEnd {
     }
 }
 
-/// The property that an edge label's turn ends a schedule with a given page map. The field is the index of the map.
+/// A property of edge labels: the turn that the label describes ends a schedule with a given page map. The field is the
+/// index of the map.
 #[derive(Clone, Copy)]
 pub(crate) struct HasMap(pub(crate) usize);
 
@@ -44,8 +46,8 @@ impl LabelProperty<Label> for HasMap {
     }
 }
 
-/// The property that an edge label's turn ends a step of `build` with a refusal. If `build` is `None`, the step may be
-/// one of any build.
+/// A property of edge labels: the turn that the label describes ends a step of `build` with a refusal. If `build` is
+/// `None`, the step may be one of any build.
 #[derive(Clone, Copy)]
 pub(crate) struct HasRefusal<'a> {
     pub(crate) ends: &'a [EndOfStep],

@@ -12,8 +12,8 @@ ghost use Rattle.plan_states.specs.Whole.{IsWholeGraph};
 ghost use Rattle.plan_states.specs.declared.edges.Label.{Label};
 ghost use Rattle.plan_states.specs.declared.graph.Graph.{Graph};
 
-/// Proves that a scheduling rule allows exactly the schedules of a state graph's paths. This holds if the graph is
-/// whole and the rule agrees with its paths. A rule says which of eight builds have a step left after which turns.
+/// Proves that each scheduling rule that agrees with the paths of a whole state graph allows exactly the schedules of
+/// these paths. A rule says which of eight builds have a step left after which turns.
 pub fn every_schedule_is_a_path()
     ensures found { (plan : Plan) (graph : Graph) (left : List ℕ → ℕ → Bool) → IsWholeGraph plan graph → IsRuleOf plan graph left
         → (schedule : List ℕ) → IsSchedule left [] schedule → Contains (map builds_of_path (paths_of graph)) schedule }
@@ -21,10 +21,9 @@ pub fn every_schedule_is_a_path()
         → All (IsSchedule left []) (map builds_of_path (paths_of graph)) }
 {}
 
-/// Proves that a state graph's paths give the same list of schedules as a scheduling rule. This holds if the graph is
-/// whole and the rule agrees with its paths. The list has the rule's schedules of at most `most` turns. Any `most` that
-/// is at least the number of layers less one gives the same list. So a sum over the paths is the sum over all
-/// schedules.
+/// Proves that the paths of a whole state graph give the same list of schedules as each scheduling rule that agrees
+/// with the paths. The list has the rule's schedules of at most `most` turns. Any `most` that is at least the number of
+/// layers less one gives the same list. So a sum over the paths is the sum over all schedules.
 pub fn paths_are_all_schedules()
     ensures { (plan : Plan) (graph : Graph) (left : List ℕ → ℕ → Bool) → IsWholeGraph plan graph → IsRuleOf plan graph left
         → (most : ℕ) → length graph.layers.items ≤ most + 1 → map builds_of_path (paths_of graph) ≡ schedules_after left most [] }
@@ -39,28 +38,29 @@ pub fn path_schedules_rise()
     ensures never_twice { (schedule : List ℕ) → is_before schedule schedule ≡ false }
 {}
 
-/// Proves that each state graph without missing turns has a matching scheduling rule. The rule agrees with the graph's
-/// paths. By this rule, a build has a step left after given turns if it has one in the state to which these turns lead.
-/// So of any plan the paths are all schedules by this rule.
+/// Proves that for each whole state graph there is a scheduling rule that agrees with the graph's paths. By this rule,
+/// a build has a step left after given turns if it has one in the state to which these turns lead. So of any plan the
+/// paths are all schedules by this rule.
 pub fn a_whole_graph_has_a_rule()
     ensures { (plan : Plan) (graph : Graph) → IsWholeGraph plan graph → IsRuleOf plan graph (own_rule plan graph) }
 {}
 
-/// Proves that a build's progress along a path is the number of its ended steps. This holds unless the plan's builds
-/// give up.
+/// Proves that, unless the plan's builds give up, a build's progress along a path is the number of its steps that the
+/// path ends.
 pub fn steps_are_counted()
     ensures { (plan : Plan) (graph : Graph) (path : Path Label) (build : ℕ) → plan.gives_up ≡ false → done_by plan graph path build ≡ used_by path build }
 {}
 
-/// Proves that counting turns is a scheduling rule for a plan whose steps each take one turn. Each step takes one turn
-/// if the plan has no step `abort` or `back`, and its builds do not give up. Then a build has a step left if it had
-/// fewer turns than steps. So the paths of a whole graph are all interleavings of the builds' steps.
+/// Proves that a rule that counts turns agrees with the paths of a whole state graph if each step of the plan takes one
+/// turn. Each step takes one turn if the plan has no step `abort` or `back`, and its builds do not give up. Then a
+/// build has a step left if it had fewer turns than steps. So the paths of a whole graph are all interleavings of the
+/// builds' steps.
 pub fn single_turns_make_a_rule()
     ensures { (plan : Plan) (graph : Graph) → IsWholeGraph plan graph → HasSingleTurns plan → IsRuleOf plan graph (by_turns plan) }
 {}
 
-/// Proves that on each path of a whole state graph, each build finishes every step once, in the plan's sequence. This
-/// holds unless builds give up.
+/// Proves that on each path of a whole state graph, unless builds give up, each build finishes every step once, in the
+/// plan's sequence.
 pub fn paths_end_each_step()
     ensures { (plan : Plan) (graph : Graph) → IsWholeGraph plan graph → plan.gives_up ≡ false
         → All (λ (path : Path Label). (build : ℕ) → build < 8 → steps_ended graph.ends.items build path ≡ range_with_len 0 (step_number plan build))
@@ -75,8 +75,8 @@ pub fn paths_end_steps_in_sequence()
         → All (λ (path : Path Label). (build : ℕ) → build < 8 → AreInSequence plan build 0 (ends_of graph.ends.items build path)) (paths_of graph) }
 {}
 
-/// Proves that each schedule that a scheduling rule allows can be run along a graph path. This holds if the rule agrees
-/// with the paths of a whole graph, and the paths are runs from boot. Each turn ends its step as the path says, and the
+/// Proves that each schedule allowed by a scheduling rule that agrees with a whole state graph can be run along a path
+/// of the graph. This holds if the graph's paths are runs from boot. Each turn ends its step as the path says, and the
 /// final map is the path's own.
 pub fn every_schedule_is_run()
     ensures { (plan : Plan) (graph : Graph) (left : List ℕ → ℕ → Bool) → IsWholeGraph plan graph → ArePathsRuns plan graph → IsRuleOf plan graph left

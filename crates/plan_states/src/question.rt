@@ -14,7 +14,7 @@ use schedule_graph::LabelProperty;
 /// The number of pages that each build holds.
 pub type PagesHeld = [u16; 8];
 
-/// A question that asks whether the last turn of a schedule has a given property.
+/// A yes-or-no question about the last turn of a schedule, or about the host after that turn.
 #[derive(Clone, Copy, Drop)]
 pub enum TurnQuestion {
     /// Asks whether step `step` of build `build` is refused in the last turn.
@@ -85,9 +85,9 @@ fn all_held(held: &PagesHeld) -> usize
 }
 
 impl TurnQuestion {
-    /// Returns whether a turn has the property that the question asks for. `end` is the outcome of the step that the
-    /// turn ended, if any. `held` gives the pages that builds hold after the turn, and `builds` is the number of the
-    /// plan's builds.
+    /// Returns whether the answer to the question is yes for a turn. `end` is the outcome of the step that the turn
+    /// ended, if any. `held` gives the pages that builds hold after the turn, and `builds` is the number of the plan's
+    /// builds.
     pub(crate) fn is_answer(&self, builds: usize, end: Option<EndOfStep>, held: &PagesHeld) -> bool
         ensures { result ≡ is_answer builds self.now end held.now }
     {
@@ -108,8 +108,8 @@ fn end_numbered(ends: &[EndOfStep], number: Option<usize>) -> Option<EndOfStep>
     ends.get(number?).copied()
 }
 
-/// The property that the answer to `question` is yes for an edge label's turn. A label has indices into `ends` and
-/// `held`.
+/// A property of edge labels: the answer to `question` is yes for the turn that the label describes. A label has
+/// indices into `ends` and `held`.
 #[derive(Clone, Copy)]
 pub(crate) struct AnswersQuestion<'a> {
     pub(crate) ends: &'a [EndOfStep],

@@ -320,8 +320,8 @@ fn is_at_start(states: &[StepsDone]) -> bool
     }
 }
 
-/// Returns whether a state graph is whole: its first layer has only the start, each state has its turns, and there is a
-/// map.
+/// Returns whether a state graph is whole: it has one first state, one edge from each state for each build with a step
+/// left, and a final map.
 pub(crate) fn is_whole(plan: &Plan, graph: &Graph) -> bool
     ensures { OnTrue result (IsWholeGraph (plan_view plan.now) graph.now) }
 {

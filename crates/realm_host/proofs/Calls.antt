@@ -1,4 +1,5 @@
--- Proofs on the calls that begin an abort, set a mark or roll back: their checks, and the host after them.
+-- Proofs that beginning an abort and setting a mark keep the host's invariant, and that a rollback undoes what was
+-- opened after its mark.
 use Rattle.std.proofs.Common.{◌≡◌, ℕ, ◌-◌, ◌<◌, ◌≤◌, Bool, true, false, not, cond, take, drop, List, [], ◌∷◌, ◌++◌, length, map}
 use Rattle.std.proofs.Common.{reverse, Option, Some, None, Result, Ok, Err, refl, sym, ap, ◌∙◌, subst, arith, ◌&&◌, set, get_or}
 use Rattle.std.specs.Prelude.{nat_lt, nat_le}

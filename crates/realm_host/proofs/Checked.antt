@@ -1,4 +1,5 @@
--- The facts that follow if a command passes all of the host's checks.
+-- Proofs that a command which passes all of the host's checks has its realm requirement met, enough room, and a granule
+-- for each page.
 use Rattle.std.proofs.Common.{◌≡◌, ℕ, suc, ◌<◌, ◌≤◌, Bool, true, false, not, cond, List, [], ◌∷◌, ◌++◌, length, map, Option, Some, None, refl, sym, ap, ◌∙◌}
 use Rattle.std.specs.Prelude.{nat_lt, nat_le}
 use Rattle.std.specs.List.{All, filter_map, cons_option}

@@ -1,4 +1,4 @@
--- Proofs that each event of a history without one build is accepted when the events are applied in turn.
+-- Proofs that a freshly booted host accepts each event of a history from which one build is left out.
 use Rattle.std.proofs.Common.{◌≡◌, ◌≢◌, ℕ, ◌+◌, ◌<◌, ◌≤◌, false, not, List, [], ◌∷◌, ◌++◌, length, take, drop, get_or, Some, refl, sym, ap, ◌∙◌, subst, ◌&&◌, set, replicate, Option, None}
 use Rattle.std.specs.Prelude.{option_map, ◌==◌, nat_lt}
 use Rattle.std.proofs.lemmas.Bool.{ne_eqb}

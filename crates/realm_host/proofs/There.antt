@@ -1,4 +1,5 @@
--- The tests of a recorded event: its fields agree with the machine, and the granules that it names are leased.
+-- Proofs that the host's tests of a recorded event decide whether its values agree with the machine and whether its
+-- build leases its granules.
 use Rattle.std.proofs.Common.{◌≡◌, ℕ, ◌<◌, ◌≤◌, Bool, true, false, List, [], length, Option, Some, None, Ok, Err, refl, sym, ap, ◌∙◌, subst, arith}
 use Rattle.std.specs.Prelude.{◌&&◌, nat_eq, nat_lt, if◌then◌else◌, slice_index, option_map, option_and_then, is_none, is_some, not}
 use Rattle.std.specs.Bool.{OnFalse}

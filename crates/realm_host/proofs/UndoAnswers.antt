@@ -1,4 +1,5 @@
--- Proofs on the answer to an undo: the refusal of the first check that holds, or the reply.
+-- Proofs that the answer to an undo is the refusal of the first check that holds, or else the reply for the undone
+-- operation.
 use Rattle.std.proofs.Common.{◌≡◌, ℕ, ◌-◌, ◌<◌, ◌≤◌, Bool, true, false, cond, List, [], ◌∷◌, length, Option, Some, None, refl, ap, ◌∙◌, arith}
 use Rattle.std.specs.Prelude.{nat_lt, nat_le, option_and_then, IsSome}
 use Rattle.std.specs.List.{last_or}

@@ -1,4 +1,5 @@
--- Two hosts that differ in the schedule of their builds' events alone, and that no call distinguishes.
+-- The relation of two hosts that differ only in the schedule of their builds' events, and the statement that no call
+-- distinguishes them.
 use Rattle.std.specs.Prelude.{◌≡◌, ℕ, List, map, Option, option_map, Result}
 use Rattle.realm_model.specs.History.{IsLegal}
 use Rattle.realm_model.specs.Interleaving.{HasSameEvents}

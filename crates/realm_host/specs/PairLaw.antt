@@ -1,4 +1,5 @@
--- The statement that an undo right after the operation that it reverses leads back to the same ownership.
+-- The statement that an undo right after the operation that it reverses restores the ownership of granules and
+-- mappings.
 use Rattle.std.specs.Prelude.{◌≡◌, ℕ, List, [], ◌∷◌, ◌++◌, true}
 use Rattle.realm_model.specs.declared.act.Act.{Act}
 use Rattle.realm_model.specs.declared.act.Event.{Event}

@@ -1,4 +1,5 @@
--- Two commands with similar updates: they change the same granules, to cells with the same ownership.
+-- Proofs that worlds with the same ownership still have it after similar updates: updates of the same granules, to
+-- cells with the same ownership.
 use Rattle.std.proofs.Common.{◌≡◌, ℕ, Bool, true, false, cond, List, [], ◌∷◌, ◌++◌, map, set, Some, Ok, Err, refl, sym, ap, ◌∙◌, subst}
 use Rattle.std.specs.Prelude.{◌==◌}
 use Rattle.std.specs.FinMap.{get}

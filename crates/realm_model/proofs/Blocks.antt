@@ -1,4 +1,5 @@
--- The steps of the model that take a free block, and those that give a block back.
+-- Proofs on steps of the model: taking a free block leases its granules, and giving a block back makes its granules
+-- blank and free.
 use Rattle.std.proofs.Common.{◌≡◌, ℕ, ◌<◌, true, false, List, [], ◌∷◌, map, set, Some, None, Ok, refl, sym, ap, ◌∙◌}
 use Rattle.std.specs.Prelude.{slice_get}
 use Rattle.std.specs.List.{All, list_all}

@@ -1,4 +1,4 @@
--- Tests that hold or fail, and options that have a value or none.
+-- Lemmas on Booleans and options: combinations of tests, choices by a test, and options without a value.
 use Rattle.std.proofs.Common.{◌≡◌, Bool, true, false, cond, ◌&&◌, ◌||◌, not, Option, Some, None, refl}
 use Rattle.std.specs.Prelude.{is_some, is_none, option_map}
 

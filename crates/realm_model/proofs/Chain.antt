@@ -1,4 +1,5 @@
--- The undo of a build's newest open operation, whatever happened since, derived from theorems on single steps.
+-- The proof that a build owns what its open operations led to, whatever happened since, derived from theorems on single
+-- steps.
 use Rattle.std.proofs.Common.{◌≡◌, ◌≢◌, ℕ, suc, ◌+◌, ◌≤◌, true, false, List, [], ◌∷◌, ◌++◌, length, take, reverse, Some, None, arith, refl, sym, ap, ◌∙◌, subst}
 use Rattle.std.specs.Prelude.{◌==◌, option_and_then}
 use Rattle.std.specs.List.{last_or}

@@ -1,4 +1,4 @@
--- The granules that a command changes: those that its operation names, and those of the realm of its build.
+-- The proof that a command changes only granules that its build leases, and changes no lease.
 use Rattle.std.proofs.Common.{◌≡◌, ℕ, ◌<◌, Bool, true, false, cond, ◌&&◌, List, [], ◌∷◌, ◌++◌, map, set, Option, Some, None, Ok, refl, sym, ap, ◌∙◌, ◌-◌, subst}
 use Rattle.std.specs.Prelude.{◌==◌, nat_eq}
 use Rattle.std.specs.List.{list_all}

@@ -1,4 +1,4 @@
--- The invariant that free granules are blank: UNDELEGATED, zero and of no realm.
+-- The proof that updates preserve the invariant that free granules are blank: UNDELEGATED, zero and of no realm.
 use Rattle.std.proofs.Common.{◌≡◌, ℕ, List, [], ◌∷◌, set, Option, Some, None, refl, sym, ap, ◌∙◌, subst}
 use Rattle.std.specs.Prelude.{slice_get}
 use Rattle.realm_model.specs.Machine.{Cell, blank, cell_at}

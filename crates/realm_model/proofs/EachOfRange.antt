@@ -1,4 +1,4 @@
--- Properties that hold for each number of a range.
+-- Lemmas on a range as a list: all its elements have a property if and only if each number of the range has it.
 use Rattle.std.proofs.Common.{◌≡◌, ℕ, ◌+◌, ◌-◌, ◌<◌, ◌≤◌, sym, ◌∙◌, subst, arith}
 use Rattle.std.specs.List.{All, range_with_len}
 use Rattle.std.proofs.lemmas.List.FromFn.{length-range_with_len, get_or-range_with_len}

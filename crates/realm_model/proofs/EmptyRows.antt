@@ -1,4 +1,4 @@
--- Rows of unprotected IPAs, which the commands leave UNASSIGNED and EMPTY, and TABLE rows, which they leave EMPTY.
+-- The proof that the commands leave rows of unprotected IPAs UNASSIGNED and EMPTY, and TABLE rows EMPTY.
 use Rattle.std.proofs.Common.{◌≡◌, ℕ, ◌+◌, ◌-◌, ◌*◌, ◌/◌, ◌^◌, ◌<◌, true, false, cond, not, inl, inr, Option, Some, refl, sym, ap, ◌∙◌, arith}
 use Rattle.std.specs.Prelude.{is_some, nat_lt, ◌==◌, if◌then◌else◌}
 use Rattle.std.specs.FinMap.{get, empty, get-insert, get-empty}

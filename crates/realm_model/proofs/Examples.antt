@@ -1,5 +1,5 @@
 -- Examples of small histories, whose worlds are computed.
--- the functions that build them
+-- First, the functions that build the histories.
 pub mod Worlds
 -- pages of two builds
 pub mod Granules

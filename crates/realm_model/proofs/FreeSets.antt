@@ -1,4 +1,5 @@
--- The set of free granules, and the other builds' parts of the world, after one build is left out.
+-- Proofs that leaving out a build frees the granules that it leased, and leaves the other builds' parts of the world
+-- unchanged.
 use Rattle.std.proofs.Common.{◌≡◌, ◌≢◌, ℕ, zero, suc, ◌+◌, ◌<◌, ◌≤◌, Bool, true, false, cond, ◌&&◌, ◌||◌, not, ◌⊎◌, inl, inr, List, [], ◌∷◌, length, map, Option, Some, None, refl, sym, ap, ◌∙◌, arith}
 use Rattle.std.specs.Prelude.{◌==◌, ◌↔◌, filter, slice_get, option_map}
 use Rattle.std.specs.Option.{option_eq}

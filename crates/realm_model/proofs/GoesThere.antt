@@ -1,5 +1,5 @@
--- The proof that an accepted event is also accepted if another build's part of the world differs. The event takes
--- nothing of that part.
+-- The proof that an accepted event is also accepted where another build's part of the world differs, unless it takes
+-- from that part.
 use Rattle.std.proofs.Common.{◌≡◌, ◌≢◌, ℕ, true, false, cond, ◌||◌, not, List, [], ◌∷◌, map, Option, Some, None, Ok, refl, sym, ap, ◌∙◌}
 use Rattle.std.specs.Prelude.{◌==◌, slice_get, option_map}
 use Rattle.std.specs.List.{list_all}

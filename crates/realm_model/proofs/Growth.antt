@@ -1,4 +1,5 @@
--- A history with one more event.
+-- Proofs on a legal history with one more event: the history is legal, and the event changes only its own build's open
+-- operations.
 use Rattle.std.proofs.Common.{◌≡◌, ◌≢◌, ℕ, true, false, cond, List, [], ◌∷◌, ◌++◌, map, Option, Some, None, refl, sym, ap, ◌∙◌, subst}
 use Rattle.std.specs.Prelude.{◌==◌, option_and_then, is_some, filter}
 use Rattle.std.specs.List.{last_or}

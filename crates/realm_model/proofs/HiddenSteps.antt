@@ -1,4 +1,5 @@
--- A step of the model in a world without one build, and in a world with one build alone.
+-- Proofs that a step of the model is also a step in a world without another build, and in a world with its own build
+-- alone.
 use Rattle.std.proofs.Common.{◌≡◌, ◌≢◌, ℕ, suc, Bool, true, false, cond, ◌&&◌, not, List, [], ◌∷◌, map, Option, Some, None, Ok, Err, refl, sym, ap, ◌∙◌}
 use Rattle.std.specs.Option.{option_eq}
 use Rattle.std.specs.Prelude.{◌==◌, slice_get, option_map, is_some}

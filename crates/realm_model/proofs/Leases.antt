@@ -1,4 +1,4 @@
--- Lists of leases and of cells, read and changed at one granule.
+-- Lemmas on lists of leases and of cells: tests of a lease, and the lists after a write at one granule.
 use Rattle.std.proofs.Common.{◌≡◌, ℕ, zero, suc, true, false, List, [], ◌∷◌, map, set, Option, Some, None, refl, sym, ap, ◌∙◌, ◌||◌}
 use Rattle.std.specs.Prelude.{slice_get, option_map, ◌==◌, replicate}
 use Rattle.std.specs.Option.{option_eq}

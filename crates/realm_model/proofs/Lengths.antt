@@ -1,4 +1,4 @@
--- The number of a machine's granules, which no command changes.
+-- The proof that no command changes the number of a machine's granules.
 use Rattle.std.proofs.Common.{◌≡◌, List, [], ◌∷◌, length, Ok, Err, refl, ◌∙◌}
 use Rattle.std.proofs.lemmas.List.{length-set}
 use Rattle.realm_model.specs.Machine.{Machine}

@@ -1,4 +1,4 @@
--- The links between realms and the granules that they name, in every reached world.
+-- The proof that every reached world satisfies the invariant that links realms to the granules that they name.
 use Rattle.std.proofs.Common.{◌<◌, ◌++◌, arith, ◌≡◌, ℕ, ◌+◌, ◌-◌, true, false, cond, inl, inr, List, [], ◌∷◌, ◌++◌, map, Option, Some, None, refl, sym, ap, ◌∙◌, subst, arith}
 use Rattle.std.specs.Prelude.{option_map, is_some, ◌==◌}
 use Rattle.std.specs.Ordering.{nat_cmp, eq_by_cmp}

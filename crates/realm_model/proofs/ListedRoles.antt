@@ -1,4 +1,5 @@
--- The roles of granules by their index in a list: the auxiliaries of a REC, and the starting tables of a realm.
+-- Lemmas on the roles of a REC's auxiliaries and of starting tables: a granule has such a role if and only if it is
+-- listed.
 use Rattle.std.proofs.Common.{◌≡◌, ℕ, zero, suc, ◌+◌, true, false, cond, ◌||◌, List, [], ◌∷◌, Option, Some, None, refl, sym, ap, ◌∙◌, arith}
 use Rattle.std.specs.Prelude.{◌==◌, option_map, slice_get}
 use Rattle.std.proofs.lemmas.Bool.{eq-eqb, ne_eqb}

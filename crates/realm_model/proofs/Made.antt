@@ -1,4 +1,5 @@
--- Lists computed from a build's open operations: each operation adds a part, and its reverse removes that part.
+-- Lemmas on lists computed from a build's open operations: each operation adds a part, and its reverse removes that
+-- part.
 use Rattle.std.proofs.Common.{◌≡◌, ℕ, true, false, List, [], ◌∷◌, ◌++◌, Some, sym, ap, ◌∙◌}
 use Rattle.std.specs.List.{flat_map}
 use Rattle.std.proofs.lemmas.List.{append-nil}

@@ -1,4 +1,5 @@
--- The creation of a realm: its updates, and the consequences if all its checks hold.
+-- Lemmas on the creation of a realm: the cells that its updates write, and the facts that follow if all its checks
+-- pass.
 use Rattle.std.proofs.Common.{◌≡◌, ◌≤◌, ◌%◌, ℕ, true, false, cond, ◌&&◌, ◌||◌, not, List, [], ◌∷◌, map, Some, refl, sym, ap, ◌∙◌}
 use Rattle.std.specs.Prelude.{◌==◌, nat_le}
 use Rattle.std.specs.List.{list_all}

@@ -1,4 +1,4 @@
--- The VMIDs in use, which are those of the Realm operations that builds have open.
+-- The proof that the VMIDs in use are those of the Realm operations that builds have open.
 use Rattle.std.proofs.Common.{◌≡◌, ℕ, true, cond, ◌||◌, List, [], ◌∷◌, Option, Some, None, refl, sym, ap, ◌∙◌}
 use Rattle.std.specs.Prelude.{◌==◌, filter}
 use Rattle.std.specs.List.{list_any, Contains}

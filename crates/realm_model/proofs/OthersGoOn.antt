@@ -1,4 +1,5 @@
--- The proof that other builds' events after a point of a history are accepted without one build's later events.
+-- The proof that other builds' events are accepted without one build's later events, if the build has kept its earlier
+-- granules and VMID.
 use Rattle.std.proofs.Common.{◌≡◌, ◌≢◌, ℕ, zero, suc, true, false, cond, ◌⊎◌, inl, inr, not, List, [], ◌∷◌, length, Option, Some, None, sym, ap, ◌∙◌, arith, pred}
 use Rattle.std.specs.Prelude.{◌==◌, slice_get}
 use Rattle.std.proofs.lemmas.Option.{same_Some}

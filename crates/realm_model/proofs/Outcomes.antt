@@ -1,4 +1,4 @@
--- Properties of the updates of a command that is not refused, derived check by check.
+-- Lemmas that derive a property of a command's updates from the command's checks, one check at a time.
 use Rattle.std.proofs.Common.{◌≡◌, ℕ, Bool, true, false, cond, List, Some, None, Ok, Err, refl, ap, subst}
 use Rattle.std.specs.FinMap.{get}
 use Rattle.realm_model.specs.declared.rmi.Rmi.{Rmi}

@@ -1,4 +1,4 @@
--- The theorems on single steps, for the part of a world that one build owns.
+-- The proof of the theorems on single steps that an undo requires, for the part of a world that one build owns.
 use Rattle.std.proofs.Common.{ℕ, refl, sym, subst}
 use Rattle.realm_model.specs.Machine.{Limits}
 use Rattle.realm_model.specs.World.{World, part_of}

@@ -1,4 +1,4 @@
--- The proof that an operation has a kind exactly if it has a reverse.
+-- The proof that an operation has a kind if and only if it has a reverse.
 use Rattle.std.proofs.Common.{◌≡◌, refl}
 use Rattle.std.specs.Prelude.{is_some}
 use Rattle.realm_model.specs.declared.act.Act.{Act}

@@ -1,4 +1,5 @@
--- The realm of a build in a reached world, if any, and the number of running RECs in the realm.
+-- Proofs that a build's realm in a reached world is the one in the build's part, and that the build's running RECs are
+-- that realm's.
 use Rattle.std.proofs.Common.{◌≡◌, ℕ, suc, true, false, cond, ◌&&◌, ◌⊎◌, inl, inr, List, [], ◌∷◌, length, Option, Some, None, refl, sym, ap, ◌∙◌}
 use Rattle.std.specs.Prelude.{is_some, filter}
 use Rattle.std.specs.FinMap.{get}

@@ -1,4 +1,4 @@
--- The invariants of a build's part in every reached world.
+-- The conditions on a build's part that hold in every reached world: on its cells, its realm, and the realm's rows.
 use Rattle.std.specs.Prelude.{◌≡◌, ℕ, ◌%◌, ◌<◌, true, Some, None, is_some}
 use Rattle.std.specs.FinMap.{get}
 use Rattle.granule_addr.specs.Ipa.{is_width}

@@ -1,4 +1,4 @@
--- The theorem that the newest open operation of a build can be undone.
+-- The theorem that a build's newest open operation can be undone, unless that operation created a REC that runs.
 use Rattle.std.proofs.Common.{◌≡◌, ℕ, ◌^◌, Bool, true, false, cond, ◌||◌, not, List, [], ◌∷◌, map, Some, None, Ok, refl, sym, ap, ◌∙◌}
 use Rattle.std.specs.Prelude.{is_some, ◌==◌, slice_get, option_and_then}
 use Rattle.std.specs.List.{list_all, range_with_len, last_or}

@@ -1,4 +1,4 @@
--- The induction over the events of a history, for all histories and the worlds that they lead to.
+-- The proof by induction that a property of the opening world that each step preserves holds in every reached world.
 use Rattle.std.proofs.Common.{◌≡◌, ℕ, List, [], ◌∷◌, length, Option, Some, None, Ok, Err, refl, sym, ◌∙◌, subst, ◌++◌}
 use Rattle.std.proofs.lemmas.Option.{same_Some, option_and_then_some}
 use Rattle.std.proofs.lemmas.List.{length-set, length-replicate, append_assoc, append-nil}

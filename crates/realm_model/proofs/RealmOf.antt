@@ -1,4 +1,5 @@
--- The realm of a build, and its RD.
+-- Proofs that the RD of a build's realm is leased by the build and has the realm's row, and that other builds' steps
+-- change neither.
 use Rattle.std.proofs.Common.{◌≡◌, ◌≢◌, ℕ, zero, suc, ◌+◌, Bool, true, false, cond, ◌&&◌, not, List, [], ◌∷◌, ◌++◌, length, Option, Some, None, refl, sym, ap, ◌∙◌, subst, arith, pred}
 use Rattle.std.specs.Prelude.{is_some, slice_get, ◌==◌}
 use Rattle.std.proofs.lemmas.Bool.{and_parts, and_from, eq-eqb}

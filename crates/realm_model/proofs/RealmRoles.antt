@@ -1,4 +1,4 @@
--- The roles of granules as a realm is created or destroyed.
+-- Proofs that creating or destroying a realm preserves the invariant that links realms to the granules that they name.
 use Rattle.std.proofs.Common.{◌≡◌, ℕ, ◌*◌, true, false, cond, inl, inr, List, ◌∷◌, Option, Some, None, refl, sym, ap, ◌∙◌}
 use Rattle.std.specs.Prelude.{is_some, ◌==◌, option_map}
 use Rattle.std.specs.Ordering.{nat_cmp}

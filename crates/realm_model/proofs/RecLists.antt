@@ -1,4 +1,5 @@
--- Lists of RECs by number, after a REC is added at the end, and after the last REC is removed.
+-- Lemmas on lists of RECs by number: look-ups and rising numbers after a REC is added at the end, or the last REC is
+-- removed.
 use Rattle.std.proofs.Common.{◌≡◌, ℕ, zero, suc, ◌+◌, ◌<◌, ◌==◌, true, false, cond, List, [], ◌∷◌, ◌++◌, length, Option, Some, None, refl, sym, ap, ◌∙◌, subst, arith, ⊎_elim}
 use Rattle.std.specs.Prelude.{is_some}
 use Rattle.std.proofs.lemmas.Bool.{cases_eq, eq-eqb, ne_eqb}

@@ -1,4 +1,4 @@
--- The roles of granules after a REC is created in a realm, and after a REC is destroyed.
+-- Proofs that creating or destroying a REC preserves the invariant that links realms to the granules that they name.
 use Rattle.std.proofs.Common.{◌≡◌, ℕ, true, false, cond, ◌||◌, ◌⊎◌, inl, inr, List, [], ◌∷◌, ◌++◌, map, Option, Some, None, refl, sym, ap, ◌∙◌}
 use Rattle.std.specs.Prelude.{is_some, ◌==◌, option_map, slice_get}
 use Rattle.std.specs.List.{list_all}

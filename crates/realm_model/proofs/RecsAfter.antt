@@ -1,4 +1,4 @@
--- The RECs of a build's realm after one of its operations.
+-- Proofs that only the creation and the destruction of a REC change which RECs a build's realm has.
 use Rattle.std.proofs.Common.{◌≡◌, ℕ, ◌+◌, ◌<◌, ◌==◌, Bool, true, false, cond, inl, inr, List, [], ◌∷◌, ◌++◌, map, Option, Some, None, refl, sym, ap, ◌∙◌, subst}
 use Rattle.std.specs.Prelude.{option_map, is_some}
 use Rattle.std.specs.Ordering.{eq_by_cmp, nat_cmp}

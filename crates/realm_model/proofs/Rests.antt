@@ -1,4 +1,4 @@
--- The count of RECs that run, which is 0 exactly when no REC of a build runs.
+-- The proof that the count of a build's running RECs is 0 if and only if no REC of its realm runs.
 use Rattle.std.proofs.Common.{◌≡◌, ℕ, ◌<◌, false, List, Option, Some, None, refl, ap, ◌∙◌, arith}
 use Rattle.std.specs.FinMap.{get}
 use Rattle.std.specs.List.{range_with_len}

@@ -1,4 +1,5 @@
--- The invariant that links realms to the granules that they name, after granules change.
+-- The proof that changes of granules preserve the invariant that links realms to the granules that they name. Each
+-- granule that a realm then names is unchanged, or was the host's before.
 use Rattle.std.proofs.Common.{◌≡◌, ℕ, true, false, ◌⊎◌, inl, inr, List, Option, Some, None, refl, sym, ap, ◌∙◌}
 use Rattle.std.specs.Prelude.{option_map, slice_get}
 use Rattle.std.specs.FinMap.{get}

@@ -1,4 +1,4 @@
--- The theorem that a build can be rolled back to a valid mark.
+-- The theorem that a build can be rolled back to a valid mark, unless a REC that it created after the mark runs.
 use Rattle.std.proofs.Common.{◌≡◌, ◌≢◌, ℕ, suc, ◌+◌, ◌≤◌, true, false, not, List, [], ◌∷◌, ◌++◌, length, map, take, drop, reverse, Some, None, refl, sym, ap, ◌∙◌, subst, arith}
 use Rattle.std.specs.Prelude.{◌==◌, option_map, option_and_then}
 use Rattle.std.specs.List.{list_any, last_or}

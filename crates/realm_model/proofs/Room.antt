@@ -1,4 +1,5 @@
--- The history capacity that builds have used after an accepted event.
+-- Proofs that an event takes history capacity of its own build only, and that a build's used capacity is a sum over its
+-- operations.
 use Rattle.std.proofs.Common.{◌≡◌, ℕ, ◌+◌, Bool, true, false, cond, inl, inr, ⊎_elim, List, [], ◌∷◌, ◌++◌, length, Some, None, Ok, Err, refl, sym, ap, ◌∙◌, subst, arith}
 use Rattle.std.specs.List.{sum_by}
 use Rattle.std.proofs.lemmas.Bool.{cases_eq}

@@ -1,4 +1,5 @@
--- The rows of translation tables by entry state, and the granules that the rows lead to.
+-- Lemmas on the rows of translation tables by entry state: which granule a row leads to, and in which state that
+-- granule is.
 use Rattle.std.proofs.Common.{◌≡◌, ℕ, ◌≤◌, true, false, Option, Some, None, refl, ap, subst, arith}
 use Rattle.std.specs.Prelude.{option_map}
 use Rattle.std.specs.FinMap.{get}

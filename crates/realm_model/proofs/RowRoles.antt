@@ -1,4 +1,5 @@
--- The roles of granules after a row of a realm is changed to lead to a granule, or to no granule.
+-- Proofs that the invariant that links realms to granules still holds after a row is changed to lead to a granule, or
+-- to none.
 use Rattle.std.proofs.Common.{◌≡◌, ℕ, true, false, cond, ◌||◌, ◌⊎◌, inl, inr, [], ◌∷◌, Option, Some, None, refl, sym, ap, ◌∙◌}
 use Rattle.std.specs.Prelude.{is_some, ◌==◌, option_map}
 use Rattle.std.specs.FinMap.{get, insert}

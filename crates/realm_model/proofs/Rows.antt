@@ -1,4 +1,4 @@
--- The row at each place of a realm's tables after rows are inserted or removed.
+-- Lemmas that give the row at each place of a realm's tables after rows are inserted or removed.
 use Rattle.std.proofs.Common.{subst, ◌≡◌, ◌≢◌, ℕ, zero, suc, ◌+◌, ◌*◌, ◌^◌, ◌<◌, ◌≤◌, Bool, true, false, cond, ◌&&◌, not, Option, Some, None, lit≤, refl, sym, ap, ◌∙◌, arith, ◌⊎◌, inl, inr}
 use Rattle.std.specs.Prelude.{option_map, ◌==◌, nat_le, nat_lt}
 use Rattle.std.specs.Ordering.{eq_by_cmp}

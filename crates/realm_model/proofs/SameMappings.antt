@@ -1,4 +1,4 @@
--- Two maps of rows that agree up to RIPAS, after the same insertion or removal in both.
+-- Proofs that two maps of RTT entries still differ at most in RIPAS after corresponding insertions or removals.
 use Rattle.std.proofs.Common.{◌≡◌, ℕ, zero, suc, ◌+◌, ◌-◌, ◌*◌, true, false, cond, not, Some, None, Ordering, refl, sym, ap, ◌∙◌}
 use Rattle.std.specs.Prelude.{option_map}
 use Rattle.std.specs.Ordering.{eq_by_cmp}

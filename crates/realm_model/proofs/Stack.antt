@@ -1,4 +1,5 @@
--- The unmatched operations as a stack: an operation with a reverse is pushed, and a reverse operation pops the top.
+-- The proof that the unmatched operations are a stack: an operation with a reverse is pushed, and a reverse operation
+-- pops the top.
 use Rattle.std.proofs.Common.{◌≡◌, ℕ, zero, suc, pred, ◌+◌, ◌-◌, ◌≤◌, Bool, true, false, cond, not, ◌&&◌, ◌||◌, List, [], ◌∷◌, ◌++◌, length, take, refl, sym, ap, ◌∙◌, arith}
 use Rattle.std.specs.Prelude.{filter, fold, ◌==◌}
 use Rattle.std.proofs.lemmas.Bool.{eq-eqb, ne_eqb}

@@ -1,4 +1,4 @@
--- The conditions and the effect of a step, derived from the fact that the step is accepted.
+-- Proofs that an accepted step met its conditions, and that it has the effect of its command's updates.
 use Rattle.std.proofs.Common.{◌≡◌, ℕ, true, List, map, Some, Ok, Err, refl, sym, ap, ◌∙◌}
 use Rattle.std.specs.Prelude.{nat_lt}
 use Rattle.std.specs.List.{list_all}

@@ -1,4 +1,5 @@
--- The undo of all that a build has open, the newest first.
+-- The proof that a build can undo all its open operations, the newest first, unless one of them created a REC that
+-- runs.
 use Rattle.std.proofs.Common.{◌≡◌, ℕ, suc, true, false, cond, not, List, [], ◌∷◌, ◌++◌, length, map, reverse, Some, None, refl, sym, ap, ◌∙◌, subst}
 use Rattle.std.specs.Prelude.{◌==◌, option_map}
 use Rattle.std.specs.List.{last_or, list_any}

@@ -1,4 +1,4 @@
--- The VMIDs in use after an operation.
+-- The proof that only the creation and destruction of realms change the VMIDs in use.
 use Rattle.std.proofs.Common.{◌≡◌, ℕ, ◌≤◌, Bool, true, false, ◌||◌, List, [], ◌∷◌, ◌++◌, length, Option, Some, None, refl, sym, ap, ◌∙◌, subst, arith, ⊎_elim}
 use Rattle.std.specs.Prelude.{◌==◌, slice_get, filter}
 use Rattle.std.specs.List.{flat_map}

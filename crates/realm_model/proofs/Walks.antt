@@ -1,4 +1,4 @@
--- The level and the row at which an RTT walk ends.
+-- Lemmas on RTT walks: the level at which a walk ends, and the row at that level.
 use Rattle.std.proofs.Common.{◌≡◌, ℕ, zero, suc, ◌≤◌, Some, None, refl, sym, ap, ◌∙◌, arith}
 use Rattle.std.proofs.lemmas.Option.{same_Some}
 use Rattle.realm_model.specs.Rows.{Row, Rows, Walk, walk, row_at}

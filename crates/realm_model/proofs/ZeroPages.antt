@@ -1,4 +1,4 @@
--- The pages of tables, RDs, RECs and DELEGATED granules, which are zero in every reached world.
+-- The proof that the pages of tables, RDs, RECs and DELEGATED granules are zero in every reached world.
 use Rattle.std.proofs.Common.{◌≡◌, ℕ, Bool, true, false, cond, List, [], ◌∷◌, map, Option, Some, None, refl, sym, ap, ◌∙◌, subst}
 use Rattle.std.specs.Prelude.{◌==◌, option_map}
 use Rattle.std.proofs.lemmas.Bool.{eqb-true, eqb-false}

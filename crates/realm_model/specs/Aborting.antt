@@ -1,4 +1,4 @@
--- The abort of a build while other builds go on.
+-- The conditions that hold during a build's abort while other builds go on, from its start until nothing is open.
 use Rattle.std.specs.Prelude.{◌≡◌, ℕ, List, [], ◌++◌, reverse, IsTrue, None, Some}
 use Rattle.std.specs.List.{last_or, All}
 use Rattle.realm_model.specs.declared.act.Act.{Act}

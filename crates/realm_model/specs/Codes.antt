@@ -1,4 +1,4 @@
--- Encodings of rows, granules and machines, which a struct needs to have a machine as its view.
+-- Encodings of rows, RECs, realms, granules and machines, which let a struct have a machine as its view.
 use Rattle.std.specs.Prelude.{ℕ, List, Option, refl}
 use Rattle.std.specs.Coded.{Coded, code_by, coded×, coded_ℕ, coded_list, coded_option}
 use Rattle.std.specs.FinMap as map

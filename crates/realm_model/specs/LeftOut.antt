@@ -1,4 +1,5 @@
--- A history without a build's events: the other builds use the same capacity, and each event is accepted again.
+-- The conditions that leaving out a build keeps the other builds' used capacity, and that each remaining event is
+-- accepted.
 use Rattle.std.specs.Prelude.{◌≡◌, ◌≢◌, ℕ, ◌+◌, ◌<◌, ◌≤◌, true, List, [], ◌∷◌, ◌++◌, length, take, Some}
 use Rattle.realm_model.specs.declared.act.Event.{Event}
 use Rattle.realm_model.specs.Machine.{Limits}

@@ -1,4 +1,4 @@
--- Marks: points of a build to which it can be rolled back.
+-- Marks (points to which a build can be rolled back): their validity, and the effect of a rollback.
 use Rattle.std.specs.Prelude.{◌≡◌, ◌↔◌, ℕ, ◌≤◌, List, [], ◌∷◌, ◌++◌, length, map, reverse, take, drop, false, Some}
 use Rattle.std.specs.List.{list_any}
 use Rattle.realm_model.specs.declared.act.Act.{Act}

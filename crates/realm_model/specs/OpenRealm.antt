@@ -1,4 +1,4 @@
--- The realm of a build as a function of the build's history.
+-- The conditions that a build's realm, and the VMIDs in use, are those of the Realm operations that builds have open.
 use Rattle.std.specs.Prelude.{◌≡◌, ◌≤◌, ◌↔◌, ◌==◌, ℕ, List, [], ◌∷◌, filter, length, Bool, true, false, IsTrue, Option, Some, None}
 use Rattle.std.specs.List.{list_any, Contains}
 use Rattle.realm_model.specs.declared.act.Act.{Act}

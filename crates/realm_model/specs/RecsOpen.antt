@@ -1,4 +1,4 @@
--- The RECs of a build's realm, from the operations that the build has open.
+-- The condition that the RECs of a build's realm are those that the build's open operations created.
 use Rattle.std.specs.Prelude.{◌≡◌, ◌<◌, ◌==◌, ℕ, List, [], ◌∷◌, cond, length, get_or, Option, Some, None}
 use Rattle.std.specs.List.{flat_map}
 use Rattle.realm_model.specs.declared.act.Act.{Act}

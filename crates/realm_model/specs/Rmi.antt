@@ -1,4 +1,4 @@
--- Status codes and result words. RMM 1.0, RMI command return codes.
+-- The RMI status codes, and the result words of refusals. RMM 1.0, RMI command return codes.
 use Rattle.std.specs.Prelude.{ℕ, ◌+◌, ◌*◌}
 use Rattle.realm_model.specs.declared.rmi.Rmi.{Rmi}
 use Rattle.realm_model.specs.declared.rmi.Status.{Status}

@@ -1,4 +1,4 @@
--- The roles of granules in a realm, and the state that goes with each.
+-- The roles of granules in a realm, and the granule state of each role.
 use Rattle.std.specs.Prelude.{◌≡◌, ℕ, List, Bool, true, false, Option, Some, None, option_map, slice_get}
 use Rattle.std.specs.FinMap.{get}
 use Rattle.granule_addr.specs.Root.{starting_tables}

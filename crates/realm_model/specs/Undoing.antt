@@ -1,4 +1,4 @@
--- The undo of one operation, and of all operations that a build has open.
+-- The effect of undoing one operation, and of undoing all operations that a build has open.
 use Rattle.std.specs.Prelude.{◌≡◌, ◌≢◌, ◌↔◌, ◌⊎◌, ℕ, List, [], ◌∷◌, ◌++◌, length, map, reverse, false, Some, None}
 use Rattle.std.specs.List.{last_or, Contains}
 use Rattle.realm_model.specs.declared.act.Act.{Act}

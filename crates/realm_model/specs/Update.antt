@@ -1,4 +1,4 @@
--- The updates of a command, made in sequence, each of one granule.
+-- The updates of a command: each changes one granule, and they are made in sequence.
 use Rattle.std.specs.Prelude.{ℕ, List, [], ◌∷◌, Option, Some, None, Result, Ok, Err, slice_set}
 use Rattle.realm_model.specs.declared.rmi.Rmi.{Rmi}
 use Rattle.realm_model.specs.Machine.{Cell, Machine, blank, cell_at}

@@ -5,14 +5,14 @@ ghost use Rattle.realm_model.specs.Kind.{act_kind};
 use arrayvec::ArrayVec;
 use granule_addr::{BuildId, Gran, IpaGran, Level, Order, PageOff, RecNo, Root, Vmid};
 
-/// An operation: an accepted command, or the reverse of one. It has the granules that it named and the answer that it
-/// got.
+/// An accepted operation: a command, or the lease or the return of a block. It has the granules that it named and the
+/// answer that it got.
 ///
 /// `UnTake`, `Undelegate`, `UnRealm`, `UnRtt`, `UnData` and `UnRec` are reverses. `UnData` is the reverse of `Data` and
 /// of `Unknown`.
 #[derive(PartialEq, Eq, Drop)]
 pub enum Act {
-    /// The lease of a block of free pages to a build.
+    /// The lease of a block of free granules to a build.
     Take {
         order: Order,
         first: Gran,
@@ -133,7 +133,7 @@ impl Event {
     }
 }
 
-/// Copies a list of granules. No memory is taken.
+/// Copies a list of granules. No memory is allocated.
 pub fn clone_granules(granules: &ArrayVec<Gran, 16>) -> ArrayVec<Gran, 16>
     ensures { result ≡ granules.now }
 {
@@ -155,7 +155,7 @@ impl Act {
         self == act
     }
 
-    /// Returns a copy of the operation. No memory is taken.
+    /// Returns a copy of the operation. No memory is allocated.
     #[tactic(auto, unfolding(crate::specs::Act::reverse_of))]
     pub fn clone(&self) -> Act
         ensures { result ≡ self.now }
@@ -282,8 +282,8 @@ impl Act {
     }
 }
 
-/// The RD of a build's realm, and the granule of an operation's REC. Each is `None` if there is none. Given both, the
-/// RMM searches for neither. The value of `rec` does not matter to an operation that names no REC.
+/// The RD of a build's realm, and the granule of the REC that an operation names. Each is `None` if there is none.
+/// Given both, the RMM searches for neither. The value of `rec` does not matter to an operation that names no REC.
 #[derive(Clone, Copy)]
 pub struct RealmAndRec {
     pub realm: Option<Gran>,

@@ -1,4 +1,4 @@
-//! The capacity of a build's journal, and the limits of a history's capacity for each build.
+//! The capacity of a build's journal, and the smallest and largest settings for a history's capacity per build.
 
 /// The capacity of a build's journal, in operations. A build can have at most that many operations open at once.
 pub const JOURNAL_ROOM: u16 = 512;

@@ -38,8 +38,8 @@ pub fn schedule_does_not_matter()
     ensures { (limits : Limits) (history other : List Event) → IsLegal limits history → IsLegal limits other → HasSameEvents history other → replay limits history ≡ replay limits other }
 {}
 
-/// Two adjacent events of different builds commute, with one exception. In the exception the second event takes a
-/// granule or a VMID that the first gives back. Otherwise both sequences lead to the same world.
+/// Two adjacent events of different builds commute, unless the second takes a granule or a VMID that the first gives
+/// back. If they commute, both sequences lead to the same world.
 pub fn events_of_two_builds_commute()
     ensures { (limits : Limits) (history : List Event) (one other : Event) → EventsCommute limits history one other }
 {}
@@ -71,18 +71,18 @@ pub fn rec_numbers_are_bounded()
     ensures { (limits : Limits) (history : List Event) (world : World) (build : ℕ) → IsLegal limits history → replay limits history ≡ Some world → NumbersAreFew history world build }
 {}
 
-/// A build's count of running RECs is 0 exactly if no REC of its realm runs.
+/// A build's count of running RECs is 0 if and only if no REC of its realm runs.
 pub fn at_rest_is_none_running()
     ensures { (limits : Limits) (history : List Event) (world : World) (build : ℕ) → replay limits history ≡ Some world → RestIsOfAll world build }
 {}
 
-/// An accepted event uses history capacity of its own build only. The amount depends on the event's operation alone.
+/// An accepted event uses only its own build's history capacity. The amount depends on the event's operation alone.
 pub fn room_is_taken()
     ensures { (limits : Limits) (history : List Event) (world : World) (event : Event) (next : World)
         → IsLegal limits history → replay limits history ≡ Some world → RoomIsTaken limits history world event next }
 {}
 
-/// The history capacity used by a build is the sum of what its operations use.
+/// The history capacity that a build has used is the sum of the capacities that its operations take.
 pub fn room_is_a_sum()
     ensures { (limits : Limits) (history : List Event) (world : World) (build : ℕ) → IsLegal limits history → replay limits history ≡ Some world → RoomIsSum history world build }
 {}
@@ -111,14 +111,13 @@ pub fn vmids_are_of_open_acts()
     ensures { (limits : Limits) (history : List Event) (world : World) (vmid : ℕ) → IsLegal limits history → replay limits history ≡ Some world → VmidIsOpen history world vmid }
 {}
 
-/// Proves that an operation and its reverse right after it leave the ownership of granules as it was. The reverse is
-/// accepted.
+/// An operation and its reverse right after it leave the ownership of granules as it was. The reverse is accepted.
 pub fn pairs_lead_back()
     ensures { (limits : Limits) (history : List Event) (world : World) (build : ℕ) (act back : Act) (middle : World)
         → replay limits history ≡ Some world → PairLeadsBack limits build world act back middle }
 {}
 
-/// An operation changes no ownership of granules unless it has a reverse or is one.
+/// An operation changes no ownership of granules unless it has a reverse or is a reverse itself.
 pub fn other_acts_own_the_same()
     ensures { (limits : Limits) (world : World) (build : ℕ) (act : Act) (next : World) → OtherActOwnsSame limits build world act next }
 {}
@@ -130,8 +129,8 @@ pub fn ownership_follows()
         → replay limits history ≡ Some world → replay limits past ≡ Some twin → OwnershipFollows limits build act world twin next other }
 {}
 
-/// A build can undo its newest open operation, with one exception. What other builds did since does not matter. The
-/// exception is an operation that created a REC that is running.
+/// A build can undo its newest open operation, unless that operation created a REC that is running. What other builds
+/// did since does not matter.
 pub fn newest_can_be_undone()
     ensures { (limits : Limits) (history : List Event) (world : World) (build : ℕ) (act : Act)
         → IsLegal limits history → replay limits history ≡ Some world → NewestCanBeUndone limits history build world act }
@@ -154,8 +153,8 @@ pub fn builds_stay_at_rest()
     ensures { (limits : Limits) (history : List Event) (world : World) (build : ℕ) (event : Event) (next : World) → replay limits history ≡ Some world → StaysAtRest limits world build event next }
 {}
 
-/// No other build can hold up an abort. Each undo is accepted whatever other builds do, and the finished abort leaves
-/// nothing behind.
+/// No other build can hold up the abort of a build that runs no RECs. Each undo is accepted whatever other builds do,
+/// and the finished abort leaves nothing behind.
 pub fn aborts_go_on()
     ensures { (limits : Limits) (history later : List Event) (build : ℕ) (begun world : World)
         → IsLegal limits (history ++ later) → replay limits history ≡ Some begun → replay limits (history ++ later) ≡ Some world
@@ -173,7 +172,8 @@ pub fn marks_remain_valid()
     ensures { (mark : Mark) (history : List Event) (event : Event) → StaysValid mark history event }
 {}
 
-/// A build can be rolled back to a valid mark unless a REC created later runs. Only RECs of the build itself count.
+/// A build can be rolled back to a valid mark, unless a REC that it created after the mark runs. RECs of other builds
+/// do not matter.
 pub fn marks_can_be_rolled_back_to()
     ensures { (limits : Limits) (history : List Event) (world : World) (mark : Mark) → IsLegal limits history → replay limits history ≡ Some world → CanRollBack limits history mark world }
 {}

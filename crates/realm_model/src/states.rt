@@ -12,7 +12,7 @@ pub enum GranuleState {
     Rtt,
 }
 
-/// The state of a realm. RMM 1.0, Realm state.
+/// The state of a realm. RMM 1.0, Realm state, without SYSTEM_OFF.
 #[derive(Clone, Copy)]
 pub enum RealmState {
     New,

@@ -1,4 +1,5 @@
--- Loop invariants for code that reads a list item by item, and stops at the first item that it cannot read.
+-- Lemmas on loops that read a list up to its first unreadable item: the items found and the reading of the rest give
+-- the whole result.
 use Rattle.std.proofs.Common.{◌≡◌, ℕ, ◌+◌, ◌<◌, ◌≤◌, List, [], ◌∷◌, ◌++◌, length, get_or, drop, Bool, true, ◌&&◌}
 use Rattle.std.proofs.Common.{Option, Some, None, String, Global, string_bytes, Result, Ok, Err, option_map, refl, sym, ap, ◌∙◌, append_assoc}
 use Rattle.std.specs.Prelude.{option_and_then}

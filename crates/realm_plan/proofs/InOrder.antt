@@ -1,4 +1,5 @@
--- Proof that the fault of a plan is that of the first part of the plan that cannot be read.
+-- Proofs that a plan's contents have the fault of their first faulty part, in this sequence: steps, schedule, integers,
+-- lengths.
 use Rattle.std.proofs.Common.{◌≡◌, ℕ, false, List, length, Result, Ok, refl}
 use Rattle.realm_plan.specs.declared.step.PlanStep.{PlanStep}
 use Rattle.realm_plan.specs.Contents.{Contents}

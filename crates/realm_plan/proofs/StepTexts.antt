@@ -1,4 +1,5 @@
--- Proof that each step is the meaning of its own text, and of no other text.
+-- Proof that a text means a step if and only if the text is the step's spelling and each number of the step is in its
+-- range.
 use Rattle.std.proofs.Common.{◌≡◌, ℕ, List, Option, Some, None, sym, ◌∙◌}
 use Rattle.std.specs.Prelude.{IfSome, IfNone}
 use Rattle.decimal_text.proofs.Grammars.{IsGrammar, meaning_of_spelled, spelled_from_meaning}

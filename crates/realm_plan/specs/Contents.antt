@@ -1,4 +1,4 @@
--- The values of the TOML keys of a plan, before their limits are checked.
+-- The values of a plan's TOML keys, before they are checked against their limits.
 use Rattle.std.specs.Prelude.{ℕ, ℤ, pos, Bool, true, ◌&&◌, List, [], ◌∷◌, codes, if◌then◌else◌, Option, Some, None, option_map, option_and_then}
 use Rattle.std.specs.List.{list_any}
 use Rattle.std.specs.Str.{bytes_eq}

@@ -1,4 +1,4 @@
--- The specification's view of the code's type `Contents`.
+-- The specification's view of the code's type `Contents`, the values of a plan's TOML keys.
 use Rattle.std.specs.Prelude.{map}
 use Rattle.realm_plan.specs.Contents.{Contents}
 use Rattle.realm_plan.specs.declared.contents.Contents as code

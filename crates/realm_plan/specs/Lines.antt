@@ -1,4 +1,4 @@
--- The output lines that have no answer: idle turns, pages, realms and the number of free granules.
+-- The output lines for idle turns, pages, realms and the number of free granules.
 use Rattle.std.specs.Prelude.{ℕ, List, [], ◌∷◌, ◌++◌, codes}
 use Rattle.std.specs.Fmt.{decimal}
 use Rattle.decimal_text.specs.Numbers.{spelled_numbers}

@@ -1,4 +1,4 @@
--- A value or a plan's fault, and the result of a call that returns either or fails to allocate memory.
+-- The condition that a call returns the specified value or plan fault, unless an allocation fails.
 use Rattle.std.specs.Prelude.{◌≡◌, Result, Ok, Err, Option, Some, None}
 use Rattle.realm_plan.specs.declared.fault.PlanFault.{PlanFault}
 use Rattle.realm_plan.specs.declared.fault.PlanError.{PlanError}

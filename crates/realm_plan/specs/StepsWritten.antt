@@ -1,4 +1,4 @@
--- The spelling of a plan's steps: a word, and numbers from 0 to the maximum of each.
+-- The spelling of a plan's steps as a word and decimal numbers, and the maximum of each number.
 use Rattle.std.specs.Prelude.{◌≡◌, ℕ, ◌≤◌, List, [], ◌∷◌, codes, replicate}
 use Rattle.arrayvec.specs.ArrayVec.{array_vec_len}
 use Rattle.decimal_text.specs.Grammar.{spelled}

@@ -1,4 +1,4 @@
-//! The printed text of a host's reply or refusal to a step of a plan.
+//! The printed texts of a host's replies and refusals, and of the kinds of undone operations.
 ghost use Rattle.std.specs.Prelude.{◌≡◌};
 ghost use Rattle.realm_plan.specs.Answers.{kind_word, refusal_name, refusal_numbers};
 

@@ -1,4 +1,4 @@
-//! The parser of a plan's steps. Each step is given as a word and numbers.
+//! Converts a word and numbers to the plan step that they mean.
 ghost use Rattle.std.specs.Prelude.{◌≡◌, codes};
 ghost use Rattle.decimal_text.specs.Rows.{none, one};
 ghost use Rattle.decimal_text.specs.Written.{u16};

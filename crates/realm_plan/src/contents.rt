@@ -1,4 +1,4 @@
-//! The values of the TOML keys of a plan, before their limits are checked.
+//! The values of a plan's TOML keys, before they are checked against their limits.
 ghost use Rattle.std.specs.Prelude.{◌≡◌, List, map, Some, None, IfOk, option_map, option_and_then};
 ghost use Rattle.std.specs.List.{list_any};
 ghost use Rattle.std.specs.Str.{bytes_eq};

@@ -9,10 +9,10 @@ use thiserror::Error;
 /// before all other reasons.
 #[derive(Clone, Copy, Debug, PartialEq, Eq, Error)]
 pub enum PlanFault {
-    /// Bytes of a plan that are not UTF-8, or not TOML.
+    /// A plan whose bytes are not UTF-8, or are not a TOML document.
     #[error("plan 20 syntax")]
     Syntax,
-    /// A key of a plan that is missing, unknown or of the wrong kind.
+    /// A key that a plan lacks, an unknown key, or a key whose value has the wrong type.
     #[error("plan 21 key")]
     Key,
     /// The first step whose text cannot be parsed, in the sequence of a plan's builds and their steps. The fields are

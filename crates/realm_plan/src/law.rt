@@ -3,7 +3,7 @@ ghost use Rattle.std.specs.Prelude.{◌≡◌, ℕ, List};
 ghost use Rattle.realm_plan.specs.declared.step.PlanStep.{PlanStep};
 ghost use Rattle.realm_plan.specs.StepsWritten.{IsStepText};
 
-/// Step texts are injective: different steps have different texts.
+/// Proves that step texts are injective: different steps have different texts.
 pub fn step_texts_are_injective()
     ensures { (text : List ℕ) (a b : PlanStep) → IsStepText text a → IsStepText text b → a ≡ b }
 {}

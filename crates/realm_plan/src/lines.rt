@@ -1,5 +1,5 @@
 //! The output lines for idle turns, pages, realms and the number of free granules. They are the lines of a run's text
-//! that hold no answer. Each `push_` function appends one line. If allocation fails, the text may have a part of the
+//! that contain no answer. Each `push_` function appends one line. If allocation fails, the text may have a part of the
 //! line.
 ghost use Rattle.std.specs.Prelude.{◌≡◌, ◌++◌, OnOk, string_bytes};
 ghost use Rattle.realm_plan.specs.Lines.{state_word, sum_numbers, realm_word, idle_line, page_line, realm_line, free_line};
@@ -11,7 +11,7 @@ use granule_addr::{BuildId, Vmid};
 use realm_model::{GranuleState, RealmState};
 use std::alloc::AllocError;
 
-/// The RMM 1.0 name of a granule's state, such as `DELEGATED`. RMM 1.0, Granule state.
+/// Returns the RMM 1.0 name of a granule's state, such as `DELEGATED`. RMM 1.0, Granule state.
 pub fn state_word(state: GranuleState) -> &'static str
     ensures { result.now ≡ state_word state }
 {
@@ -36,7 +36,7 @@ fn sum_numbers(state: GranuleState, sum: u32) -> ArrayVec<u32, MOST_NUMBERS>
     }
 }
 
-/// The RMM 1.0 name of a realm's state: `NEW` or `ACTIVE`. RMM 1.0, Realm state.
+/// Returns the RMM 1.0 name of a realm's state: `NEW` or `ACTIVE`. RMM 1.0, Realm state.
 pub fn realm_word(state: RealmState) -> &'static str
     ensures { result.now ≡ realm_word state }
 {

@@ -1,4 +1,5 @@
--- Proofs about the check that a recorded operation is that of a command, or of an undo.
+-- Proofs that a recorded operation passes the check if and only if it is that of the given command, and lemmas on
+-- matching undos.
 use Rattle.std.proofs.Common.{◌≡◌, ℕ, ◌-◌, ◌↔◌, Bool, true, false, List, length, drop, Option, Some, None, sym, ap, ◌∙◌}
 use Rattle.std.specs.Prelude.{IsTrue, slice_get, option_map, option_and_then}
 use Rattle.std.specs.List.{last_or}

@@ -1,4 +1,5 @@
--- Proofs about the result of a run by workers: an output text, or the reason why there is none.
+-- Proofs that a run by workers has the specified output text if all checks succeed, and otherwise a correct reason why
+-- there is none.
 use Rattle.std.proofs.Common.{◌≡◌, inl, inr, ℕ, ◌∷◌, [], ◌++◌, List, length, sym, subst, ◌∙◌, ap, ap₂}
 use Rattle.std.specs.Global.{Vec}
 use Rattle.std.specs.List.{AllZip, flat_map}

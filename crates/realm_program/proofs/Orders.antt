@@ -1,4 +1,5 @@
--- Proof that the text of a run in threads does not reveal the sequence in which builds took the lock.
+-- Proof that two runs in threads with the same final workers have the same text, in whatever sequence the builds took
+-- the lock.
 use Rattle.std.proofs.Common.{◌≡◌, ℕ, List, ◌++◌, sym, ap, ◌∙◌, subst}
 use Rattle.std.specs.List.{flat_map}
 use Rattle.host_ledger.specs.View.{HostView}

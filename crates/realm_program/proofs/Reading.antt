@@ -1,4 +1,5 @@
--- The loop invariant of the comparison of a worker's report with a history, and proofs about it.
+-- The loop invariant of comparing a worker's report with a history, and proofs that each line preserves it and that it
+-- decides the match.
 use Rattle.std.proofs.Common.{◌≡◌, ℕ, zero, suc, ◌+◌, ◌<◌, ◌≤◌, ◌↔◌, Bool, true, false, cond, List, [], ◌∷◌, ◌++◌, length, take, drop, get_or}
 use Rattle.std.proofs.Common.{nat_eq, Option, Some, None, refl, sym, ap, ◌∙◌, subst, inl, inr, arith, length-drop, add-zero, below_more}
 use Rattle.std.specs.Prelude.{slice_get, IsTrue, IfSome, IsSomeAnd}

@@ -1,4 +1,4 @@
--- Proofs that reports match a history exactly if their workers do, and that both have the same text.
+-- Proofs that reports match a history if and only if their workers do, and that both have the same text.
 use Rattle.std.proofs.Common.{◌≡◌, ℕ, ◌++◌, List, [], ◌∷◌, refl, sym, subst, ap₂}
 use Rattle.std.specs.Global.{Vec}
 use Rattle.std.specs.List.{AllZip, flat_map}

@@ -1,4 +1,4 @@
--- Lemmas on the seats of a plan's builds, and on the workers that are created for them in sequence.
+-- Proofs that creating a worker for each session handle (seat) gives the new workers of a plan's builds, in sequence.
 use Rattle.std.proofs.Common.{◌≡◌, ℕ, zero, suc, ◌+◌, ◌<◌, List, [], ◌∷◌, ◌++◌, length, map, get_or, refl, sym, ap, ◌∙◌, arith, zero-add}
 use Rattle.std.specs.List.{range_with_len}
 use Rattle.std.specs.Prelude.{All}

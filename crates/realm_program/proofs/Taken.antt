@@ -1,4 +1,4 @@
--- Lemmas on a list whose elements are taken one by one: the part taken so far, and the rest.
+-- Proofs that the elements taken one by one from a list, followed by those left, are always the whole list.
 use Rattle.std.proofs.Common.{◌≡◌, ℕ, ◌+◌, List, [], ◌∷◌, ◌++◌, length, sym, ap, ◌∙◌, append_assoc, append-nil, arith}
 
 none_left : {X : Type 0} (taken left : List X) → length left ≡ 0 → taken ++ left ≡ taken

@@ -1,4 +1,4 @@
--- The exit status of the program for each fault.
+-- The exit status of `realmhost` for each fault, and the fault for each error of reading a plan.
 use Rattle.std.specs.Prelude.{ℕ}
 use Rattle.checked_io.specs.declared.told.ReadError.{ReadError}
 use Rattle.checked_io.specs.declared.told.ReadError.TheVariants as read_error

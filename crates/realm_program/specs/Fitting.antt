@@ -1,4 +1,4 @@
--- The match of a report with the events of its build in a history, line by line.
+-- The condition that the lines of a worker's report match the events of its build in a history.
 use Rattle.std.specs.Prelude.{◌≡◌, ℕ, ◌-◌, ◌++◌, nat_lt, List, filter, map, length, take, Option, Some, None, slice_get, option_and_then, IsSomeAnd, if◌then◌else◌}
 use Rattle.std.specs.Global.{Vec}
 use Rattle.std.specs.List.{last_or}

@@ -1,4 +1,5 @@
--- The independence of a run's text from the sequence in which builds took the lock.
+-- The condition that two runs with the same final workers have the same text, in whatever sequence the builds took the
+-- lock.
 use Rattle.std.specs.Prelude.{◌≡◌, ℕ, List}
 use Rattle.host_ledger.specs.View.{HostView}
 use Rattle.plan_replay.specs.Run.{map_text}

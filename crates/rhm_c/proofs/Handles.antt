@@ -1,4 +1,5 @@
--- Proofs on the effect of a C call on an open handle and on a closed handle.
+-- Proofs that a C call on an open handle is a call of the handle's host, whose addresses stay, and that a closed handle
+-- stays closed.
 use Rattle.std.proofs.Common.{◌≡◌, Option, Some, None, sym, subst}
 use Rattle.history_calls.specs.Frame.{Place}
 use Rattle.host_ledger.specs.View.{HostView}

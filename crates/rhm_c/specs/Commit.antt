@@ -1,4 +1,4 @@
--- The completion of prepared commands and undos, by the RMM's answers to their calls.
+-- The completion of prepared commands and undos, given the RMM's answers to their calls.
 use Rattle.std.specs.Prelude.{ℕ, ◌==◌, ◌%◌, ◌-◌, ◌^◌, ◌||◌, Bool, true, List, Option, Some, None, Result, Ok, Err, if◌then◌else◌}
 use Rattle.std.specs.List.{list_all}
 use Rattle.arrayvec.specs.ArrayVec.{ArrayVec}

@@ -1,4 +1,4 @@
--- Undos, aborts, marks and rollbacks of a build, which is given by its number.
+-- The effect of the C calls that undo, abort, mark or roll back a build, which C gives by its number.
 use Rattle.std.specs.Prelude.{◌≡◌, ℕ, Option, Some, None, Result, Ok, Err, unwrap_or}
 use Rattle.host_commands.specs.declared.refusal.Refusal.{Refusal}
 use Rattle.host_commands.specs.declared.refusal.Refusal.TheVariants.{NothingToUndo}

@@ -1,4 +1,4 @@
-//! Functions that mark a point of a build, and roll the build back to it.
+//! Functions of the C interface that mark a build's current point, and roll the build back to its mark.
 ghost use Rattle.std.specs.Prelude.{◌≡◌};
 ghost use Rattle.rhm_c.specs.Command.{build_in};
 ghost use Rattle.rhm_c.specs.Answer.{IsOnHandle};

@@ -1,4 +1,4 @@
-//! Functions that open and close a C program's handle of a host.
+//! Functions of the C interface that open and close a handle of a host.
 ghost use Rattle.std.specs.Prelude.{◌≡◌, ◌≢◌, ◌≤◌, ◌↔◌, true, false, None, Some, is_some};
 ghost use Rattle.rhm_c.specs.Settings.{are_settings, opened_host};
 

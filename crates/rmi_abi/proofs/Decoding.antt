@@ -1,4 +1,4 @@
--- Proofs that registers that are decoded as a call equal the encoding of the call, in the function and the operands.
+-- Proofs that registers decoded as a call equal the call's encoding, in X0 and in the registers of its operands.
 use Rattle.std.proofs.Common.{◌≡◌, ℕ, ◌==◌, Bool, true, false, cond, Option, Some, None, refl, ap, ◌∙◌, subst, nat_le}
 use Rattle.std.proofs.lemmas.Bool.{eqb-true}
 use Rattle.rmi_abi.specs.declared.call.Call.{Call}

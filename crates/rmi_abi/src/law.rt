@@ -12,7 +12,7 @@ pub fn calls_come_back()
     ensures { (call : Call) → call_in (registers_of call) ≡ Some call }
 {}
 
-/// Encoding a decoded RMI call gives its registers back, with zeros after the operands.
+/// Encoding an RMI call that was decoded from registers gives the same registers, but with zeros after the operands.
 pub fn registers_come_back()
     ensures { (r : Registers) (call : Call) → call_in r ≡ Some call
         → with_operands (operand_count call) r ≡ registers_of call }

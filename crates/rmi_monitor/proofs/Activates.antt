@@ -1,4 +1,4 @@
--- The effect of RMI_REALM_ACTIVATE on the fields of an RMM.
+-- The proof that RMI_REALM_ACTIVATE, on the fields of an RMM, has the outcome and the effect of the model's command.
 use Rattle.std.proofs.Common.{◌≡◌, ℕ, Bool, true, false, [], ◌∷◌, set, Some, Ok, Err, refl, sym, ap, ◌∙◌, subst, arith}
 use Rattle.realm_model.specs.declared.states.RealmState.TheVariants.{Active}
 use Rattle.realm_model.specs.Machine.{RealmRow}

@@ -1,4 +1,4 @@
--- The tests of a granule's state that commands make.
+-- Proofs that the test for a state, UNDELEGATED or DELEGATED, holds if and only if a granule has that state.
 use Rattle.std.proofs.Common.{◌≡◌, Bool, true, false, refl}
 use Rattle.realm_model.specs.declared.states.GranuleState.{GranuleState}
 use Rattle.realm_model.specs.declared.states.GranuleState.TheVariants.{Undelegated, Delegated}

@@ -1,4 +1,4 @@
--- The checks and the outcome of RMI_REALM_CREATE, derived from the fields of an RMM.
+-- The proof that the checks of RMI_REALM_CREATE on the fields of an RMM lead to the outcome of the model's command.
 use Rattle.std.proofs.Common.{◌≡◌, ℕ, ◌<◌, ◌≤◌, Bool, true, false, List, [], ◌∷◌, length, map, set, cond, Option, Some, None, Ok, Err, refl, sym, ap, ◌∙◌, subst, ⊎_elim}
 use Rattle.std.specs.Prelude.{◌==◌, ◌%◌, ◌&&◌, ◌↔◌, IsTrue, not, nat_le}
 use Rattle.std.specs.Bool.{OnTrue}

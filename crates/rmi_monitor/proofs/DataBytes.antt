@@ -1,4 +1,4 @@
--- The write of a byte to a realm's page of data: the machine gets the byte, and nothing else changes.
+-- The proof that writing a byte to a realm's page of data changes that byte of the machine, and nothing else.
 use Rattle.std.proofs.Common.{◌≡◌, ◌≢◌, ℕ, ◌<◌, Bool, false, List, [], ◌∷◌, length, set, Ok, Some, refl, sym, ap, ◌∙◌, subst}
 use Rattle.std.proofs.lemmas.List.{length-set, get_or-set_same, get_or-set_other}
 use Rattle.page_arena.specs.Page.{page_at, is_free, with_byte}

@@ -1,4 +1,4 @@
--- The effect of RMI_DATA_CREATE on the fields of an RMM: a DELEGATED granule becomes a page with another granule's
+-- The proof that RMI_DATA_CREATE, on the fields of an RMM, turns a DELEGATED granule into a page with another granule's
 -- bytes.
 use Rattle.std.proofs.Common.{◌≡◌, ◌≢◌, ℕ, ◌<◌, ◌&&◌, Bool, true, false, List, [], ◌∷◌, length, set, get_or, Option, option_map, Some, None, Ok, Err, refl, sym, ap, ◌∙◌, subst, arith}
 use Rattle.std.proofs.lemmas.Bool.{and_from, and_left, and_right, and_parts}

@@ -1,4 +1,4 @@
--- The write of the page of a DATA granule, which leaves the tables of all realms unchanged.
+-- Proofs that writing the page of a DATA granule leaves the tables of all realms unchanged.
 use Rattle.std.proofs.Common.{◌≡◌, ◌≢◌, ℕ, Bool, List, [], set, sym, ap, ◌∙◌}
 use Rattle.std.proofs.lemmas.List.{length-set, get_or-set_other}
 use Rattle.granule_addr.specs.declared.width.Root.{Root}

@@ -1,4 +1,5 @@
--- The fields of an RMM that a command leaves unchanged, and the invariant that therefore still holds.
+-- Proofs that the invariant still holds after a command that changes some fields of an RMM and leaves the others
+-- unchanged.
 use Rattle.std.proofs.Common.{◌≡◌, ◌≢◌, ℕ, ◌<◌, ◌≤◌, Bool, true, false, cond, List, length, get_or, Some, None, option_map, refl, sym, ap, ◌∙◌, subst, arith}
 use Rattle.std.specs.Prelude.{is_some, nat_eq, ◌==◌}
 use Rattle.std.specs.Option.{option_eq}

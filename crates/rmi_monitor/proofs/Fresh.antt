@@ -1,4 +1,4 @@
--- An RMM that has just been built.
+-- Proofs that the fields of an RMM that has just been built satisfy the invariant and represent a fresh machine.
 use Rattle.std.proofs.Common.{◌≡◌, ℕ, ◌<◌, Bool, true, false, List, [], length, replicate, None, is_some, refl, sym, ap, ◌∙◌, subst}
 use Rattle.std.specs.FinMap.{empty, len, len-empty}
 use Rattle.std.specs.Ordering.{nat_cmp}

@@ -1,4 +1,5 @@
--- The finite map of the entries at a range of indexes, and the map after one of the entries changes.
+-- Lemmas on the finite map of the entries at a range of indexes: look-ups, and the map after one of the entries
+-- changes.
 use Rattle.std.proofs.Common.{◌≡◌, ◌≢◌, ℕ, zero, suc, ◌+◌, ◌-◌, ◌<◌, ◌≤◌, Bool, true, false, cond, Option, Some, None, refl, sym, ap, ◌∙◌, subst, ⊎_elim, arith}
 use Rattle.std.specs.Prelude.{is_some}
 use Rattle.std.specs.Cmp.{nat_cmp_total, unsigned_tied}

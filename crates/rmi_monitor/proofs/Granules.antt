@@ -1,4 +1,4 @@
--- The fields of an RMM after a command on a single granule.
+-- Proofs that a command on a single granule changes the fields of an RMM as the model's command changes the machine.
 use Rattle.std.proofs.Common.{◌≡◌, ◌≢◌, ℕ, ◌<◌, Bool, true, false, List, [], ◌∷◌, length, set, Ok, None, refl, sym, ap, ◌∙◌, subst}
 use Rattle.std.proofs.lemmas.List.{set-get_or}
 use Rattle.page_arena.specs.Page.{page_at, is_free}

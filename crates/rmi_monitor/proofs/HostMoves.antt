@@ -1,4 +1,5 @@
--- The change of a granule that is UNDELEGATED or DELEGATED before and after, and whose page may change too.
+-- Proofs that a change of a granule that is UNDELEGATED or DELEGATED before and after keeps the invariant and changes
+-- one cell.
 use Rattle.std.proofs.Common.{◌≡◌, ◌≢◌, ℕ, ◌<◌, Bool, true, false, List, [], length, set, None, refl, sym, ap, ◌∙◌, subst, arith}
 use Rattle.std.specs.Prelude.{◌==◌}
 use Rattle.std.proofs.lemmas.Bool.{eqb-true, eqb-false, ne_eqb}

@@ -1,4 +1,5 @@
--- The realm's tables and the IPA granule that a command uses, if the IPA granule is protected.
+-- Proofs that the lookup for a command finds the realm's tables if and only if the realm exists and the IPA granule is
+-- protected.
 use Rattle.std.proofs.Common.{◌≡◌, ℕ, ◌<◌, true, false, cond, Option, Some, None, refl, sym, ap, ◌∙◌, subst}
 use Rattle.std.specs.Prelude.{IfSome, IfNone}
 use Rattle.std.proofs.lemmas.Option.{none-some, same_Some}

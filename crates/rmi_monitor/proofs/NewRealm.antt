@@ -1,4 +1,4 @@
--- The attributes of a new realm.
+-- The proof that a new realm has the VMID and the starting tables that it was created with.
 use Rattle.std.proofs.Common.{◌≡◌, ℕ, ap}
 use Rattle.std.specs.FinMap.{empty}
 use Rattle.granule_addr.specs.declared.width.Root.{Root}

@@ -1,4 +1,4 @@
--- An operation on a REC, in the cases that the REC exists and that it does not.
+-- Proofs that an operation on a REC has the model's outcome, both if the REC exists and if it does not.
 use Rattle.std.proofs.Common.{◌≡◌, ℕ, true, Option, Some, None, Err, refl, sym, subst}
 use Rattle.std.specs.Prelude.{Result, is_some, option_map, option_and_then}
 use Rattle.std.specs.FinMap.{get}

@@ -1,4 +1,4 @@
--- The proof that reading a page changes nothing.
+-- The proof that the host's read of a byte of a granule changes nothing.
 use Rattle.std.proofs.Common.{◌≡◌, ℕ, Bool, true, false, [], cond, Ok, Err, refl}
 use Rattle.realm_model.specs.Update.{machine_after_all}
 use Rattle.realm_model.specs.Command.Check.{check, error_input, is_undelegated}

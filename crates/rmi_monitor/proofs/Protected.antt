@@ -1,4 +1,4 @@
--- Protected IPA granules, which are in the address space.
+-- Proofs that protected IPA granules are in the address space, and that IPA granules outside it are not protected.
 use Rattle.std.proofs.Common.{◌≡◌, ℕ, ◌+◌, ◌-◌, ◌*◌, ◌^◌, ◌<◌, ◌≤◌, ◌&&◌, true, cond, Option, Some, None, ⊎_elim, refl, sym, ap, ◌∙◌, subst, arith}
 use Rattle.std.proofs.lemmas.Bool.{cases_lt, ltb-true, lt-ltb, le-leb, and_from}
 use Rattle.std.proofs.lemmas.Nat.{pow-add, pow_pos}

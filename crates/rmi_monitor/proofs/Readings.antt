@@ -1,4 +1,4 @@
--- The results of queries of a realm, derived from the fields of an RMM.
+-- Proofs that queries of a realm, which read the fields of an RMM, return what the machine has.
 use Rattle.std.proofs.Common.{◌≡◌, ℕ, ◌<◌, length, Option, Some, None, option_map, refl, sym, ap, ◌∙◌, subst}
 use Rattle.page_arena.specs.Page.{page_at}
 use Rattle.realm_model.specs.Machine.{Cell, RealmRow, cell_at}

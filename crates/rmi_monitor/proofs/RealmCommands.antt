@@ -1,4 +1,4 @@
--- The RMM after a command on a realm, derived from the effect of the call on the realm's tables.
+-- Proofs that a command on a realm changes the RMM as the model says, derived from the call on the realm's tables.
 use Rattle.std.proofs.Common.{◌≡◌, ℕ, ◌<◌, Bool, true, List, [], ◌∷◌, length, set, Option, Some, None, Result, Ok, Err, refl, sym, ap, ◌∙◌, subst, get_or}
 use Rattle.std.specs.Result.{IsErrAnd}
 use Rattle.rtt.specs.Granules.{granule_at, IsIn}

@@ -1,4 +1,4 @@
--- The effect of RMI_REALM_DESTROY on the fields of an RMM.
+-- The proof that RMI_REALM_DESTROY changes the fields of an RMM as the model's command changes the machine.
 use Rattle.std.proofs.Common.{◌≡◌, ◌≢◌, ℕ, ◌<◌, Bool, true, false, List, [], ◌∷◌, length, map, set, Some, None, is_some, refl, sym, ap, ◌∙◌, subst, arith}
 use Rattle.std.specs.Prelude.{◌==◌}
 use Rattle.std.proofs.lemmas.Bool.{eqb-true, eqb-false, ne_eqb}

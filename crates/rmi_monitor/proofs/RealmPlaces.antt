@@ -1,4 +1,4 @@
--- The granule of a realm's RD, which is inside the machine and in the state RD.
+-- Proofs that the granule of a realm's RD is inside the machine and in the state RD.
 use Rattle.std.proofs.Common.{◌≡◌, ◌≢◌, ℕ, ◌<◌, true, false, length, Some, None, is_some, refl, sym, ap, ◌∙◌, subst}
 use Rattle.rtt.specs.Granules.{granule_at}
 use Rattle.rtt.specs.declared.granule.Granule.{Granule}

@@ -1,4 +1,4 @@
--- The RECs of a realm, collected from the granules: the REC with a given number, if any.
+-- Proofs that the map of a realm's RECs, collected from the granules, has the REC with a given number, if there is one.
 use Rattle.std.proofs.Common.{◌≡◌, ℕ, ◌<◌, true, List, length, get_or, Option, Some, None, refl, sym, ap, ◌∙◌}
 use Rattle.std.specs.FinMap.{get, empty}
 use Rattle.std.proofs.lemmas.Option.{none-some}

@@ -1,4 +1,4 @@
--- The checks of RMI_REC_CREATE, and the effect of the command on the fields of an RMM.
+-- Proofs that RMI_REC_CREATE, on the fields of an RMM, has the outcome and the effect of the model's command.
 use Rattle.std.proofs.Common.{◌≡◌, ℕ, suc, ◌+◌, ◌<◌, Bool, true, false, ◌&&◌, List, [], ◌∷◌, ◌++◌, length, map, set, get_or, All, Option, Some, None, Ok, Err, refl, sym, ap, ◌∙◌, subst}
 use Rattle.std.specs.Prelude.{◌==◌}
 use Rattle.std.specs.Prelude.{IsTrue}

@@ -1,4 +1,4 @@
--- The checks of RMI_REC_DESTROY, and the effect of the command on the fields of an RMM.
+-- Proofs that RMI_REC_DESTROY, on the fields of an RMM, has the outcome and the effect of the model's command.
 use Rattle.std.proofs.Common.{◌≡◌, ℕ, ◌-◌, ◌<◌, Bool, true, false, List, [], ◌∷◌, ◌++◌, map, set, get_or, All, IsTrue, Option, Some, None, Ok, Err, refl, sym, ap, ◌∙◌, subst}
 use Rattle.std.specs.FinMap.{remove}
 use Rattle.std.proofs.lemmas.List.{length-set, get_or-set_other}

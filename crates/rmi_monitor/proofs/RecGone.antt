@@ -1,4 +1,4 @@
--- The removal of a REC: its granule and its auxiliaries are DELEGATED and zero.
+-- Proofs that the granule and the auxiliaries of a REC that is removed are DELEGATED and zero afterwards.
 use Rattle.std.proofs.Common.{◌≡◌, ◌≢◌, ℕ, ◌-◌, ◌<◌, true, false, List, [], ◌∷◌, length, set, None, refl, sym, ap, ◌∙◌, subst}
 use Rattle.std.specs.Prelude.{◌==◌, is_some}
 use Rattle.std.proofs.lemmas.Bool.{eqb-true}

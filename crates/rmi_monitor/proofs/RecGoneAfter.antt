@@ -1,4 +1,5 @@
--- The state after the removal of a REC: the other RECs keep their invariant, and the machine is as the command says.
+-- Proofs on the state after the removal of a REC: the other RECs keep their invariant, and the machine is as the
+-- command says.
 use Rattle.std.proofs.Common.{◌≡◌, ◌≢◌, ℕ, ◌-◌, ◌<◌, true, false, List, [], ◌∷◌, ◌++◌, length, map, Some, None, refl, sym, ap, ◌∙◌, subst}
 use Rattle.std.specs.Prelude.{◌==◌, slice_get}
 use Rattle.std.specs.FinMap.{remove, len}

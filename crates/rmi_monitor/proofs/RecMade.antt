@@ -1,4 +1,5 @@
--- A new REC of a realm: the command's checks, and the invariant of the granules that are moved.
+-- Proofs on the granules that the creation of a REC moves: they are zero and satisfy the invariant, if the command's
+-- checks pass.
 use Rattle.std.proofs.Common.{◌≡◌, ℕ, ◌+◌, ◌<◌, true, false, List, ◌∷◌, length, set, Some, None, refl, sym, ap, ◌∙◌, subst, arith}
 use Rattle.std.specs.Prelude.{◌==◌, is_some, slice_get}
 use Rattle.std.proofs.lemmas.Bool.{eqb-true}

@@ -1,4 +1,4 @@
--- The changes of a REC's granules and of the realm's attributes, when the REC is created or destroyed.
+-- Lemmas on the granules that move when a REC is created or destroyed: all other RECs and the realm's tables stay.
 use Rattle.std.proofs.Common.{◌≡◌, ◌≢◌, ℕ, ◌<◌, Bool, true, false, cond, List, ◌∷◌, length, set, get_or, Option, Some, None, option_map, refl, sym, ap, ◌∙◌, subst}
 use Rattle.std.specs.Prelude.{◌==◌, nat_eq}
 use Rattle.std.specs.Option.{option_eq}

@@ -1,4 +1,4 @@
--- The results of queries of a REC by its granule, derived from the fields of an RMM.
+-- Proofs that queries of a REC by its granule, which read the fields of an RMM, return what the machine has.
 use Rattle.std.proofs.Common.{◌≡◌, ℕ, Option, Some, None, option_map, refl, sym, ap, ◌∙◌}
 use Rattle.std.specs.Prelude.{option_and_then}
 use Rattle.std.specs.FinMap.{get}

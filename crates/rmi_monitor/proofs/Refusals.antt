@@ -1,4 +1,4 @@
--- The row that a command requires at a level, and the test that the row has to pass.
+-- Proofs that a command goes on if and only if it finds a row at the required level that passes its test.
 use Rattle.std.proofs.Common.{◌≡◌, ℕ, Bool, true, false, List, Option, Some, None, Ok, Err, refl, ◌∙◌}
 use Rattle.std.specs.Prelude.{◌==◌}
 use Rattle.std.proofs.lemmas.Bool.{eqb-true, eq-eqb}

@@ -1,4 +1,4 @@
--- Properties of all starting tables of a realm, and of the one with a given index.
+-- Proofs that a test holds for all starting tables of a realm if and only if it holds for the one with each index.
 use Rattle.std.proofs.Common.{◌≡◌, ℕ, zero, suc, ◌+◌, ◌<◌, Bool, true, false, Some, refl, sym, ap, ◌∙◌, subst, arith}
 use Rattle.std.specs.List.{list_all, range_with_len}
 use Rattle.std.proofs.lemmas.Bool.{and_from}

@@ -1,4 +1,4 @@
--- Loops that change each granule of a list in turn: the granules that remain at each step.
+-- Lemmas on loops that change each granule of a list in turn: the granules that remain at each step.
 use Rattle.std.proofs.Common.{◌≡◌, ◌≢◌, ℕ, suc, ◌+◌, ◌<◌, ◌≤◌, Bool, true, false, List, [], ◌∷◌, length, set, get_or, drop, Some, All, IsTrue, sym, ap, ◌∙◌, subst, add-one, arith}
 use Rattle.std.proofs.Math.Seq.{drop-cons}
 use Rattle.std.proofs.lemmas.Bool.{and_parts}

@@ -1,4 +1,4 @@
--- The effect of RMI_RTT_CREATE on the fields of an RMM: a DELEGATED granule becomes a table of a realm.
+-- The proof that RMI_RTT_CREATE, on the fields of an RMM, turns a DELEGATED granule into a table of a realm.
 use Rattle.std.proofs.Common.{◌≡◌, ℕ, ◌-◌, Bool, true, false, List, [], ◌∷◌, Some, Ok, Err, refl, sym, ap, ◌∙◌, subst}
 use Rattle.std.specs.Prelude.{◌&&◌, not}
 use Rattle.std.proofs.lemmas.Bool.{and_from, and_left, and_right}

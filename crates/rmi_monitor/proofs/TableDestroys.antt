@@ -1,4 +1,4 @@
--- The effect of RMI_RTT_DESTROY on the fields of an RMM: a table of a realm is removed.
+-- The proof that RMI_RTT_DESTROY, on the fields of an RMM, removes a table of a realm.
 use Rattle.std.proofs.Common.{◌≡◌, ℕ, ◌-◌, Bool, true, false, List, [], ◌∷◌, Some, None, Ok, Err, refl, sym, ◌∙◌, subst, arith}
 use Rattle.std.specs.Prelude.{◌&&◌}
 use Rattle.std.proofs.lemmas.Bool.{and_from, and_left, and_right}

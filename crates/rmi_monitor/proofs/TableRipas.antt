@@ -1,4 +1,4 @@
--- The effect of RMI_RTT_INIT_RIPAS on the fields of an RMM: pages of a NEW realm become RAM.
+-- The proof that RMI_RTT_INIT_RIPAS, on the fields of an RMM, sets the RIPAS of pages of a NEW realm to RAM.
 use Rattle.std.proofs.Common.{◌≡◌, ℕ, Bool, true, false, List, [], ◌∷◌, set, get_or, cond, Option, option_map, Some, None, Ok, Err, refl, sym, ap, ◌∙◌, subst, arith}
 use Rattle.std.specs.Prelude.{◌&&◌}
 use Rattle.std.proofs.lemmas.Bool.{and_from, and_parts}

@@ -1,4 +1,4 @@
--- The VMIDs in use, and those after a realm is created or destroyed.
+-- Proofs that an RMM's flags still mark exactly the VMIDs in use after a realm is created or destroyed.
 use Rattle.std.proofs.Common.{◌≡◌, ◌≢◌, ℕ, zero, suc, ◌+◌, ◌<◌, ◌≤◌, Bool, true, false, cond, List, [], ◌∷◌}
 use Rattle.std.proofs.Common.{length, map, set, get_or, replicate, Option, Some, None, option_map, refl, sym, ap, ◌∙◌, subst, ⊎_elim, arith}
 use Rattle.std.specs.Prelude.{◌||◌, ◌==◌}

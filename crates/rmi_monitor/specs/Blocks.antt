@@ -1,4 +1,4 @@
--- Steps of a history that take a block from an RMM's store, or give one back to it.
+-- The conditions that taking a block from an RMM's store, and giving one back to it, are steps of a history.
 use Rattle.std.specs.Prelude.{◌≡◌, ℕ, ◌<◌, ◌≤◌, List, Some, None}
 use Rattle.std.specs.List.{last_or}
 use Rattle.page_arena.specs.Block.{IsFreeBlock}

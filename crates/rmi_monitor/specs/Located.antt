@@ -1,4 +1,4 @@
--- The realm's translation tables and the protected IPA granule that a command uses.
+-- The condition that a lookup gives the realm's translation tables and the protected IPA granule that a command uses.
 use Rattle.std.specs.Prelude.{◌≡◌, ℕ, true, false, Some}
 use Rattle.granule_addr.specs.Ipa.{is_protected_at}
 use Rattle.realm_model.specs.Machine.{Machine, RealmRow, cell_at}

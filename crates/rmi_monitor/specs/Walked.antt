@@ -1,4 +1,4 @@
--- The ends of walks in the realms of a machine. RMM 1.0, RTT walk.
+-- The ends of RTT walks in the realms of a machine. RMM 1.0, RTT walk.
 use Rattle.std.specs.Prelude.{ℕ, Option, None, option_and_then, if◌then◌else◌}
 use Rattle.granule_addr.specs.Ipa.{is_in_space}
 use Rattle.realm_model.specs.Rows.{Walk, walk}

@@ -1,4 +1,4 @@
-//! Commands on data pages of realms.
+//! Commands that map and unmap data pages of realms.
 ghost use Rattle.std.specs.Prelude.{◌≡◌, ◌&&◌, true, IfOk, IfErr, Err};
 ghost use Rattle.realm_model.specs.Command.Check.{is_delegated, is_undelegated};
 ghost use Rattle.realm_model.specs.Command.Data as command;

@@ -1,4 +1,4 @@
-//! Commands on single granules.
+//! Commands that delegate, undelegate, fill and read single granules.
 ghost use Rattle.std.specs.Prelude.{◌≡◌, IfOk, slice_index};
 ghost use Rattle.realm_model.specs.Machine.{cell_at};
 ghost use Rattle.realm_model.specs.Command.Granule as command;

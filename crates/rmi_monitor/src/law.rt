@@ -9,7 +9,7 @@ ghost use Rattle.realm_model.specs.declared.act.RealmAndRec.{RealmAndRec};
 ghost use Rattle.rmi_monitor.specs.Blocks.{TakenIsStep, GivenBackIsStep};
 ghost use Rattle.rmi_monitor.specs.Mirror.{FreshIsMirror, AskedIsReady, PerformedIsStep, NewestIsAccepted, UnRecNamesItsRec};
 
-/// A new RMM agrees with the model whose history is empty.
+/// A new RMM agrees with the world of the empty history.
 pub fn a_new_monitor_agrees_with_the_model()
     ensures { (limits : Limits) → FreshIsMirror limits }
 {}
@@ -25,8 +25,8 @@ pub fn what_is_performed_is_a_step()
     ensures { (limits : Limits) (history : List Event) (world : World) (monitor : MonitorView) (build : ℕ) (act : Act) (place : RealmAndRec) → PerformedIsStep limits history world monitor build act place }
 {}
 
-/// The RMM accepts the command that performs a build's next undo. The operation that is undone is the newest that the
-/// build has open. The command is accepted unless that operation created a REC that runs.
+/// The RMM accepts the command that undoes a build's newest open operation, unless that operation created a REC that
+/// runs.
 pub fn newest_is_accepted()
     ensures { (limits : Limits) (history : List Event) (world : World) (monitor : MonitorView) (build : ℕ) (act back : Act) (place : RealmAndRec)
         → NewestIsAccepted limits history world monitor build act back place }

@@ -17,7 +17,7 @@ use rtt::GranuleTable;
 use std::alloc::{AllocError, Global};
 use std::marker::Model;
 
-/// A Realm Management Monitor over a store of pages. All its memory is taken when it is built.
+/// A Realm Management Monitor over a store of pages. All its memory is allocated when it is built.
 pub struct Monitor<S: PageStore> {
     pub(crate) store: S,
     pub(crate) granules: GranuleTable,

@@ -1,4 +1,4 @@
-//! Commands on realms.
+//! Commands that create, activate and destroy realms.
 ghost use Rattle.std.specs.Prelude.{◌≡◌, ◌<◌, option_map, length};
 ghost use Rattle.std.specs.List.{list_all};
 ghost use Rattle.std.specs.Option.{option_copied};

@@ -64,7 +64,7 @@ impl RealmDesc {
         matches!(self.state, RealmState::New)
     }
 
-    /// The state of the realm, NEW or ACTIVE. RMM 1.0, Realm state.
+    /// Returns the state of the realm, NEW or ACTIVE. RMM 1.0, Realm state, without SYSTEM_OFF.
     pub fn state(&self) -> RealmState
         ensures { result ≡ self.now.state }
     {
@@ -78,7 +78,7 @@ impl RealmDesc {
         self.state = RealmState::Active;
     }
 
-    /// The starting tables and the IPA width of the realm.
+    /// Returns the starting tables and the IPA width of the realm.
     pub fn root(&self) -> Root
         ensures { result ≡ self.now.root }
     {
@@ -101,7 +101,7 @@ impl RealmDesc {
         self.measurement = extend_measurement(&self.measurement, event);
     }
 
-    /// The number that the realm's next REC gets. RMM 1.0, REC index.
+    /// Returns the number that the realm's next REC gets. RMM 1.0, REC index.
     pub fn next_number(&self) -> RecNo
         ensures { result ≡ self.now.next }
     {
@@ -121,7 +121,7 @@ impl RealmDesc {
         number
     }
 
-    /// The VMID of the realm.
+    /// Returns the VMID of the realm.
     pub fn vmid(&self) -> Vmid
         ensures { result ≡ self.now.vmid }
     {

@@ -1,4 +1,4 @@
-//! Commands on RECs.
+//! Commands that create and destroy RECs, and the search for a REC by its number.
 ghost use Rattle.std.specs.Prelude.{◌≡◌, ◌<◌, Some, length, map, option_map, IfOk, IfSome, IfNone, None};
 ghost use Rattle.std.specs.List.{All};
 ghost use Rattle.realm_model.specs.Machine.{RealmRow, cell_at};
@@ -29,8 +29,8 @@ fn number_rec(realm: &mut RealmDesc) -> RecNo
 }
 
 impl<S: PageStore> Monitor<S> {
-    /// The number of auxiliary granules of a REC. RMM 1.0, RMI_REC_AUX_COUNT; that it is the same for each realm is
-    /// this profile's own.
+    /// Returns the number of auxiliary granules of a REC. RMM 1.0, RMI_REC_AUX_COUNT; that it is the same for each
+    /// realm is this profile's own.
     pub fn rec_aux_count(&self) -> u8
         ensures { result ≡ self.now.aux }
     {

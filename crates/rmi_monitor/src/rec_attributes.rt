@@ -48,15 +48,15 @@ impl Rec {
         }
     }
 
-    /// The number of the REC in its realm. RMM 1.0, REC index.
+    /// Returns the number of the REC in its realm. RMM 1.0, REC index.
     pub fn number(&self) -> RecNo
         ensures { result ≡ self.now.number }
     {
         self.number
     }
 
-    /// The auxiliary granules of the REC. They are in the order given when the REC was created. RMM 1.0, Auxiliary
-    /// granules.
+    /// Returns the auxiliary granules of the REC. They are in the sequence given when the REC was created. RMM 1.0,
+    /// Auxiliary granules.
     pub fn auxiliaries(&self) -> &[Gran]
         ensures value { result.now ≡ self.now.auxiliaries }
         ensures few { length result.now ≤ 16 }
@@ -64,7 +64,7 @@ impl Rec {
         self.auxiliaries.as_slice()
     }
 
-    /// The state of the REC, READY or RUNNING. RMM 1.0, REC state.
+    /// Returns the state of the REC, READY or RUNNING. RMM 1.0, REC state.
     pub fn state(&self) -> RecState
         ensures { result ≡ self.now.state }
     {

@@ -1,4 +1,4 @@
-//! Commands on translation tables.
+//! Commands that create and destroy translation tables, and set RIPAS values.
 ghost use Rattle.std.specs.Prelude.{◌≡◌, true, IfOk, IfErr, Err};
 ghost use Rattle.realm_model.specs.Rows.{is_page_run};
 ghost use Rattle.realm_model.specs.Command.Table as command;

@@ -1,4 +1,4 @@
-//! Changes to the auxiliary granules of RECs.
+//! Replaces the attributes of a REC's auxiliary granules, and zeros their pages.
 ghost use Rattle.std.specs.Prelude.{◌≡◌, ◌<◌, ◌≤◌, None, IfSome};
 ghost use Rattle.rmm_model.specs.Granule.{realm_of};
 ghost use Rattle.rmm_model.specs.Machine.{granule_count};

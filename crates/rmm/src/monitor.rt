@@ -62,7 +62,7 @@ impl<S: PageStore> Rmm<S> {
         Rmm { granules }
     }
 
-    /// The settings of the platform.
+    /// Returns the settings of the platform.
     pub fn settings(&self) -> &RmmSettings
         ensures { result.now ≡ self.now.settings }
     {

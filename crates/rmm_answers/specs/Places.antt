@@ -1,5 +1,5 @@
--- The conditions that the name constants of answers, and the tables of operands, outputs, page fields and guest steps,
--- have the right names.
+-- The conditions on this crate's constant tables: the names of constants, outputs, page fields and guest steps, the
+-- offsets of fields, and the notations of operands.
 use Rattle.std.specs.Prelude.{ℕ, ◌+◌, ◌==◌, Bool, true, false, not, ◌&&◌, ◌||◌, List, [], ◌∷◌, codes, slice_index_or}
 use Rattle.std.specs.List.{list_all}
 use Rattle.std.specs.Str.{bytes_eq}

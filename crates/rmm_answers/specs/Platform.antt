@@ -1,4 +1,4 @@
--- The settings that a `platform` line of a trace gives, and the fresh machine that the line opens.
+-- The settings that a `platform` line of a trace gives, and the fresh machine that the line creates.
 use Rattle.std.specs.Prelude.{ℕ, ◌+◌, ◌%◌, ◌&&◌, nat_le, Bool, false, if◌then◌else◌, List, [], ◌∷◌, replicate, Option, Some, None}
 use Rattle.granule_addr.specs.Page.{zero_page}
 use Rattle.rmi_abi.specs.declared.settings.Layout.TheVariants.{Rel0, Eac5}

@@ -16,8 +16,8 @@ pub fn answer_places_are_of_their_names()
     ensures { are_answer_places_named ≡ true }
 {}
 
-/// Proves that the tables of operands, outputs, page fields and guest steps have the right names. The operands and
-/// outputs are those of commands. Each operand has the right notation, and each field the right offset.
+/// Proves that this crate's tables are right: the names of outputs, page fields and guest steps, the offsets of fields,
+/// and the notations of operands. The operands and outputs are those of commands.
 pub fn tables_are_of_their_names()
     ensures operands { are_operands_named ≡ true }
     ensures outputs { are_outputs_named ≡ true }

@@ -119,8 +119,8 @@ impl TraceReply {
         self.words.is_empty() && self.rim.is_none()
     }
 
-    /// Whether an answer written in a trace agrees with this reply. The words of the written answer are read into
-    /// `words`.
+    /// Returns whether an answer written in a trace agrees with this reply. The words of the written answer are read
+    /// into `words`.
     #[tactic(auto, unfolding(crate::specs::Replies::is_written))]
     pub fn is_written(&self, question: &[TraceWord], written: &[u8], words: &mut Sentence) -> bool
         ensures { result ≡ replies.is_written question.now written.now self.now }

@@ -1,4 +1,5 @@
--- Proofs that X0 is an allowed answer exactly if it is the word of a failed check, or RMI_SUCCESS if no check failed.
+-- Proofs that X0 is an allowed answer if and only if it is the word of a failed check, or is RMI_SUCCESS and no check
+-- failed.
 use Rattle.std.proofs.Common.{ℕ, ◌≡◌, ◌==◌, ◌||◌, Bool, true, false, List, [], ◌∷◌, refl, ap, sym, ◌∙◌}
 use Rattle.std.specs.List.{list_any}
 use Rattle.rmi_abi.specs.declared.word.Word.{Word}

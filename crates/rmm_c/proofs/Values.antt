@@ -1,5 +1,5 @@
--- The machine value and the ownership predicate of `HeldRmm`, a pointer to an RMM on the heap. The proofs assume
--- `Logic`, the interface of the separation logic.
+-- Proofs that a `HeldRmm` that is not null owns an RMM in a box on the heap, and that a null `HeldRmm` owns nothing.
+-- The proofs assume `Logic`, the interface of the separation logic.
 use Rattle.std.proofs.Common.{◌≡◌, ℕ, List, [], ◌∷◌, ◌++◌, refl, subst, w64}
 use mathlib.Core.Bool.{Bool, true, not}
 use lib.Dec.{T}

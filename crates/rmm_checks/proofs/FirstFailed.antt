@@ -1,4 +1,5 @@
--- Lemmas on the search for the first failed check in a list of evaluated checks, one check at a time.
+-- Lemmas on the search for the first failed check in a list of evaluated checks: a failed check is found, and any other
+-- is skipped.
 use Rattle.std.proofs.Common.{◌≡◌, ℕ, ◌+◌, ◌<◌, ◌≤◌, List, None, Some, Option, length, get_or, drop, refl, sym, ap, add-one, drop-cons}
 use Rattle.std.proofs.lemmas.List.{drop_all}
 use Rattle.rmm_model.specs.declared.answer.FailedCondition.{FailedCondition}

@@ -1,4 +1,5 @@
--- Lemmas on the evaluation of checks: one list after another, and with a test or an answer replaced by an equal one.
+-- Proofs that two lists of checks evaluated one after another are evaluated as one list, and that an equal test or
+-- answer gives an equal result.
 use Rattle.std.proofs.Common.{◌≡◌, Bool, true, false, not, List, [], ◌∷◌, ◌++◌, Option, Some, None, is_none, is_some, refl, ap, subst, ◌∙◌}
 use Rattle.rmi_abi.specs.declared.registers.SmcResult.{SmcResult}
 use Rattle.rmm_model.specs.declared.condition.Condition.{Condition}

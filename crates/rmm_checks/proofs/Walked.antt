@@ -1,4 +1,5 @@
--- Lemmas on checks whose test and answer are known to match the command's definition only if the check is made.
+-- Proofs that a check is evaluated by its definition even if its test and answer are known to match the definition only
+-- when the check is made.
 use Rattle.std.specs.Prelude.{if◌then◌else◌}
 use Rattle.std.proofs.Common.{◌≡◌, ℕ, ◌==◌, ◌&&◌, ◌||◌, Bool, true, false, not, List, [], ◌∷◌, ◌++◌, ⊎_elim, refl, ap, sym, ◌∙◌}
 use Rattle.std.specs.List.{list_all}

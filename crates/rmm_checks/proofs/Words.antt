@@ -1,4 +1,5 @@
--- Proofs that an RMM may answer exactly with the words of the failed checks, or with RMI_SUCCESS if no check failed.
+-- Proofs that the allowed answers of an RMM are the words of the failed checks, or RMI_SUCCESS alone if no check
+-- failed.
 use Rattle.std.proofs.Common.{◌≡◌, ◌==◌, ◌||◌, Bool, true, false, List, [], ◌∷◌, refl, ap, sym, ◌∙◌}
 use Rattle.std.specs.List.{list_any}
 use Rattle.rmi_abi.specs.declared.word.Word.{Word}

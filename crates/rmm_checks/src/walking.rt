@@ -1,4 +1,4 @@
-//! Walks of the translation tables of a realm.
+//! Functions that walk a realm's translation tables for the checks of commands.
 ghost use Rattle.std.specs.Prelude.{◌≡◌, ◌^◌, ◌<◌, true, is_some, IfSome};
 ghost use Rattle.rmm_model.specs.Machine.{granule_count};
 ghost use Rattle.rmm_model.specs.Walk as walks;

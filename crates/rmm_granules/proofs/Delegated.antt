@@ -1,4 +1,5 @@
--- Proofs on the test that adjacent granules are all DELEGATED, one granule at a time.
+-- Lemmas on the test that adjacent granules are all DELEGATED: it fails at a granule that is not, and goes on after one
+-- that is.
 use Rattle.std.proofs.Common.{◌≡◌, ℕ, suc, ◌+◌, ◌-◌, ◌<◌, ◌≤◌, ◌&&◌, Bool, true, false, ap, ◌∙◌, arith}
 use Rattle.rmm_model.specs.Granule.{is_delegated}
 use Rattle.rmm_model.specs.Machine.{Machine, granule_at}

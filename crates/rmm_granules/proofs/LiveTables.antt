@@ -1,4 +1,5 @@
--- Proofs on the test that some table among adjacent tables has a live entry, one table at a time.
+-- Lemmas on the test that some table among adjacent tables has a live entry: it succeeds at such a table, and goes on
+-- after any other.
 use Rattle.std.proofs.Common.{◌≡◌, ℕ, suc, ◌+◌, ◌-◌, ◌<◌, ◌≤◌, ◌||◌, Bool, true, false, ap, ◌∙◌, arith}
 use Rattle.rmm_model.specs.Machine.{Machine, page_in}
 use Rattle.rmm_model.specs.Table.{has_live}

@@ -1,4 +1,5 @@
--- Proofs on the condition that consecutive numbers all pass a test, one number at a time.
+-- Lemmas on the condition that consecutive numbers all pass a test: it is false if one number fails, and depends on the
+-- rest if one passes.
 use Rattle.std.proofs.Common.{◌≡◌, ℕ, suc, ◌+◌, ◌-◌, ◌<◌, ◌≤◌, ◌&&◌, Bool, true, false, ap, ◌∙◌, arith}
 use Rattle.rmm_model.specs.Command.RecCreate.{all_from}
 

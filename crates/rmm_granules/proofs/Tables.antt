@@ -1,4 +1,5 @@
--- Proofs that realms' starting tables are in the machine at first, and after a change of one granule's attributes.
+-- Proofs that the starting tables of realms lie in the machine: at first, when there is no realm, and after a granule
+-- gets valid attributes.
 use Rattle.std.proofs.Common.{◌≡◌, ◌≢◌, ℕ, ◌<◌, ◌≤◌, List, length, set, get_or, replicate, IfSome, sym, subst, ⊎_elim, arith}
 use Rattle.std.proofs.lemmas.Bool.{cases_eq, cases_lt}
 use Rattle.std.proofs.lemmas.List.{length-set, length-replicate, get_or-replicate, get_or_past, get_or-set_same, get_or-set_other}

@@ -1,4 +1,4 @@
--- Proofs that an IPA of a realm has at most 48 bits, and that the lower half is in the realm's address space.
+-- Proofs that an IPA of a realm has at most 48 bits, and that an IPA of the lower half is in the realm's address space.
 use Rattle.std.proofs.Common.{◌≡◌, ℕ, ◌-◌, ◌^◌, ◌<◌, ◌≤◌, ⊎_elim, subst, arith}
 use Rattle.std.proofs.lemmas.Bool.{cases_lt}
 use Rattle.std.proofs.lemmas.Nat.{pow_below}

@@ -108,7 +108,7 @@ impl<S: PageStore> Granules<S> {
         }
     }
 
-    /// The settings of the platform.
+    /// Returns the settings of the platform.
     pub fn settings(&self) -> &RmmSettings
         ensures value { result.now ≡ self.now.settings }
         ensures ranges { IsPlatform result.now }
@@ -116,14 +116,14 @@ impl<S: PageStore> Granules<S> {
         self.platform.settings()
     }
 
-    /// The platform that the granules belong to, with settings that are in range.
+    /// Returns the platform that the granules belong to, with settings that are in range.
     pub fn platform(&self) -> &Platform
         ensures { result.now ≡ self.now.settings }
     {
         &self.platform
     }
 
-    /// The number of granules.
+    /// Returns the number of granules.
     pub fn count(&self) -> u16
         ensures value { result ≡ granule_count self.now }
         ensures few { result ≤ 4096 }
@@ -178,7 +178,7 @@ impl<S: PageStore> Granules<S> {
         self.granules[granule.number() as usize].is_delegated()
     }
 
-    /// The state of a granule.
+    /// Returns the state of a granule.
     pub fn state(&self, granule: Gran) -> RmmGranuleState
         requires { granule < granule_count self.now }
         ensures { result ≡ (granule_at self.now granule).state }
@@ -246,7 +246,7 @@ impl<S: PageStore> Granules<S> {
 
     // ---- pages
 
-    /// The 4,096 bytes of a granule.
+    /// Returns the 4,096 bytes of a granule.
     pub fn page(&self, granule: Gran) -> &[u8]
         requires { granule < granule_count self.now }
         ensures value { result.now ≡ page_in self.now granule }

@@ -4,7 +4,7 @@ ghost use Rattle.rmm_model.specs.Command.PsciComplete as command;
 
 use rmm_model::PsciRequest;
 
-/// The PSCI status of success.
+/// The PSCI status SUCCESS.
 pub const PSCI_SUCCESS: u64 = 0;
 
 const PSCI_DENIED: u64 = 0xFFFF_FFFF_FFFF_FFFD;

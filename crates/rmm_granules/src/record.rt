@@ -27,9 +27,9 @@ pub(crate) enum GranuleKind {
 
 /// The record that `Granules` keeps of a granule, which contracts see as the granule's attributes.
 ///
-/// It has attributes of a REC and of a realm beside the kind of the state. Those that the kind does not have are left
-/// as they are. So a state without attributes is set by writing its kind and the owner. RMI_REC_ENTER reads the kind and
-/// the attributes of a REC, so these two lie side by side.
+/// It has attributes of a REC and of a realm in addition to the kind of the state. Those that the kind does not have
+/// are left as they are. So a state without attributes is set by writing its kind and the owner. RMI_REC_ENTER reads
+/// the kind and the attributes of a REC, so these two lie side by side.
 #[derive(Drop)]
 pub(crate) struct GranuleRecord {
     kind: GranuleKind,

@@ -1,4 +1,5 @@
--- Proofs on a command's allowed words: RMI_SUCCESS alone if the command is not refused, and refusals if it is.
+-- Proofs that RMI_SUCCESS is the only allowed word of a command that is not refused, and that a refused command allows
+-- refusals alone.
 use Rattle.std.proofs.Common.{◌≡◌, inl, ◌&&◌, Bool, true, false, List, [], ◌∷◌, Option, Some, None, refl, sym, ap, subst, ◌∙◌, ⊎_elim}
 use Rattle.std.specs.List.{list_all}
 use Rattle.std.proofs.lemmas.Bool.{cases_Bool, and_parts, both_ways, cond-true, cond-false}

@@ -1,4 +1,4 @@
--- Proofs that a table uses no granule if no entry leads to a table or to memory of the realm.
+-- Proofs that a table uses no granule if none of its entries leads to a table or to memory of the realm.
 use Rattle.std.proofs.Common.{◌≡◌, ◌≢◌, ℕ, zero, suc, ◌+◌, ◌-◌, ◌*◌, ◌/◌, ◌%◌, ◌^◌, ◌<◌, ◌≤◌, ◌==◌, Bool, true, false, List, length, take, replicate, Option, None, refl, sym, ap, subst, ◌∙◌, ⊎_elim, lit≤, arith}
 use Rattle.std.specs.Int.{from_le_bytes, w64}
 use Rattle.std.proofs.lemmas.Bool.{cases_Bool, cases_eq, cases_lt, lt-ltb, le-ltb, cond-true, cond-false, and_parts, eqb-true, not-false}

@@ -1,5 +1,5 @@
--- Proofs that calls, stores, fills, queued steps and interrupts keep the bytes at protected addresses, or change them
--- as allowed.
+-- Proofs that calls, stores, fills, queued steps and interrupts change the bytes at protected addresses only as
+-- `KeepsContents` allows.
 use Rattle.std.proofs.Common.{◌≡◌, ◌≢◌, ℕ, ◌+◌, ◌-◌, ◌*◌, ◌/◌, ◌%◌, ◌^◌, ◌<◌, ◌≤◌, ◌⊎◌, ◌==◌, ◌&&◌, inl, inr, Bool, true, false, List, length, Option, Some, None, Ok, option_map, refl, sym, ap, subst, ◌∙◌, ⊎_elim, arith}
 use Rattle.std.proofs.lemmas.Bool.{and_from, and_left, and_parts, and_right, both_ways, cases_eq, cond-false, cond-true, cond_both, eqb-true, le-leb, lt-ltb, ltb-true}
 use Rattle.std.proofs.lemmas.Nat.{mod_below}

@@ -1,5 +1,5 @@
--- Proofs that calls, stores, fills, steps and interrupts keep a property of protected addresses, such as RIPAS, or
--- change it as allowed.
+-- Proofs that calls, stores, fills, steps and interrupts change a property of protected addresses, such as RIPAS, only
+-- as a given relation allows.
 use Rattle.std.proofs.Common.{◌≡◌, ℕ, ◌/◌, ◌%◌, ◌<◌, ◌⊎◌, ◌==◌, inl, Bool, true, false, List, length, Option, Some, None, refl, sym, ap, subst, ◌∙◌, ⊎_elim, arith}
 use Rattle.std.proofs.lemmas.Bool.{cond_both, and_parts}
 use Rattle.std.proofs.lemmas.List.{length-set}

@@ -1,4 +1,5 @@
--- Proofs on the effects of successful calls: the states and RIMs of realms, and the bytes of new pages of data.
+-- Proofs that successful calls have their specified effects on the states and RIMs of realms, and on the bytes of new
+-- pages of data.
 use Rattle.std.proofs.Common.{◌≡◌, ◌≢◌, ℕ, zero, suc, ◌<◌, Bool, true, false, List, length, Option, Some, None, refl, sym, ap, subst, ◌∙◌}
 use Rattle.std.specs.Prelude.{is_some}
 use Rattle.std.proofs.lemmas.List.{length-set, get_or-set_same}

@@ -1,4 +1,5 @@
--- Proofs that writing a table entry changes that entry alone, and proofs on the granules that addresses name.
+-- Proofs that writing a table entry changes that entry alone, and that an address inside the machine names a granule
+-- and is below 2^48.
 use Rattle.std.proofs.Common.{◌≡◌, ◌≢◌, ℕ, ◌-◌, ◌/◌, ◌%◌, ◌^◌, ◌<◌, ◌≤◌, true, List, length, Some, ap, ◌∙◌, arith}
 use Rattle.std.specs.Prelude.{nat_le, nat_lt}
 use Rattle.std.proofs.lemmas.Bool.{and_parts, cond-true, leb-true, ltb-true}

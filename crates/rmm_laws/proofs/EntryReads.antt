@@ -1,4 +1,5 @@
--- Proofs on a property of addresses, such as RIPAS, after entries that lead to no table are written to one table.
+-- Proofs that writing entries that lead to no table changes a property of addresses, such as RIPAS, only at the
+-- addresses of these entries.
 use Rattle.std.proofs.Common.{◌≡◌, ◌≢◌, ℕ, zero, suc, ◌+◌, ◌-◌, ◌*◌, ◌/◌, ◌%◌, ◌^◌, ◌<◌, ◌≤◌, ◌⊎◌, inl, inr, ◌||◌, true, false, List, length, refl, sym, ap, subst, ◌∙◌, ⊎_elim, arith}
 use Rattle.std.specs.Prelude.{nat_le}
 use Rattle.std.proofs.Math.Bool.{or-false}

@@ -1,5 +1,5 @@
--- Proofs that calls, stores, fills, steps and interrupts keep the locations of protected addresses, or change them as
--- allowed.
+-- Proofs that calls, stores, fills, steps and interrupts change the memory locations of protected addresses only as
+-- `KeepsLocations` allows.
 use Rattle.std.proofs.Common.{◌≡◌, ℕ, true, length, Option, Some, None}
 use Rattle.rmi_abi.specs.declared.call.Call.{Call}
 use Rattle.rmi_abi.specs.declared.call.Call.TheVariants.{RttCreate, RttDestroy, RttFold, RttMapUnprotected, RttUnmapUnprotected, RttInitRipas, RttSetRipas, DataCreate, DataCreateUnknown, DataDestroy}

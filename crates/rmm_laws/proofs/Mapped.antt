@@ -1,5 +1,5 @@
--- Proofs that each granule keeps one role when an entry begins to use a DELEGATED granule, or its granule becomes
--- DELEGATED.
+-- Proofs that each granule keeps one role when an entry begins to use a DELEGATED granule, or ends its use of a granule
+-- that becomes DELEGATED.
 use Rattle.std.proofs.Common.{◌≡◌, ◌≢◌, ℕ, ◌+◌, ◌^◌, ◌<◌, ◌≤◌, ◌==◌, true, List, length, IfSome, Option, Some, None, refl, sym, ap, subst, ◌∙◌, arith}
 use Rattle.std.specs.Prelude.{if◌then◌else◌}
 use Rattle.std.proofs.lemmas.Bool.{cond-true, cond-false, eq-eqb, ne_eqb}

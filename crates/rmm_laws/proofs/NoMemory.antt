@@ -1,4 +1,5 @@
--- Proofs on the outcome of a guest access to a protected address whose RIPAS is not RAM, or that leads to no memory.
+-- Proofs that a guest access to a protected address whose RIPAS is not RAM, or that leads to no memory, gets an SEA or
+-- causes an exit, and writes nothing.
 use Rattle.std.proofs.Common.{◌≡◌, ℕ, ◌+◌, ◌^◌, ◌⊎◌, Bool, true, false, Err, refl, ap, ◌∙◌, ⊎_elim}
 use Rattle.std.specs.Prelude.{not, if◌then◌else◌}
 use Rattle.std.proofs.lemmas.Bool.{cond-false, cond-true, lt-ltb}

@@ -1,4 +1,5 @@
--- Proofs that only RDs, tables and RECs use granules, each as its state says.
+-- Proofs that only RDs, tables and RECs use other granules: starting tables, tables and pages below entries, and
+-- auxiliary granules.
 use Rattle.std.proofs.Common.{◌≡◌, ◌∙◌, ℕ, ◌+◌, ◌<◌, ◌⊎◌, inl, inr, ◌==◌, ◌&&◌, Bool, true, false, List, Option, Some, None, option_map, refl, sym, ap}
 use Rattle.std.specs.Prelude.{nat_lt, if◌then◌else◌}
 use Rattle.std.proofs.lemmas.Bool.{and_parts, ltb-true}

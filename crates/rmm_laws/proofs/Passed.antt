@@ -1,4 +1,5 @@
--- Proofs on commands whose checks have all passed, and on properties that refused and successful commands keep.
+-- Proofs that all checks of a command have passed if none fails, and that a command keeps a property if it keeps it
+-- when all checks pass.
 use Rattle.std.proofs.Common.{◌≡◌, ℕ, ◌&&◌, ◌++◌, List, [], ◌∷◌, Bool, true, false, Option, Some, None, refl, sym, ap, ◌∙◌, ⊎_elim, unwrap_or}
 use Rattle.std.specs.Prelude.{is_none, is_some, not}
 use Rattle.std.proofs.lemmas.Bool.{cases_Bool, and_from, cond-true, cond-false}

@@ -1,4 +1,5 @@
--- Proofs on a property of protected addresses, such as RIPAS, after calls that write entries of at most one table.
+-- Proofs that calls which write entries of at most one table change a property of protected addresses, such as RIPAS,
+-- only as a given relation allows.
 use Rattle.std.proofs.Common.{◌≡◌, ◌≢◌, ℕ, ◌+◌, ◌/◌, ◌%◌, ◌^◌, ◌<◌, ◌≤◌, ◌⊎◌, ◌&&◌, inl, inr, Bool, true, false, List, length, Option, Some, None, unwrap_or, refl, sym, ap, subst, ◌∙◌, ⊎_elim, arith}
 use Rattle.std.specs.Prelude.{is_some, nat_le, not}
 use Rattle.std.proofs.lemmas.Bool.{cases_Bool, cases_eq, cond-true, cond-false, and_parts, leb-true, ltb-true, ltb-false, not-true}

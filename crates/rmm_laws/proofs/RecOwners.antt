@@ -1,4 +1,4 @@
--- Proofs that each REC after a single write was a REC of the same owner before.
+-- Proofs that each REC after a single write was a REC of the same owner before, if the write creates no REC.
 use Rattle.std.proofs.Common.{◌≡◌, ◌≢◌, ℕ, ◌<◌, length, Some, None, refl, sym, ap, subst, ◌∙◌, ⊎_elim}
 use Rattle.std.proofs.lemmas.Bool.{cases_eq}
 use Rattle.std.proofs.lemmas.List.{length-set}

@@ -1,5 +1,5 @@
 -- Proofs that a granule that a call gives to the host is zero, and that only calls that create or destroy realms change
--- VMIDs.
+-- which VMIDs are used.
 use Rattle.std.proofs.Common.{◌≡◌, ◌≢◌, ℕ, zero, suc, ◌+◌, ◌<◌, inl, inr, Bool, true, false, List, length, Option, Some, None, refl, sym, ap, subst, ◌∙◌, ⊎_elim}
 use Rattle.std.proofs.lemmas.Bool.{cases_eq}
 use Rattle.granule_addr.specs.Page.{zero_page}

@@ -1,4 +1,4 @@
--- Proofs that calls, queued steps and interrupts keep the RIPAS requests of RECs, or change them as allowed.
+-- Proofs that calls, queued steps and interrupts change the RIPAS requests of RECs only as `KeepsRequests` allows.
 use Rattle.std.proofs.Common.{◌≡◌, ◌≢◌, ℕ, zero, suc, ◌+◌, ◌*◌, ◌-◌, ◌%◌, ◌<◌, ◌≤◌, ◌==◌, ◌&&◌, ◌⊎◌, inl, inr, Bool, true, false, length, List, Option, Some, None, Result, Ok, Err, unwrap_or, refl, sym, ap, subst, ◌∙◌, ⊎_elim, arith}
 use Rattle.std.specs.Prelude.{not, nat_lt, if◌then◌else◌}
 use Rattle.std.proofs.lemmas.Bool.{cases_eq, eqb-true, cond_both}

@@ -1,4 +1,4 @@
--- Proofs that each call on a realm keeps the RIPAS of each protected address, or changes it as allowed.
+-- Proofs that each call on a realm changes the RIPAS of protected addresses only as `KeepsRipas` allows.
 use Rattle.std.proofs.Common.{◌≡◌, ◌≢◌, ℕ, ◌+◌, ◌/◌, ◌%◌, ◌^◌, ◌<◌, ◌≤◌, ◌⊎◌, inl, inr, true, false, List, length, Some, None, unwrap_or, refl, sym, ap, subst, ◌∙◌, arith}
 use Rattle.std.specs.Prelude.{nat_le}
 use Rattle.std.proofs.lemmas.Bool.{and_parts, eqb-true, leb-true}

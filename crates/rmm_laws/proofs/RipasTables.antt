@@ -1,5 +1,5 @@
--- Proofs that calls, stores, fills, steps and interrupts keep the RIPAS of protected addresses, or change it as
--- allowed.
+-- Proofs that calls, stores, fills, steps and interrupts change the RIPAS of protected addresses only as `KeepsRipas`
+-- allows.
 use Rattle.std.proofs.Common.{◌≡◌, ℕ, ◌+◌, ◌-◌, ◌/◌, ◌%◌, ◌^◌, ◌<◌, ◌≤◌, ◌⊎◌, inl, inr, true, false, length, Option, Some, None, unwrap_or, refl, sym, subst, ◌∙◌, arith}
 use Rattle.std.specs.Prelude.{nat_le}
 use Rattle.std.proofs.lemmas.Bool.{cond_both, and_parts, eqb-true, leb-true, ltb-true, ltb-false}

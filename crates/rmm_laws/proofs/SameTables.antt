@@ -1,4 +1,5 @@
--- Proofs that a single write of another granule leaves all tables, or all granules of some state, unchanged.
+-- Proofs that a single write outside all tables leaves all tables unchanged, and likewise for all granules whose states
+-- meet a given condition.
 use Rattle.std.proofs.Common.{◌≡◌, ◌≢◌, ℕ, ◌<◌, List, refl, ap, subst, sym, ◌∙◌, ⊎_elim}
 use Rattle.std.specs.Prelude.{IfSome, Some}
 use Rattle.rmm_model.specs.declared.granule.RmmGranule.{RmmGranule}

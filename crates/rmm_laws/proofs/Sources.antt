@@ -1,4 +1,5 @@
--- Proofs that a successful call reads its input page from the host, and that a new REC has what its parameters ask for.
+-- Proofs that a successful call reads its input page from the host, and that a new REC has the attributes and the page
+-- that its parameters ask for.
 use Rattle.std.proofs.Common.{◌≡◌, ℕ, true, false, not, refl, sym, subst, ◌∙◌}
 use Rattle.std.proofs.lemmas.Bool.{and_parts, eqb-true, not-true}
 use Rattle.rmi_abi.specs.declared.call.Call.{Call}

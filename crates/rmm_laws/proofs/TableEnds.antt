@@ -1,4 +1,5 @@
--- Proofs on a property of addresses, such as RIPAS, after a table replaces an entry, or an entry replaces a table.
+-- Proofs that replacing an entry by a table, or a table by an entry, changes a property of addresses, such as RIPAS, at
+-- the addresses of that entry alone.
 use Rattle.std.proofs.Common.{◌≡◌, ◌≢◌, ℕ, zero, suc, ◌+◌, ◌*◌, ◌/◌, ◌^◌, ◌<◌, ◌≤◌, ◌⊎◌, inl, inr, false, List, length, Some, None, refl, sym, ap, subst, ◌∙◌, ⊎_elim, arith}
 use Rattle.std.specs.Prelude.{nat_lt, ◌==◌}
 use Rattle.std.proofs.lemmas.Bool.{cases_eq, cond-true, and_from, lt-ltb}

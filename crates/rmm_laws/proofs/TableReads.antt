@@ -1,4 +1,6 @@
--- Proofs on a property of addresses, such as RIPAS, after RMI_RTT_CREATE, RMI_RTT_FOLD and RMI_RTT_DESTROY.
+-- Proofs that RMI_RTT_CREATE and RMI_RTT_FOLD keep a property of addresses, such as RIPAS, that an entry shares with
+-- its children. Replacing a table by an entry, as in RMI_RTT_DESTROY, changes the property only as a given relation
+-- allows.
 use Rattle.std.proofs.Common.{◌≡◌, ◌≢◌, ℕ, ◌+◌, ◌-◌, ◌/◌, ◌^◌, ◌<◌, ◌≤◌, ◌⊎◌, inl, ◌&&◌, false, not, List, length, Option, Some, None, unwrap_or, refl, sym, ap, subst, ◌∙◌, ⊎_elim, arith}
 use Rattle.std.specs.Prelude.{nat_le}
 use Rattle.std.proofs.lemmas.Bool.{and_parts, eqb-true, leb-true, ltb-true, not-true}

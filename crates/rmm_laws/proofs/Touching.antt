@@ -1,4 +1,4 @@
--- The condition that a call changes only granules of its realm and of no realm, with proofs for single writes.
+-- The condition that a call changes only granules of its realm and granules of no realm, with proofs for single writes.
 use Rattle.std.proofs.Common.{◌≡◌, ◌≢◌, ℕ, ◌⊎◌, inl, inr, List, length, Option, Some, None, refl, sym, ap, subst, ◌∙◌, ⊎_elim, Bool, true, false}
 use Rattle.std.proofs.lemmas.Bool.{cases_eq}
 use Rattle.std.proofs.lemmas.List.{length-set}

@@ -1,4 +1,5 @@
--- Proofs on a machine after a REC's auxiliary granules are wiped one after another.
+-- Proofs that wiping a REC's auxiliary granules one after another gives them new attributes and zero pages, and changes
+-- no other granule.
 use Rattle.std.proofs.Common.{◌≡◌, ◌≢◌, ℕ, zero, suc, ◌<◌, ◌⊎◌, inl, inr, Bool, true, false, List, length, Option, Some, None, unwrap_or, refl, sym, ap, subst, ◌∙◌, ⊎_elim, arith}
 use Rattle.std.specs.Prelude.{is_some, if◌then◌else◌, IfSome}
 use Rattle.std.specs.List.{count_by}

@@ -1,4 +1,5 @@
--- Proofs on a machine after a single write: its other granules and pages, their uses, and its soundness.
+-- Proofs that a single write changes one granule or page alone, and keeps the invariant `IsSound` if the new granule or
+-- page is valid.
 use Rattle.std.proofs.Common.{◌≡◌, ◌≢◌, ℕ, ◌+◌, ◌-◌, ◌*◌, ◌/◌, ◌<◌, ◌≤◌, ◌==◌, ◌&&◌, Bool, true, false, List, [], length, set, get_or, IfSome, Option, Some, None, cond, refl, sym, ap, subst, ◌∙◌, ⊎_elim, option_map, arith}
 use Rattle.std.specs.Prelude.{nat_le, nat_lt, if◌then◌else◌}
 use Rattle.std.proofs.lemmas.Bool.{cases_eq, cases_lt}

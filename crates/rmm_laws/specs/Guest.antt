@@ -1,4 +1,5 @@
--- Conditions on RECs and their guests: new RECs, steps, values read from the host, and entries without an answer.
+-- Conditions on RECs and their guests: new RECs, guest steps, values read from the host, and entries after an
+-- unanswered exit.
 use Rattle.std.specs.Prelude.{◌≡◌, ℕ, ◌<◌, Bool, true, false}
 use Rattle.page_arena.specs.Word.{word_of_page}
 use Rattle.rmi_abi.specs.RecParams.{is_runnable_in, mpidr_in}

@@ -92,9 +92,9 @@ pub fn only_refusals_are_allowed()
 {}
 
 /// Each RTT, DATA and REC_AUX granule has exactly one use, in the realm that owns the granule. No other granule has a
-/// use. Owners are RDs, each RD counts its RECs, and DELEGATED granules are zero. The machine of a platform is so. Each
-/// call keeps it so, and so do the host's stores and fills, steps that guests are given, and interrupts. During a run,
-/// the entry of a REC keeps it so, each step of its guest, and the exit.
+/// use. Owners are RDs, each RD counts its RECs, and DELEGATED granules are zero. The fresh machine of a platform has
+/// these properties. Each call keeps them, and so do the host's stores and fills, steps that guests are given, and
+/// interrupts. During a run, the entry of a REC, each step of its guest, and the exit keep them.
 pub fn granules_have_one_role()
     ensures opened { (s : RmmSettings) (pages : List (List ℕ)) → IsPlatform s → length pages ≤ 4096 → ((k : ℕ) → k < length pages → length (page_at pages k) ≡ 4096)
         → IsProper (platform_machine s pages) }
@@ -112,8 +112,8 @@ pub fn granules_have_one_role()
         → (x ≡ y) × (i ≡ j) × (k ≡ l) }
 {}
 
-/// A walk to the starting level or a deeper level ends at a table of the realm that covers the address. The table is of
-/// the level that the walk goes to, or the entry there is no TABLE.
+/// A walk of an address to the starting level or a deeper one ends at a table of the realm, and this table covers the
+/// address. The table is of the level that the walk goes to, or the entry there is no TABLE.
 pub fn walks_end_at_covering_table()
     ensures { (m : Machine) (rd ipa level : ℕ) (realm : RmmRealm) (proper : IsProper m) → (granule_at m rd).state ≡ Rd realm → ipa < 2 ^ realm.s2sz → realm.start_level ≤ level
         → EndsWell m proper.linked.level rd realm ipa level (walk m realm ipa level) }

@@ -1,4 +1,4 @@
--- A proof that the word of an entry's child k has the kind of the entry, and a descriptor that is k steps higher.
+-- A proof that the word of child k of an entry has the entry's kind, and the entry's descriptor plus k steps.
 use Rattle.std.proofs.Common.{◌≡◌, ℕ, ◌+◌, ◌*◌, ◌%◌, ◌^◌, refl, arith}
 use Rattle.rmm_model.specs.declared.entry.RmmRttEntry.{RmmRttEntry}
 use Rattle.rmm_model.specs.declared.entry.RmmRttEntry.TheVariants.{Unassigned, Assigned, Table, UnassignedNs, AssignedNs}

@@ -1,4 +1,5 @@
--- The registers and the machine after an RMI call that is made in registers. RMM 1.0, RMI commands.
+-- The registers and the machine after an SMC call, which is an RMI call if X0 has the function identifier of a command.
+-- RMM 1.0, RMI commands.
 use Rattle.std.specs.Prelude.{Option, Some, None}
 use Rattle.rmi_abi.specs.declared.call.Call.{Call}
 use Rattle.rmi_abi.specs.declared.call.Call.TheVariants.{Version, GranuleDelegate, GranuleUndelegate, DataCreateUnknown, DataDestroy, RealmActivate, RealmCreate, RealmDestroy, RecCreate, RecDestroy, RecEnter, PsciComplete, RttCreate, RttDestroy, RttMapUnprotected, RttReadEntry, RttUnmapUnprotected, Features, RttFold, RecAuxCount, DataCreate, RttInitRipas, RttSetRipas}

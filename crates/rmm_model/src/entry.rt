@@ -66,7 +66,7 @@ pub fn entry_from_word(word: u64) -> RmmRttEntry
 }
 
 impl RmmRipas {
-    /// The encoding of the RIPAS as an RmiRipas.
+    /// Returns the encoding of the RIPAS as an RmiRipas.
     pub fn code(self) -> u8
         ensures value { result ≡ entries.ripas_code self }
         ensures below { result ≤ 2 }
@@ -210,7 +210,7 @@ impl RmmRttEntry {
         }
     }
 
-    /// The encoding of the entry's state as an RmiRttEntryState.
+    /// Returns the encoding of the entry's state as an RmiRttEntryState.
     pub fn state_code(self) -> u64
         ensures { result ≡ entries.state_code self }
     {

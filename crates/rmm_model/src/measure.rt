@@ -127,7 +127,7 @@ pub fn extend(hash: HashAlgorithm, rim: &[u8; 64], extension: &Extension) -> [u8
     }
 }
 
-/// The digest of a page of data.
+/// Returns the digest of a page of data, with zeros up to 64 bytes.
 #[tactic(auto, unfolding(crate::specs::Measure::digest))]
 pub fn page_digest(hash: HashAlgorithm, page: &[u8]) -> [u8; 64]
     ensures { result ≡ measures.digest hash page.now }

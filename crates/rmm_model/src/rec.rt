@@ -85,7 +85,7 @@ impl RipasRequest {
 }
 
 impl RmmRec {
-    /// Creates the attributes of a READY REC without requests, results and steps.
+    /// Creates the attributes of a READY REC without requests, results or steps.
     pub fn new(is_runnable: bool, mpidr: u64) -> RmmRec
         ensures { result ≡ recs.new_rec is_runnable mpidr }
     {

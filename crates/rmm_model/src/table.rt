@@ -77,8 +77,8 @@ pub fn first_fixed(page: &[u8], changeable: Changeable, from: u16, end: u16) -> 
     end
 }
 
-/// Whether the entries of a table are exactly the children of entry `whole`. The table is at the given level, and
-/// `whole` is an entry above it.
+/// Returns whether the entries of a table are exactly the children of entry `whole`. The table is at the given level,
+/// and `whole` is an entry above it.
 pub fn has_parts(page: &[u8], whole: RmmRttEntry, level: u8) -> bool
     requires page { length page.now ≡ 4096 }
     requires whole { descriptor_of whole < 2 ^ 48 }

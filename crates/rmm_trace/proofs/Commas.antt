@@ -1,4 +1,4 @@
--- A proof that the comma before a further part of an answer is added to the last word alone.
+-- A proof that adding the comma before a further part of an answer changes only the last word.
 use Rattle.std.proofs.Common.{◌≡◌, List, [], ◌∷◌, ◌++◌, true, refl, sym, ap, ◌∙◌}
 use Rattle.rmm_trace.specs.declared.word.TraceWord.{TraceWord}
 use Rattle.rmm_trace.specs.Answers.{with_comma}

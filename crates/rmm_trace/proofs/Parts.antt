@@ -1,4 +1,5 @@
--- Lemmas for the loop that reads the words of a text one by one, up to the maximum of 64 words.
+-- Lemmas for the loop that reads the words of a text: it adds one word at each step, and fails at a malformed word or a
+-- 65th one.
 use Rattle.std.proofs.Common.{◌≡◌, ℕ, zero, suc, ◌+◌, ◌-◌, ◌<◌, ◌≤◌, ◌==◌, List, [], ◌∷◌, ◌++◌, length, true, false, cond, Option, Some, None, option_map, option_and_then, refl, sym, ap, ◌∙◌, arith, append_assoc, length-append}
 use Rattle.std.specs.List.{slice_split, onto_first}
 use Rattle.rmm_trace.specs.declared.word.TraceWord.{TraceWord}

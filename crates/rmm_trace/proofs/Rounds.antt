@@ -1,4 +1,5 @@
--- Lemmas on the test that the value of each round of a repeated fill is a byte, from the last round down.
+-- Lemmas on the test that each value of a repeated fill is a byte: it fails at a value above 255, and goes on after any
+-- other.
 use Rattle.std.proofs.Common.{◌≡◌, ℕ, zero, suc, ◌-◌, ◌<◌, ◌≤◌, Bool, true, false, ◌&&◌, leb, sym, ap, ◌∙◌, arith}
 use Rattle.std.proofs.lemmas.Bool.{lt-leb, le-leb}
 use Rattle.rmm_trace.specs.declared.word.TraceWord.{TraceWord}

@@ -1,4 +1,4 @@
--- Lemmas on the split of a trace line at the first ` = ` into its question and its answer.
+-- Lemmas on the split of a trace line: the question ends at the first ` = `, and the answer is the text after it.
 use Rattle.std.proofs.Common.{◌≡◌, ℕ, suc, ◌<◌, ◌+◌, List, [], ◌∷◌, ◌++◌, length, get_or, take, drop, Bool, true, eqb, refl}
 use Rattle.std.proofs.Common.{false, cond, nat_eq, codes, Some, sym, ap, ◌∙◌, add-one, append_assoc, append-nil, drop-cons, drop-drop, length-drop, ◌-◌, arith}
 use Rattle.std.proofs.Math.Seq.{take-suc}

@@ -1,4 +1,5 @@
--- Lemmas on the removal of blanks from the end of a text, one byte at a time.
+-- Lemmas on the removal of blanks from the end of a text: a blank last byte is removed, and any other last byte ends
+-- the removal.
 use Rattle.std.proofs.Common.{◌≡◌, ℕ, zero, suc, ◌-◌, ◌<◌, ◌≤◌, List, [], ◌∷◌, ◌++◌, length, get_or, take, Bool, true, false, cond, refl, sym, ap, ◌∙◌, arith}
 use Rattle.std.proofs.Math.Seq.{take-suc}
 use Rattle.rmm_trace.specs.Lines.{is_blank, before_trimmed, trimmed}

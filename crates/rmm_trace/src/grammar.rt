@@ -10,7 +10,7 @@ use crate::word::{Atom, TraceWord};
 /// A kind of value in a trace line: the numbers and the names that it allows.
 ///
 /// A number is in the range, a multiple of the unit, and a divisor of the multiple if that is not 0. A name is one of
-/// so many, from the first on.
+/// `name_count` names of the table, from `first_name` on.
 #[derive(Clone, Copy)]
 pub struct ValueKind {
     pub least: u64,
@@ -21,8 +21,8 @@ pub struct ValueKind {
     pub name_count: usize,
 }
 
-/// A grammar rule for a group of words in a trace line, which is a name and its values. The rule says how many values
-/// of which kinds follow the name, and which groups may come next.
+/// A grammar rule for a group of words in a trace line: a name and its values. The rule says how many values of which
+/// kinds follow the name, and which groups may come next.
 #[derive(Clone, Copy)]
 pub struct Group {
     /// The contexts of the grammar in which the group may occur. Each context has one bit.

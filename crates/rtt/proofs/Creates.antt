@@ -1,4 +1,4 @@
--- The rows and granules of a realm after a table is created below an entry.
+-- Proofs that writing an entry that leads to a new table adds the table's rows and its granule to the realm.
 use Rattle.std.proofs.Common.{◌≡◌, ◌≢◌, ℕ, suc, ◌+◌, ◌*◌, ◌/◌, ◌<◌, true, false, cond, List, Option, Some, None, inl, inr, ⊎_elim, refl, sym, ap, subst, ◌∙◌, arith}
 use Rattle.std.specs.Prelude.{option_and_then}
 use Rattle.std.specs.FinMap.{get}

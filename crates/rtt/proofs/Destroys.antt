@@ -1,4 +1,4 @@
--- The rows and granules of a realm after a table whose entries are all UNASSIGNED is destroyed.
+-- Proofs that destroying a table whose entries are all UNASSIGNED removes its rows and its granule from the realm.
 use Rattle.std.proofs.Common.{◌≡◌, ◌≢◌, ℕ, suc, ◌+◌, ◌*◌, ◌/◌, ◌<◌, Bool, true, false, cond, not, List, Option, Some, None, refl, sym, ap, ◌∙◌}
 use Rattle.std.specs.FinMap.{get}
 use Rattle.std.proofs.lemmas.Option.{same_Some}

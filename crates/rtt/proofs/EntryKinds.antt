@@ -1,4 +1,4 @@
--- The targets of entries, by their kind.
+-- Lemmas on entries by kind: whether an entry leads to a table, to a page of data, or to nothing.
 use Rattle.std.proofs.Common.{◌≡◌, ℕ, Bool, true, false, cond, Option, Some, None, refl, ap}
 use Rattle.realm_model.specs.declared.states.EntryState.{EntryState}
 use Rattle.realm_model.specs.declared.states.EntryState.TheVariants.{Unassigned, Assigned, Table}

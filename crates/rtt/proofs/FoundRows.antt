@@ -1,4 +1,4 @@
--- The end of an RTT walk, which decides whether a command is refused.
+-- Proofs that the end of an RTT walk decides whether a command is refused, and which level the refusal reports.
 use Rattle.std.proofs.Common.{◌≡◌, ◌≢◌, ℕ, ◌-◌, Bool, true, false, Some, None, Err, ◌⊎◌, ⊎_elim, sym, ap, ◌∙◌}
 use Rattle.std.specs.Prelude.{◌==◌}
 use Rattle.std.proofs.lemmas.Bool.{cases_eq, eq-eqb, ne_eqb}

@@ -1,4 +1,4 @@
--- The preconditions and the invariants of a call on translation tables that writes pages and moves at most one granule.
+-- Proofs on calls that write pages of tables and move at most one granule: preconditions hold, and invariants are kept.
 use Rattle.std.proofs.Common.{◌≡◌, ◌≢◌, ℕ, ◌<◌, Bool, false, set, List, length, Option, Some, inl, inr, sym, ap, ◌∙◌, arith}
 use Rattle.std.proofs.lemmas.Bool.{cases_eq}
 use Rattle.std.proofs.lemmas.List.{length-set, get_or-set_other}

@@ -1,4 +1,5 @@
--- The write of an entry in a table of the last level: a page is mapped or unmapped, or a RIPAS changes.
+-- Proofs that writing an entry of the last level changes one row of the realm, and adds or removes at most one page of
+-- data.
 use Rattle.std.proofs.Common.{◌≡◌, ◌≢◌, ℕ, ◌/◌, ◌<◌, List, Option, Some, None, refl, sym, ap, subst, ◌∙◌, arith, lit≤}
 use Rattle.std.specs.Prelude.{option_and_then}
 use Rattle.std.proofs.lemmas.Option.{same_Some}

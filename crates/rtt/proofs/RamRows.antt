@@ -1,4 +1,4 @@
--- The rows of a table of level 3 after the RIPAS of several of its pages becomes RAM.
+-- Proofs that the rows of a table of level 3 change as specified when the RIPAS of several of its pages becomes RAM.
 use Rattle.std.proofs.Common.{◌≡◌, ℕ, ◌+◌, ◌-◌, ◌*◌, ◌/◌, ◌%◌, ◌<◌, ◌≤◌, true, false, List, Option, Some, None, ◌⊎◌, inl, inr, refl, sym, ap, ◌∙◌, arith, lit≤}
 use Rattle.std.specs.Prelude.{option_and_then}
 use Rattle.std.specs.FinMap.{get}

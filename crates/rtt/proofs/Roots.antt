@@ -1,4 +1,5 @@
--- The rows of a realm that has only its starting tables, and the test whether a realm has other tables.
+-- Proofs on a realm that has only its starting tables: its rows, its granules, and the test whether it has other
+-- tables.
 use Rattle.std.proofs.Common.{◌≡◌, ◌≢◌, ℕ, zero, suc, ◌+◌, ◌*◌, ◌/◌, ◌%◌, ◌<◌, ◌≤◌, Bool, true, false, not, List, Some, None, inl, inr, refl, sym, ap, subst, ◌∙◌, arith, lit≤}
 use Rattle.std.specs.Prelude.{option_and_then}
 use Rattle.std.specs.FinMap.{get, empty, get-empty}

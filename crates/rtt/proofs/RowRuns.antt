@@ -1,4 +1,4 @@
--- Several consecutive rows of a level, which are written or tested together.
+-- Lemmas on several consecutive rows of a level: the rows after they are written, and the test that all of them pass.
 use Rattle.std.proofs.Common.{◌≡◌, ℕ, zero, suc, ◌+◌, ◌*◌, ◌<◌, Bool, true, false, cond, ◌&&◌, Option, Some, None, ⊎_elim, refl, sym, ap, ◌∙◌, arith}
 use Rattle.std.specs.FinMap.{get, insert, get-insert}
 use Rattle.std.proofs.lemmas.Bool.{and_from}

@@ -1,4 +1,4 @@
--- The invariant of a realm's rows, which holds after a page is mapped or unmapped.
+-- Proofs that the invariant of a realm's rows holds after a page is mapped or unmapped.
 use Rattle.std.proofs.Common.{◌≡◌, ℕ, false, Some, refl, ap, ◌∙◌}
 use Rattle.std.specs.Prelude.{option_map, is_some}
 use Rattle.granule_addr.specs.Ipa.{first_covered}

@@ -1,4 +1,4 @@
--- The rows after an entry is written, place by place.
+-- Proofs that writing an entry changes only the entry's own row and the rows of the table below it.
 use Rattle.std.proofs.Common.{◌≡◌, ℕ, suc, ◌/◌, ◌≤◌, Bool, true, false, cond, List, Option, Some, None, inl, inr, ⊎_elim, refl, sym, ap, ◌∙◌, arith}
 use Rattle.std.specs.Prelude.{option_and_then}
 use Rattle.granule_addr.specs.Ipa.{covered_count, first_covered, entry_index}

@@ -1,4 +1,5 @@
--- The row at each place of a realm's tables, and the row at which a walk ends.
+-- Proofs that the row at each place of a realm is the entry of its tables there, and that an RTT walk ends at such a
+-- row.
 use Rattle.std.proofs.Common.{◌≡◌, ℕ, zero, suc, ◌<◌, ◌≤◌, true, false, cond, Option, Some, None, ◌⊎◌, inl, inr, ⊎_elim, refl, sym, ap, ◌∙◌, arith}
 use Rattle.std.specs.Prelude.{option_and_then}
 use Rattle.std.specs.FinMap.{get}

@@ -1,4 +1,4 @@
--- RTT walks over the words of pages: each step leads to a table that is inside the machine.
+-- Proofs on RTT walks over the words of pages: each step leads to a table that is inside the machine.
 use Rattle.std.proofs.Common.{◌≡◌, ℕ, ◌+◌, ◌*◌, ◌<◌, ◌≤◌, List, length, Some, None, ◌⊎◌, ⊎_elim, inl, inr, refl, sym, ap, ◌∙◌, arith, add-one}
 use Rattle.std.specs.Prelude.{option_and_then}
 use Rattle.granule_addr.specs.Ipa.{entry_index, served_count}

@@ -1,4 +1,4 @@
--- Theorems on the words of entries: each is read back as its entry.
+-- The proof that the word of each entry is read back as that entry.
 use Rattle.std.specs.Prelude.{◌≡◌, ℕ, ◌+◌, ◌*◌, ◌/◌, ◌%◌, ◌^◌, ◌<◌, Option, Some, None}
 use Rattle.std.proofs.Common.{refl, sym, ap, ◌∙◌, arith}
 use Rattle.realm_model.specs.declared.states.EntryState.{EntryState}

@@ -1,4 +1,4 @@
--- The writes of entries in the page of a table.
+-- Proofs that an entry that is written to the page of a table is read back, and that all other words stay.
 use Rattle.std.proofs.Common.{◌≡◌, ◌≢◌, ℕ, ◌+◌, ◌<◌, ◌≤◌, Bool, List, length, ◌⊎◌, ⊎_elim, inl, inr, sym, ap, subst, ◌∙◌, arith}
 use Rattle.std.proofs.lemmas.Bool.{cases_eq, cases_lt}
 use Rattle.page_arena.specs.Page.{page_at, IsSized}

@@ -1,4 +1,4 @@
--- The answer to a call on tables. RMM 1.0, RMI_ERROR_RTT.
+-- The condition that the answer to a call on tables agrees with what the command requires. RMM 1.0, RMI_ERROR_RTT.
 use Rattle.std.specs.Prelude.{◌≡◌, Result, Ok, Err}
 use Rattle.realm_model.specs.Rows.{Row}
 use Rattle.realm_model.specs.Update.{Outcome}

@@ -1,4 +1,4 @@
--- The clauses in the contracts of calls on translation tables.
+-- The conditions and effects that the contracts of calls on translation tables state.
 use Rattle.std.specs.Prelude.{◌≡◌, ℕ, ◌-◌, Bool, List, Option, Some, unwrap_or, slice_set}
 use Rattle.granule_addr.specs.declared.width.Root.{Root}
 use Rattle.rtt.specs.declared.granule.Granule.{Granule}

@@ -1,4 +1,4 @@
--- The granules of a machine. RMM 1.0, Granule attributes.
+-- The state and the realm of each granule of a machine. RMM 1.0, Granule attributes.
 use Rattle.std.specs.Prelude.{◌≡◌, ℕ, ◌<◌, List, length, slice_index_or, Option, None}
 use Rattle.realm_model.specs.declared.states.GranuleState.{GranuleState}
 use Rattle.realm_model.specs.declared.states.GranuleState.TheVariants.{Undelegated}

@@ -1,4 +1,4 @@
--- The word of a table entry. RMM 1.0, RTT entry; the layout of the bits is this profile's own.
+-- The 64-bit word that encodes a table entry. RMM 1.0, RTT entry; the layout of the bits is this profile's own.
 use Rattle.std.specs.Prelude.{◌≡◌, ℕ, ◌+◌, ◌*◌, ◌/◌, ◌%◌, ◌<◌, ◌==◌, Option, Some, None, if◌then◌else◌}
 use Rattle.realm_model.specs.declared.states.EntryState.{EntryState}
 use Rattle.realm_model.specs.declared.states.EntryState.TheVariants.{Unassigned, Assigned, Table}

@@ -55,7 +55,7 @@ impl GranuleTable {
         self.granules[granule.number() as usize].state
     }
 
-    /// The RD of the realm that a granule belongs to, if any.
+    /// Returns the RD of the realm that a granule belongs to, if any.
     pub fn realm_of(&self, granule: Gran) -> Option<Gran>
         requires { granule < length self.now }
         ensures { result ≡ (granule_at self.now granule).realm }

@@ -19,8 +19,8 @@ pub fn rows_are_entries()
     ensures { (pages : List (List ℕ)) (root : Root) (level ipa : ℕ) (row : Row) → row_at (rows pages root) level ipa ≡ Some row → IsEntry row }
 {}
 
-/// A realm's translation tables keep their entries if its RTT and DATA granules are left alone. The tables keep their
-/// invariant too.
+/// A realm's translation tables keep their entries if its RTT granules keep their state and bytes, and its DATA
+/// granules keep their state. The tables keep their invariant too.
 pub fn tables_left_alone_stay()
     ensures { (rd : ℕ) (root : Root) (pages : List (List ℕ)) (granules : List Granule) (new_pages : List (List ℕ)) (new_granules : List Granule)
         → HasTables pages granules rd root → LeavesAlone rd pages granules new_pages new_granules

@@ -14,7 +14,7 @@ pub struct Rtt {
     pub level: Level,
 }
 
-/// Converts the refusal of an operation on translation tables to an RMI result.
+/// Converts the refusal of an operation on translation tables to a refusal by the RMM.
 impl From<Rtt> for Rmi {
     ghost from_gives = { λ refusal rmi. rmi ≡ error_rtt refusal.level };
 

@@ -15,8 +15,8 @@ use granule_addr::{Gran, IpaGran, Level, Root, index_at, start_table};
 use page_arena::PageStore;
 use std::marker::Model;
 
-/// The translation tables of a realm, given by its RD and its starting tables. Nothing is kept beside the tables'
-/// pages.
+/// The translation tables of a realm, given by its RD and its starting tables. Nothing is kept in addition to the
+/// tables' pages.
 #[derive(Clone, Copy)]
 pub struct Tables {
     /// The granule of the realm's RD.

@@ -1,4 +1,4 @@
--- Proofs for loops over numbers: appending the items of the next number gives the list of all items so far.
+-- Proofs that appending the items of the next number or element gives the items of all numbers or elements so far.
 use Rattle.std.proofs.Common.{◌≡◌, ℕ, ◌+◌, ◌-◌, ◌<◌, ◌≤◌, List, [], ◌∷◌, ◌++◌, length, take, get_or, sym, ap, ◌∙◌, subst, arith}
 use Rattle.std.specs.List.{flat_map, range_with_len, AllZip}
 use Rattle.std.proofs.lemmas.List.{flat_map_more, take_more}

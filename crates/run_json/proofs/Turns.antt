@@ -1,4 +1,5 @@
--- Proof that the turns of a document followed by one more turn are the turns of a longer run.
+-- Proofs that appending a turn to a document's turns gives turns of the longer schedule, and that a document's turns
+-- are a run of the plan.
 use Rattle.std.proofs.Common.{ℕ, List, [], ◌∷◌, ◌++◌, length, refl, subst, ◌≤◌, take}
 use Rattle.std.proofs.lemmas.List.{take_all}
 use Rattle.std.specs.List.{flat_map}

@@ -1,4 +1,4 @@
--- The granules, the REC and the realm that an operation changes. The changed rows are in `Turns`, with the fields of
+-- The granules, the REC and the realm that an operation changes. `Turns` defines the changed rows, and the fields of
 -- each item.
 use Rattle.std.specs.Prelude.{ℕ, ◌+◌, ◌-◌, ◌^◌, ◌==◌, if◌then◌else◌, List, [], Bool, true, false, Option, Some, None}
 use Rattle.granule_addr.specs.Root.{start_count}

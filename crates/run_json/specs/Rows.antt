@@ -1,5 +1,5 @@
--- The translation table rows of a realm by ascending address, with equal neighbours of one table as one item. RMM 1.0,
--- RTT walk, RTT entry.
+-- The translation table rows of a realm by ascending address, with adjacent equal rows of one table as one item. RMM
+-- 1.0, RTT walk, RTT entry.
 use Rattle.std.specs.Prelude.{◌≡◌, ℕ, ◌+◌, ◌-◌, ◌*◌, ◌<◌, ◌==◌, false, List, [], ◌∷◌, ◌++◌, if◌then◌else◌, Option, Some, None}
 use Rattle.std.specs.List.{flat_map, range_with_len}
 use Rattle.granule_addr.specs.Ipa.{covered_count}

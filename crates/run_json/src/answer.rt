@@ -79,7 +79,7 @@ pub fn numbers_of(answer: &TurnAnswer) -> ArrayVec<u32, MOST_NUMBERS>
     }
 }
 
-/// Returns whether the host's answer to a turn is anything but a refusal.
+/// Returns whether the host's answer to a turn is not a refusal.
 pub fn is_accepted_answer(answer: &TurnAnswer) -> bool
     ensures { result ≡ is_accepted_answer answer.now }
 {

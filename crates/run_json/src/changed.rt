@@ -71,7 +71,7 @@ pub fn granules_of(act: &Act) -> Option<Changed<'_>>
     }
 }
 
-/// Returns the number of the REC that an operation makes, changes or destroys.
+/// Returns the number of the REC that an operation makes, changes or destroys, if any.
 pub fn rec_named_by(act: &Act) -> Option<RecNo>
     ensures { result ≡ rec_named_by act.now }
 {

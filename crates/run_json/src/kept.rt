@@ -8,9 +8,8 @@ use page_arena::PageStore;
 use realm_host::Host;
 use serde::Serializer;
 
-/// The members of a build's or a turn's JSON object about the build's rollback mark and abort. They are the mark, if
-/// there is one, and whether the build is aborting. `mark` is the number of operations that the build had open at its
-/// mark.
+/// The members `mark` and `aborting` in the JSON object of a build or of a turn. `mark` is the number of operations
+/// that the build had open at its rollback mark, if it has one. `aborting` is whether the build is aborting.
 #[derive(Clone, Copy)]
 pub struct BuildKept {
     pub mark: Option<u16>,

@@ -1,5 +1,4 @@
-//! The run of a plan as a JSON document: the machine's size, each turn with its answer, event and changes, and the
-//! final machine.
+//! The JSON document of a plan's run: the machine's settings, the turns, and the host's final state.
 //!
 //! A document is a value. Its granules, rows, RECs and realms are read from the host: after each turn those that the
 //! turn's event names (`specs/Turns.antt`), and all of them at the end. `serde_json` writes it; the words of its

@@ -1,4 +1,4 @@
-//! The HTML page of a run, made from data about the run in JSON.
+//! The HTML page of a run, made from the run's data in JSON.
 ghost use Rattle.std.specs.Prelude.{◌≡◌, ◌++◌, OnOk, IfOk};
 ghost use Rattle.run_json.specs.Page.{data_element, escaped, page_bytes};
 

@@ -38,7 +38,7 @@ pub fn build_number(build: Option<BuildId>) -> Option<u8> {
     }
 }
 
-/// Converts an optional granule to the granule's number.
+/// Converts an optional granule to an optional granule number.
 pub fn granule_number(granule: Option<Gran>) -> Option<u16> {
     match granule {
         Some(granule) => Some(granule.number()),

@@ -1,4 +1,4 @@
--- Proof that other builds' operations do not affect the refusal of a call that needs no block and no VMID.
+-- Proofs that other builds affect neither the refusal nor the operation of a call that needs no block and no VMID.
 use Rattle.std.proofs.Common.{◌≡◌, ℕ, ◌+◌, ◌-◌, Bool, true, false, not, List, [], ◌∷◌, ◌++◌, map, length, Option, Some, None, refl, sym, ap, ◌∙◌, eq-eqb}
 use Rattle.std.specs.Prelude.{nat_le, nat_lt, is_some, slice_get, slice_index, option_map, option_and_then}
 use Rattle.std.specs.List.{last_or, list_all, cons_option, filter_map, flat_map}

@@ -1,5 +1,5 @@
--- Facts about the marks that a host keeps, and about cursors compared without the positions of their marks in the
--- history.
+-- Lemmas on marks and cursors: a mark stays kept while no fewer operations are open than at the mark, and equal
+-- progress stays equal.
 use Rattle.std.proofs.Common.{◌≡◌, ℕ, zero, suc, ◌==◌, ◌&&◌, Bool, true, false, cond, List, [], ◌∷◌, map, get_or, set, length, Option, Some, None, refl, sym, ap, ◌∙◌, eq-eqb, eqb-true, arith}
 use Rattle.std.specs.Prelude.{nat_le, option_map}
 use Rattle.std.proofs.lemmas.Bool.{and_parts}

@@ -1,4 +1,4 @@
--- Hosts on which a build has the same events, and calls that need no block and no VMID.
+-- The conditions that a build has the same events on two hosts, and that a call needs no block and no VMID.
 use Rattle.std.specs.Prelude.{◌≡◌, ℕ}
 use Rattle.realm_model.specs.History.{events_of, IsLegal}
 use Rattle.host_commands.specs.declared.cmd.Cmd.TheVariants.{Take, Realm}

@@ -1,4 +1,4 @@
--- The path counts of all layers of a graph, and the first path with, or without, a label sought.
+-- The path counts of all layers of a graph, and the first path with, or without, a label that has a property.
 use Rattle.std.specs.Prelude.{◌≡◌, ℕ, nat_lt, Bool, true, not, cond, ◌||◌, List, [], map, filter, length, drop, Option, option_map, slice_index_or, Vec, vec_items}
 use Rattle.std.specs.List.{find}
 use Rattle.std.specs.declared.alloc.Global.{Global}

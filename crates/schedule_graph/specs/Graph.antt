@@ -1,4 +1,4 @@
--- Graphs whose states are positions of a plan's runs, and whose edges are turns of the plan.
+-- The condition that a layered graph has positions of a plan's runs as its states, and turns of the plan as its edges.
 use Rattle.std.specs.Prelude.{◌≡◌, ℕ, List, [], ◌∷◌, map, Some, slice_get}
 use Rattle.std.specs.List.{AllByRecursion}
 use Rattle.realm_plan.specs.Plan.{Plan}

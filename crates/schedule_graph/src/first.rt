@@ -1,4 +1,4 @@
-//! Finds the first path with, or without, an edge label that has a property.
+//! Finds the first path on which some edge label, or no edge label, has a given property.
 ghost use Rattle.std.specs.Prelude.{◌≡◌, ◌<◌, nat_lt, Bool, true, option_map, slice_index_or, [], IfOk, Some, map, vec_items};
 ghost use Rattle.std.specs.List.{find};
 ghost use Rattle.schedule_graph.specs.First.{layers_in, path_numbers_in, first_like, any_path, shows_none};

@@ -110,9 +110,9 @@ pub fn count_paths<L>(
     Ok(counts)
 }
 
-/// Counts, for each state of one layer, the paths from that state on which some label has `property`. The counts of
-/// the next layer are given. `next` counts all paths, and `next_with` those that show the property. The one error is
-/// that allocation failed.
+/// Counts, for each state of one layer, the paths from that state on which some label has `property`. For the next
+/// layer, `next` counts all paths, and `next_with` those that show the property. The one error is that allocation
+/// failed.
 pub fn count_paths_with<L, S: LabelProperty<L>>(
     alloc: Global,
     layer: &[Vec<Edge<L>>],

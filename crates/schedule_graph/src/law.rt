@@ -1,4 +1,5 @@
-//! Theorems on the states that a plan's runs reach, and on paths between them.
+//! Theorems on the states of a plan's runs, on calls that other builds do not affect, and on the paths of a state
+//! graph.
 ghost use Rattle.std.specs.Prelude.{◌≡◌, ℕ, List, Some, slice_get};
 ghost use Rattle.std.specs.List.{AllByRecursion};
 ghost use Rattle.realm_plan.specs.Plan.{Plan};
@@ -25,9 +26,9 @@ pub fn a_state_decides_its_turns()
     ensures map { (one other : Position) → AreOneState one other → map_text other.host ≡ map_text one.host }
 {}
 
-/// Proves that other builds do not affect calls that need no block and no VMID. On two hosts of one machine, let a
-/// build have the same events, and be in abort on both or neither. Then both hosts give each such call the same
-/// refusal, and each such command the same operation.
+/// Proves that other builds affect neither the refusal nor the operation of a call that needs no block and no VMID. On
+/// two hosts of one machine, let a build have the same events, and be in abort on both or neither. Then both hosts give
+/// each such call the same refusal, and each such command the same operation.
 pub fn a_build_decides_its_own_calls()
     ensures refusal { (build : ℕ) (host twin : HostView) (call : Call) → DidTheSameAlone build host twin → NeedsNothingShared call
         → refusal_of twin build call ≡ refusal_of host build call }

@@ -1,4 +1,4 @@
-//! The path counts of all layers of a graph. The last layer is counted first.
+//! Counts the paths from each state of each layer of a graph, beginning with the last layer.
 ghost use Rattle.std.specs.Prelude.{◌≡◌, IfOk};
 ghost use Rattle.schedule_graph.specs.First.{layers_in, path_numbers_in, any_path, shows_none, ArePathNumbers};
 ghost use Rattle.schedule_graph.specs.Paths.{shows};

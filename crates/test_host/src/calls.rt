@@ -53,8 +53,8 @@ pub(crate) enum Which {
 /// A call to a host, with the expected answer. Some calls only read the host's state.
 pub(crate) enum Call {
     Ask(Command, Result<AcceptedAnswer, No>),
-    /// Undoes the build's newest operation not undone yet, with the expected answer. The answer is the kind of the
-    /// undone operation, and the number of operations left open.
+    /// Undoes the build's newest open operation, with the expected answer. The answer is the kind of the undone
+    /// operation, and the number of operations left open.
     Undo(Result<(Kind, u16), No>),
     BeginAbort(Result<u16, No>),
     Abort(Result<u16, No>),

@@ -206,8 +206,8 @@ impl<'a> Outcome<'a> {
         }
     }
 
-    /// Creates the expected outcome of a program that fails at a write after `text`. The program has written `text`
-    /// byte by byte before.
+    /// Creates the expected outcome of a program that writes `text` and fails at the next write. The program writes
+    /// `text` byte by byte.
     pub(crate) fn cut(text: &'a [u8]) -> Outcome<'a> {
         Outcome {
             end: Err(Fault::Device),

@@ -47,7 +47,8 @@ impl<L: Ledgers> Guest<L> {
     }
 }
 
-/// Creates a test build (guest) for each seat. Build 1 is refused the step with the index `refused`.
+/// Creates a test build (guest) for each session handle (`Seat`) of a host. Build 1 is refused the step with the index
+/// `refused`.
 pub(crate) fn guests_of<L: Ledgers>(
     rt: &impl Abort,
     alloc: Global,

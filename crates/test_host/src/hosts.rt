@@ -58,7 +58,7 @@ pub(crate) fn over_arena(
     }
 }
 
-/// Shares a host among its builds, and returns it with their seats.
+/// Shares a host among its builds, and returns it with their session handles (`Seat`).
 pub(crate) fn started<S: PageStore + Drop, L: Ledgers>(
     rt: &impl Abort,
     alloc: Global,
@@ -75,7 +75,7 @@ pub(crate) fn started<S: PageStore + Drop, L: Ledgers>(
     }
 }
 
-/// Closes a shared host with all seats, and returns the host.
+/// Closes a shared host with all its session handles (`Seat`), and returns the host.
 pub(crate) fn closed<S: PageStore + Drop, L: Ledgers>(
     rt: &impl Abort,
     shared: Shared<S, L>,

@@ -10,7 +10,8 @@ fn is_realm<S: PageStore>(host: &Host<S>, build: BuildId, want: Option<(RealmSta
     }
 }
 
-/// Returns whether a reading of a host's state gives the expected answer. `false` for a call that is not a reading.
+/// Returns whether a reading of a host's state gives the expected answer. The result is `false` for a call that is not
+/// a reading.
 pub(crate) fn is_read<S: PageStore>(host: &Host<S>, build: BuildId, call: &Call) -> bool {
     match call {
         Call::Pages(free, all, own) => {

@@ -50,7 +50,7 @@ impl<T: Drop> From<AllocFailed<T>> for Fault {
     }
 }
 
-/// Prints a line of the test, and ignores a failure to print.
+/// Prints a line of the test's output, and ignores a failure to print.
 pub(crate) fn tell(rt: &impl Print, line: &str) {
     let _told = println!(rt; "{line}");
 }

@@ -34,7 +34,7 @@ fn sum_of(r: &Registers) -> u64 {
 }
 
 impl Operation {
-    /// Creates the operation with the given kind and numbers. `None` if the kind is unknown.
+    /// Creates the operation with the given kind and numbers. The result is `None` if the kind is unknown.
     pub(crate) fn new(kind: &str, n: &[u64; 7]) -> Option<Operation> {
         match kind {
             "smc" => Some(Operation::Call(registers(n))),

@@ -1,5 +1,5 @@
-//! Calls to a shared host, and the run of a worker on it, as parts of the test. The calls go through the seat of one
-//! build, and the worker is for the other build.
+//! Tests of a shared host: calls through a session handle (`Seat`), and the run of a worker. The calls go through the
+//! seat of one build, and the worker is for the other build.
 ghost use Rattle.std.specs.Prelude.{◌≡◌, ◌≤◌, [], All, IfOk, vec_len};
 ghost use Rattle.build_seats.specs.Names.{AreNamed};
 

@@ -1,4 +1,5 @@
--- The invariant of the loop that takes the lines of a trace from the front of a part of the input.
+-- Proofs that the loop over a part of the input keeps its invariant: the lines in the front of the part have been
+-- taken.
 use Rattle.std.proofs.Common.{◌≡◌, ℕ, ◌<◌, true, false, List, [], ◌∷◌, ◌++◌, length, refl, sym, ◌∙◌, ap, subst, append_assoc, append-nil, arith, length-append}
 use Rattle.std.specs.Prelude.{Some, None}
 use Rattle.command_line.specs.declared.rmitrace.TraceSubcommand.{TraceSubcommand}

@@ -1,4 +1,5 @@
--- Proofs on the run of a trace after each read of its input, at the end of the input, and at an error.
+-- Proofs that the run of a trace keeps its invariant at each read, and ends as specified at the end of the input or at
+-- an error.
 use Rattle.std.proofs.Common.{◌≡◌, ℕ, ◌≤◌, Bool, true, false, not, Result, Ok, Err, IfOk, OnOk, OnErr, List, [], ◌∷◌, ◌++◌, ◌&&◌, length, map, Option, Some, None, refl, sym, ap, ◌∙◌, subst, append_assoc, append-nil, ◌⊎◌, inl, inr}
 use Rattle.std.proofs.lemmas.List.{map-append}
 use Rattle.std.proofs.lemmas.Result.{on_err_weaker}

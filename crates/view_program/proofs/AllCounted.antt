@@ -1,4 +1,4 @@
--- Proofs that the state graph of a plan has exactly as many paths as the plan has schedules.
+-- Proofs that the schedule count of a plan's explored state graph is the number of the plan's schedules.
 use Rattle.std.proofs.Common.{ℕ, Bool, List, [], map, length, sym, ◌∙◌}
 use Rattle.std.proofs.lemmas.List.{length-map}
 use Rattle.realm_plan.specs.Plan.{Plan}

@@ -1,4 +1,4 @@
--- Proofs about the outcomes of applying a history: all of the map, a prefix, or nothing is written.
+-- Proofs that applying a history writes all of the map, a prefix, or nothing, according to the outcome.
 use Rattle.std.proofs.Common.{◌≡◌, ◌↔◌, ◌+◌, ℕ, length, List, [], ◌∷◌, Option, Some, None, IfSome, Ok, Err, Bool, true, false, refl, ap, ◌∙◌, arith}
 use Rattle.std.specs.Io.KnownBytes.{Appends, prepend_known}
 use Rattle.host_ledger.specs.View.{HostView}

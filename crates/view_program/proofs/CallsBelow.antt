@@ -1,4 +1,5 @@
--- Proofs about the text of RMM calls that follows the line of a turn.
+-- Proofs that the text appended for a turn is the turn's line, followed by the text of the RMM calls that belong to the
+-- turn.
 use Rattle.std.proofs.Common.{◌≡◌, ℕ, ◌≤◌, Bool, false, List, [], ◌∷◌, ◌++◌, length, Option, Some, None, refl, sym, ap, ◌∙◌, subst, append_assoc, append-nil}
 use Rattle.std.specs.Prelude.{if◌then◌else◌, is_ok, slice_get, IfSome, OnOk, Result, Ok, Err}
 use Rattle.std.proofs.lemmas.Option.{none-some}

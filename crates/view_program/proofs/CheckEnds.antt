@@ -1,4 +1,4 @@
--- Proofs about the outcomes of the subcommand `check`: all of the report, a prefix, or nothing is written.
+-- Proofs that the subcommand `check` writes all of the report, a prefix, or nothing, according to the outcome.
 use Rattle.std.proofs.Common.{◌≡◌, ◌↔◌, ℕ, List, Option, Some, None, Ok, Err, Bool, true, false, refl, sym, ap, ◌∙◌, subst, string_bytes}
 use Rattle.std.specs.Prelude.{IfSome, is_ok}
 use Rattle.realm_plan.specs.Plan.{plan_of}

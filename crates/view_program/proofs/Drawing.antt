@@ -1,4 +1,4 @@
--- The loop invariant of a run in which the build of each turn is drawn at random, and proofs about it.
+-- The loop invariant of a run in which each turn's build is drawn at random, and proofs that each turn preserves it.
 use Rattle.std.proofs.Common.{◌≡◌, ℕ, ◌+◌, ◌%◌, zero, suc, Bool, true, false, cond, if◌then◌else◌, List, [], ◌∷◌, ◌++◌, append-nil, length, Some, None, refl, ap, sym, subst, ◌∙◌, arith}
 use Rattle.std.specs.Prelude.{filter, find, slice_get}
 use Rattle.std.specs.List.{range_with_len}

@@ -1,4 +1,5 @@
--- The loop invariant of a run in which each turn goes to the lowest-numbered build with a step left.
+-- The loop invariant of a run whose turns go to the lowest-numbered build with a step left, and proofs that each turn
+-- preserves it.
 use Rattle.std.proofs.Common.{◌≡◌, replicate, Bool, None, sym, subst, append_assoc, append-nil, List, [], ◌∷◌, ◌++◌, Some, All, refl, ap, ◌∙◌}
 use Rattle.std.proofs.lemmas.List.Elements.{All-nil, All-push}
 use Rattle.host_ledger.specs.View.{HostView}

@@ -1,4 +1,5 @@
--- Proofs that lines can be read as a history in one way only, and that applying a history stops at no line.
+-- Proofs that a list of lines is the text of at most one history, and that applying a history stops at none of its
+-- lines.
 use Rattle.std.proofs.Common.{◌≡◌, ℕ, List, [], ◌∷◌, ◌++◌, refl, sym, ap, ◌∙◌, subst}
 use Rattle.realm_model.specs.declared.act.Event.{Event}
 use Rattle.host_ledger.specs.View.{HostView, with_event}

@@ -1,4 +1,5 @@
--- Lemmas on the text of a schedule, and on a plan's text in which the schedule is replaced.
+-- Lemmas on schedules as text: a schedule's text grows turn by turn, and a plan's new text differs only in the
+-- schedule.
 use Rattle.std.proofs.Common.{◌≡◌, ℕ, ◌+◌, ◌<◌, List, [], ◌∷◌, ◌++◌, length, get_or, take, drop, sym, ap, ◌∙◌, arith, subst, inl, inr, Option, None, Some, Ok, true, ltb}
 use Rattle.std.specs.Prelude.{IfSome}
 use Rattle.std.proofs.lemmas.Bool.{cases_Bool, lt-ltb}

@@ -1,4 +1,4 @@
--- Proofs about the outcomes of printing a plan's text: all of it, a prefix, or nothing is written.
+-- Proofs that printing a plan's text writes all of it, a prefix, or nothing, according to the outcome.
 use Rattle.std.proofs.Common.{◌≡◌, ℕ, List, Option, Ok, Err, Bool, true, false, refl, ap, sym, ◌∙◌, subst, string_bytes}
 use Rattle.std.specs.Prelude.{IfSome}
 use Rattle.realm_plan.specs.Plan.{Plan, plan_of}

@@ -1,4 +1,4 @@
--- Proofs about the outcomes of writing a plan with a new schedule: all of the text, a prefix, or nothing is written.
+-- Proofs that all of the text of a plan with a new schedule, a prefix, or nothing is written, according to the outcome.
 use Rattle.std.proofs.Common.{◌≡◌, ℕ, List, Option, Ok, Err, Bool, true, false, refl, inr, string_bytes}
 use Rattle.std.specs.Prelude.{IfSome}
 use Rattle.checked_io.specs.Whole.{AppendsFront}

@@ -1,4 +1,4 @@
--- The loop invariant of a run in which builds take turns in rotation, and proofs about it.
+-- The loop invariant of a run in which builds take turns in rotation, and proofs that each turn preserves it.
 use Rattle.std.proofs.Common.{◌≡◌, ℕ, ◌+◌, Bool, true, false, List, [], ◌∷◌, ◌++◌, Some, None, refl, sym, subst}
 use Rattle.std.specs.Prelude.{◌&&◌, nat_le, Option}
 use Rattle.std.specs.List.{range_with_len}

@@ -1,4 +1,4 @@
--- The loop invariant of repeated runs with randomly drawn schedules, and proofs about it.
+-- The loop invariant of repeated runs with randomly drawn schedules, and proofs that each run preserves it.
 use Rattle.std.proofs.Common.{◌≡◌, ℕ, ◌+◌, List, [], ◌∷◌, ◌++◌, length, length-append, refl, subst, arith}
 use Rattle.rand_core.specs.Stream.{Stream}
 use Rattle.host_ledger.specs.View.{HostView}

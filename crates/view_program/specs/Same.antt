@@ -1,4 +1,4 @@
--- Equality of step outcomes.
+-- The equality test of step outcomes, which is the derived `==`.
 use Rattle.std.specs.Prelude.{Bool}
 use Rattle.plan_states.specs.declared.step_end.EndOfStep.{EndOfStep}
 use Rattle.plan_states.specs.contracts.step_end.EndOfStepPartialEq.TheImpl.{ghosts}

@@ -1,4 +1,4 @@
--- The number of a plan's schedules.
+-- The condition that exactly a given number of schedules have a given property.
 use Rattle.std.specs.Prelude.{◌≡◌, ℕ, true, List, All, AllPairs, Contains, length}
 use Rattle.plan_states.specs.Tallies.{is_before}
 

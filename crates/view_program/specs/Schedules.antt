@@ -1,4 +1,4 @@
--- The text of the outcomes of a plan's schedules.
+-- The text of the outcomes of a plan's schedules, and the reasons why there may be none.
 use Rattle.std.specs.Prelude.{◌≡◌, ℕ, true, List}
 use Rattle.rand_core.specs.Steps.{stream_of, steps_u64_high}
 use Rattle.rand_core.specs.Stream.{Stream}

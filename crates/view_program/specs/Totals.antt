@@ -1,4 +1,4 @@
--- Counts of step outcomes and of final maps over several runs of a plan.
+-- The condition that totals are the counts of step outcomes and of final host maps over several runs of a plan.
 use mathlib.Core.Bool.{beq}
 use Rattle.std.specs.Prelude.{◌≡◌, ℕ, ◌==◌, nat_eq, Bool, not, ◌&&◌, List, map, filter, length, is_some, string_bytes}
 use Rattle.std.specs.List.{flat_map, list_any, range_with_len}

@@ -1,4 +1,4 @@
-//! The subcommand `apply`, which applies a history's events to a host and writes its map.
+//! The subcommand `apply`, which applies a history's events to a host and writes the host's map.
 ghost use Rattle.std.specs.Prelude.{◌≡◌, ◌<◌, ◌↔◌, ◌⊎◌, false, true, Err, IfOk, IfErr, string_bytes};
 ghost use Rattle.realm_host.specs.Recorded.{fresh_like};
 ghost use Rattle.history_text.specs.Histories.{IsSize};

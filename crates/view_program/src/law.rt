@@ -12,9 +12,9 @@ pub fn what_is_applied_is_legal()
     ensures { (lines : List (List ℕ)) (o : Opening) (host : HostView) → IsHistory lines o host → IsLegalText lines host }
 {}
 
-/// Proves that a history is applied to a host without stopping at any line. It would stop if no machine were opened, at
-/// a line that is no event, or at an event that is refused. A sequence of lines is the history of at most one machine
-/// and one host.
+/// Proves that applying a history to a host does not stop at any of the history's lines. It would stop if no machine
+/// were opened, at a line that is no event, or at an event that is refused. A sequence of lines is the history of at
+/// most one machine and one host.
 pub fn histories_do_not_stop()
     ensures machine { (lines : List (List ℕ)) (o p : Opening) (host other : HostView) → IsHistory lines o host → IsHistory lines p other → o ≡ p }
     ensures host { (lines : List (List ℕ)) (o p : Opening) (host other : HostView) → IsHistory lines o host → IsHistory lines p other → host ≡ other }

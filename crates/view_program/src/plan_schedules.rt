@@ -81,7 +81,7 @@ fn plan_after(after: AfterRefusal, plan: Plan) -> Plan
 pub struct Exploring<'a, P> {
     /// The schedules to explore: all of them, randomly drawn ones, or a shortest one.
     pub schedules: Schedules,
-    /// Whether the builds go on or give up after a refusal.
+    /// The behaviour of the builds after a refusal: to go on, or to give up.
     pub after: AfterRefusal,
     /// The receiver of progress reports. Before each run of a drawn schedule, it gets the number of schedules run so
     /// far.

@@ -186,7 +186,7 @@ fn are_same_builds(one: &[Vec<PlanStep>], other: &[Vec<PlanStep>]) -> bool
     true
 }
 
-/// Returns whether `one` does not give up, and equals `other` except for the schedule and `gives_up`.
+/// Returns whether plan `one` does not give up, and equals plan `other` except for the schedule and `gives_up`.
 pub(crate) fn is_same_but_schedule(one: &Plan, other: &Plan) -> bool
     ensures { result ≡ true → plan_view one.now ≡ with_schedule (plan_view one.now).order (plan_view other.now) }
 {

@@ -1,4 +1,4 @@
--- A table of level 3, and some of its pages that become RAM.
+-- An example of a table of level 3 in which some pages become RAM.
 use Rattle.std.proofs.Common.{◌≡◌, ℕ, ◌+◌, ◌*◌, ◌<◌, true, Some, refl, ap, ◌∙◌, arith, lit≤}
 use Rattle.std.specs.Prelude.{option_map}
 use Rattle.std.specs.FinMap.{get, get-insert}

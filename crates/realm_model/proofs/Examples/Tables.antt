@@ -1,4 +1,4 @@
--- A table that is created and destroyed, with its rows.
+-- An example of a table that is created and destroyed, and of the rows with the table and without it.
 use Rattle.std.proofs.Common.{◌≡◌, ℕ, ◌+◌, ◌-◌, ◌*◌, ◌<◌, true, false, cond, not, Some, None, Err, List, [], ◌∷◌, ◌++◌, refl, ap, ◌∙◌, arith, lit≤}
 use Rattle.std.specs.FinMap.{get, empty, get-insert, get-empty}
 use Rattle.std.specs.Option.{option_eq}

@@ -1,4 +1,4 @@
--- Realms of several starting tables.
+-- Examples of realms that have several starting tables.
 use Rattle.std.proofs.Common.{◌≡◌, ℕ, false, not, List, [], ◌∷◌, ◌++◌, map, Some, refl}
 use Rattle.std.specs.Prelude.{is_some, filter, ◌==◌}
 use Rattle.granule_addr.specs.Root.{starting_tables}

@@ -1,4 +1,4 @@
--- Checks of a command, in sequence.
+-- The checks that commands make in sequence, and the refusals that failed checks give.
 use Rattle.std.specs.Prelude.{ℕ, ◌==◌, List, [], ◌∷◌, Bool, true, false, cond, not, ◌&&◌, Some, None, Err}
 use Rattle.std.specs.List.{list_any}
 use Rattle.std.specs.FinMap.{get, insert}

@@ -1,4 +1,4 @@
--- Commands on pages of data.
+-- The checks and effects of RMI_DATA_CREATE, RMI_DATA_CREATE_UNKNOWN and RMI_DATA_DESTROY.
 use Rattle.std.specs.Prelude.{ℕ, [], ◌∷◌, ◌&&◌, Ok}
 use Rattle.realm_model.specs.declared.states.GranuleState.TheVariants.{Data}
 use Rattle.realm_model.specs.declared.states.Ripas.TheVariants.{Ram}

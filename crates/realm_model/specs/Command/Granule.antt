@@ -1,4 +1,4 @@
--- Commands on single granules.
+-- The checks and effects of commands on single granules: delegation, undelegation, and the host's writes and reads.
 use Rattle.std.specs.Prelude.{ℕ, [], ◌∷◌, Ok}
 use Rattle.realm_model.specs.declared.states.GranuleState.TheVariants.{Undelegated}
 use Rattle.granule_addr.specs.Page.{page_of}

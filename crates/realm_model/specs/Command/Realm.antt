@@ -1,4 +1,4 @@
--- Commands on realms.
+-- The checks and effects of RMI_REALM_CREATE, RMI_REALM_ACTIVATE and RMI_REALM_DESTROY.
 use Rattle.std.specs.Prelude.{ℕ, ◌%◌, ◌==◌, nat_le, List, [], ◌∷◌, map, Bool, not, ◌&&◌, Some, Ok}
 use Rattle.std.specs.List.{list_all}
 use Rattle.std.specs.FinMap.{empty, len}

@@ -1,4 +1,5 @@
--- Commands on RECs. The host names a REC by its number in the realm.
+-- The checks and effects of commands on RECs: creation, entry, exit, destruction, and a guest's write. The host names a
+-- REC by its number in the realm.
 use Rattle.std.specs.Prelude.{ℕ, ◌+◌, ◌==◌, [], ◌∷◌, ◌++◌, List, map, length, not, ◌&&◌, Ok}
 use Rattle.std.specs.List.{list_all}
 use Rattle.std.specs.FinMap.{insert, remove}

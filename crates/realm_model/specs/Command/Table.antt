@@ -1,4 +1,4 @@
--- Commands on translation tables.
+-- The checks and effects of RMI_RTT_CREATE, RMI_RTT_DESTROY and RMI_RTT_INIT_RIPAS.
 use Rattle.std.specs.Prelude.{ℕ, [], ◌∷◌, ◌&&◌, Ok}
 use Rattle.realm_model.specs.declared.states.GranuleState.TheVariants.{Rtt}
 use Rattle.realm_model.specs.Rows.{is_table_place, is_page_run, with_table, without_table, with_ram}

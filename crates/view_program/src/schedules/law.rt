@@ -17,10 +17,10 @@ ghost use Rattle.plan_states.specs.declared.graph.Graph.{Graph};
 ghost use Rattle.plan_states.specs.declared.tally.Outcomes.{Outcomes};
 ghost use Rattle.plan_states.specs.declared.step_end.EndOfStep.{EndOfStep};
 
-/// Proves that the outcomes of a plan's graph count all schedules of the plan. A plan's schedules are those that a rule
-/// allows. The rule may be any that agrees with the paths of the graph. It says which of eight builds have a step left
-/// after which turns. In a plan without aborts and rollbacks that does not give up, a build has a step left if it had
-/// fewer turns than steps.
+/// Proves that the schedule count of a plan's explored state graph is the number of the plan's schedules. A plan's
+/// schedules are those that a rule allows. The rule may be any that agrees with the paths of the graph. It says which
+/// of eight builds have a step left after which turns. In a plan without aborts and rollbacks that does not give up, a
+/// build has a step left if it had fewer turns than steps.
 pub fn all_schedules_are_counted()
     ensures by_rule { (plan : Plan) (most : ℕ) (graph : Graph) (outcomes : Outcomes) (left : List ℕ → ℕ → Bool)
         → IsGraphWithin plan most graph → AreOutcomes (length plan.builds) graph outcomes → IsRuleOf plan graph left
@@ -30,8 +30,7 @@ pub fn all_schedules_are_counted()
         → IsNumberOf (IsSchedule (by_turns plan) []) outcomes.steps.schedule_count }
 {}
 
-/// Proves that choosing a build for each turn gives a run of the plan. The plan's own schedule is replaced by the
-/// chosen one.
+/// Proves that each run with builds chosen turn by turn is a run of the plan whose `order` is the chosen schedule.
 pub fn a_run_is_one_of_the_plan()
     ensures { (plan : Plan) (host : HostView) (choices : List Choice) (to : HostView) (ends : List EndOfStep)
         → IsChosenRun plan host choices to ends
@@ -52,8 +51,8 @@ pub fn end_texts_are_injective()
     ensures { (one other : EndOfStep) → (same_end one other ≡ true) ↔ (one ≡ other) }
 {}
 
-/// Proves that a build without operations left to undo does not affect a host's map. If the history is legal, the map
-/// is that of the history without the build.
+/// Proves that in a legal history, a build without operations left to undo does not affect a host's map. The map is
+/// that of the history without the build.
 pub fn builds_with_nothing_open_are_not_seen()
     ensures { (host : HostView) (build : ℕ) → IsUnseen host build }
 {}

@@ -1,4 +1,4 @@
-//! The text of the outcomes of drawn schedules.
+//! The text of the outcomes of randomly drawn schedules.
 ghost use Rattle.std.specs.Prelude.{◌≡◌, ◌++◌, OnOk, string_bytes};
 ghost use Rattle.std.specs.List.{flat_map};
 ghost use Rattle.realm_plan.specs.PlanView.{plan_view};

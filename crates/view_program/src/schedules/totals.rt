@@ -1,11 +1,11 @@
-//! Counts of step outcomes and final maps over many runs of a plan.
+//! Counts of step outcomes and of final host maps over many runs of a plan.
 use plan_states::{PathTally, StepOutcomes};
 
-/// Counts of each step outcome and each final map in a plan's runs. Outcomes are in the sequence in which they first
-/// occurred.
+/// Counts of step outcomes and of final host maps, over randomly drawn runs of a plan. Outcomes are in the sequence in
+/// which they first occurred.
 pub struct Totals {
     pub steps: StepOutcomes,
-    /// The number of runs that ended with each map of the host.
+    /// For each final map of the host, the number of runs that ended with it.
     pub maps: Vec<PathTally<String>>,
 }
 

@@ -1,5 +1,5 @@
--- The shared borrow of a row, which consists of the shared borrows of its items. The unused capacity and the right to
--- free the memory are not borrowed. Assumes the separation logic `Logic`.
+-- The proof that a shared borrow of a row consists of the shared borrows of its items. The unused capacity and the
+-- right to free the memory are not borrowed. Assumes the separation logic `Logic`.
 use mathlib.Core.Path.{sym, subst}
 use mathlib.Core.List.{[], ◌++◌}
 use lib.ListN.{length}

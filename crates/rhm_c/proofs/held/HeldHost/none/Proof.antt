@@ -1,4 +1,4 @@
--- A proof that `HeldHost::none` meets its contract.
+-- A proof that `HeldHost::none` meets its contract: the result has no host.
 use Rattle.std.proofs.Common.{◌≡◌, [], ◌∷◌, refl, lit<, w64}
 use mir.Val.{Val, vint}
 use base.Logic.{SProp, emp}

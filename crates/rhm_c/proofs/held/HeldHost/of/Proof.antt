@@ -1,4 +1,4 @@
--- A proof that `HeldHost::of` meets its contract.
+-- A proof that `HeldHost::of` meets its contract: the result owns the host of the given parts.
 use Rattle.std.proofs.Common.{◌≡◌, List, [], ◌∷◌, ◌++◌, refl, sym, subst}
 use mir.Val.{Val, vptr}
 use base.Logic.{SProp, ent, emp, id⊢}
