@@ -1,4 +1,4 @@
--- The proof that a legal history splits into a legal first part and events that continue from that part's world.
+-- The proof that a legal history splits into a legal first part and events that can follow that part.
 use Rattle.std.proofs.Common.{◌≡◌, ◌≢◌, ℕ, List, [], ◌∷◌, ◌++◌, map, Option, Some, None, refl, sym, ap, ◌∙◌, subst}
 use Rattle.std.specs.Prelude.{◌==◌, option_and_then, filter, is_some}
 use Rattle.std.proofs.lemmas.List.{append_assoc, append-nil, map-append}

@@ -13,7 +13,7 @@ pub enum Status {
 impl Status {
     ghost use Rattle.realm_model.specs.Rmi.{status_code};
 
-    /// Returns the code of the status in the result word. The code is never 0, which is RMI_SUCCESS.
+    /// Returns the number that encodes the status in a result word. The number is never 0, which is RMI_SUCCESS.
     pub fn code(self) -> u8
         ensures { result ≡ status_code self }
     {

@@ -43,8 +43,8 @@ pub fn what_is_taken_is_a_step()
     ensures { (limits : Limits) (history : List Event) (world : World) (monitor : MonitorView) (build order first : ℕ) → TakenIsStep limits history world monitor build order first }
 {}
 
-/// If a build's next undo gives back a block, that is a step of the model. The operation that is undone is a Take, the
-/// newest that the build has open. The RMM can give the block back.
+/// Giving a build's block back is a step of the model if the block's Take is the build's newest open operation. The RMM
+/// can give the block back.
 pub fn what_is_given_back_is_a_step()
     ensures { (limits : Limits) (history : List Event) (world : World) (monitor : MonitorView) (build order first : ℕ) → GivenBackIsStep limits history world monitor build order first }
 {}

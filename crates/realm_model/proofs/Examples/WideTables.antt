@@ -1,5 +1,5 @@
--- An example of a realm of four starting tables: tables and a page are created under the second one, and all of it is
--- undone.
+-- An example of a realm with four starting tables, where two tables and a page are added under the second starting
+-- table and everything is then undone.
 use Rattle.std.proofs.Common.{◌≡◌, ℕ, ◌+◌, ◌*◌, Bool, true, false, cond, ◌&&◌, not, List, [], ◌∷◌, ◌++◌, map, Some, None, Err, refl, sym, ap, ◌∙◌, arith, lit≤}
 use Rattle.std.specs.Prelude.{is_some, nat_eq, option_map, option_and_then}
 use Rattle.std.specs.Option.{option_eq}
