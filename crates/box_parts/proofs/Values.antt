@@ -1,5 +1,5 @@
--- The machine value and the ownership predicate of `BoxParts` on the C library's heap. The proofs assume `Logic`, the
--- interface of the separation logic.
+-- Lemmas about `BoxParts`: its value is well-typed, and to own it is to own its box on the C library's heap and its
+-- allocator. The proofs assume `Logic`, the interface of the separation logic.
 use Rattle.std.proofs.Common.{◌≡◌, ℕ, List, [], ◌∷◌, ◌++◌, refl, subst}
 use mathlib.Core.Bool.{true, ◌&&◌}
 use lib.Dec.{T}

@@ -1,5 +1,5 @@
--- Proofs on aligned blocks of 2^order granules: one of each order contains a given granule, and any two are nested or
--- disjoint.
+-- Proofs that each granule lies in exactly one aligned block of each order, and that any two aligned blocks are nested
+-- or disjoint.
 use Rattle.std.proofs.Common.{◌≡◌, ℕ, suc, ◌+◌, ◌-◌, ◌*◌, ◌/◌, ◌%◌, ◌^◌, ◌<◌, ◌≤◌, ◌⊎◌, inl, inr, sym, ap, ◌∙◌, arith}
 use Rattle.std.proofs.Math.Nat.{div-add-mod', div-mul-le_self, lt-div-mul-add, mul-le-mul_right, mul-mod_left, suc-mul, zero-mod, add-mod_right}
 use Rattle.std.proofs.Math.Pow.{mod-mod-pow}

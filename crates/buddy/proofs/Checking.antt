@@ -1,5 +1,5 @@
--- Proofs on the loop that cuts a block out of the free lists: each turn visits one order and preserves the loop's
--- invariant.
+-- Proofs that each iteration of the loop in `cut_out` preserves the loop's invariant, and that after the last one the
+-- result is whether the block is free.
 use Rattle.std.proofs.Common.{◌≡◌, ◌≢◌, ℕ, ◌+◌, ◌%◌, ◌^◌, ◌<◌, ◌≤◌, ◌↔◌, Bool, true, false, List, length, set, inl, inr, refl, sym, ap, subst, ◌∙◌, arith}
 use Rattle.std.specs.Prelude.{IsTrue}
 use Rattle.std.specs.Bool.{OnTrue}

@@ -1,5 +1,5 @@
--- Proofs that taking a block lowers the number of free granules by the block's size, and that giving it back raises it
--- again.
+-- Proofs that the number of free granules falls by the size of a block that is taken, and rises by the size of one that
+-- is given back.
 use Rattle.std.proofs.Common.{◌≡◌, ℕ, zero, suc, ◌+◌, ◌^◌, ◌≤◌, Bool, true, false, List, [], ◌∷◌, ◌++◌, length, take, drop, replicate, refl, ap, ◌∙◌, arith, length-append}
 use Rattle.std.specs.Prelude.{filter}
 use Rattle.std.proofs.lemmas.List.Elements.{filter-append}

@@ -1,4 +1,5 @@
--- Lemmas on the flags of free granules in a block: those of its halves and parts, and those after the block is taken.
+-- Lemmas on the flags that say which granules are free: which blocks are free by them, before and after a block or a
+-- half of one is taken.
 use Rattle.std.proofs.Common.{◌≡◌, ℕ, zero, suc, ◌+◌, ◌%◌, ◌^◌, ◌<◌, ◌≤◌, Bool, true, false, List, length, ◌⊎◌, inl, inr, sym, ap, subst, ◌∙◌, arith}
 use Rattle.std.proofs.Math.Nat.{mod-one}
 use Rattle.std.proofs.lemmas.Bool.{cases_Bool, cases_eq, cases_lt, true≢false}

@@ -1,5 +1,5 @@
--- Proofs that each granule's head still gives the order of the maximal free block that begins there, if any, after such
--- a block is taken or put back.
+-- Proofs that the heads (see `head_at`) still give exactly the maximal free blocks after one of them is taken or put
+-- back.
 use Rattle.std.proofs.Common.{◌≡◌, ℕ, ◌+◌, ◌-◌, ◌^◌, ◌<◌, ◌≤◌, Bool, true, false, List, length, set, inl, inr, sym, ap, subst, ◌∙◌, arith, length-set}
 use Rattle.std.proofs.lemmas.Bool.{cases_eq, cases_lt}
 use Rattle.std.proofs.lemmas.List.{get_or-set_same, get_or-set_other}

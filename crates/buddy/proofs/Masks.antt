@@ -1,4 +1,5 @@
--- Lemmas on the bit mask of nonempty free lists: its lowest bit, and its value after a block is inserted or removed.
+-- Lemmas on the bit mask of nonempty free lists: its lowest set bit from an order on, and its value after a block is
+-- inserted or removed.
 use Rattle.std.proofs.Common.{◌≡◌, ◌≢◌, ℕ, ◌+◌, ◌-◌, ◌*◌, ◌/◌, ◌%◌, ◌^◌, ◌<◌, ◌≤◌, ◌↔◌, List, length, set, inl, inr, sym, ap, ◌∙◌, subst, arith, w16, bit_and, bit_or}
 use Rattle.std.specs.Prelude.{Option, None, Some, is_some, true, false, IfSome, IfNone}
 use Rattle.std.specs.Int.{bit_at, bit_not, trailing_zeros}

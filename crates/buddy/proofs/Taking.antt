@@ -1,5 +1,5 @@
--- Proofs that the block to take is free, and is at the start of the first block in the list of the smallest order that
--- suffices.
+-- Proofs that a block can be cut from the start of any listed block of at least its order, and that cutting the
+-- smallest of these visits the fewest orders.
 use Rattle.std.proofs.Common.{◌≡◌, ℕ, ◌+◌, ◌%◌, ◌^◌, ◌<◌, ◌≤◌, Bool, true, List, length, inl, inr, subst, arith}
 use Rattle.std.specs.Prelude.{Option, None, Some, IfNone}
 use Rattle.std.proofs.Math.Pow.{pow_mono}

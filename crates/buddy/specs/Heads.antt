@@ -1,9 +1,10 @@
--- The head of a granule: one more than the order of the free block that begins there, or 0 if none does.
+-- The heads of granules, which say where each free block begins and its order, and the condition that they give exactly
+-- the maximal free blocks.
 use Rattle.std.specs.Prelude.{◌≡◌, ℕ, ◌+◌, ◌*◌, ◌/◌, ◌^◌, ◌≤◌, ◌==◌, ◌↔◌, Bool, List, map, length, filter, slice_index_or, bit_xor}
 use Rattle.std.specs.List.{list_any, range_with_len}
 use Rattle.buddy.specs.MaximalBlock.{IsMaximalBlock}
 
--- the head of a granule: one more than the order of the block that the granule heads, or 0 if it heads none
+-- the head of a granule: one more than the order of the free block that begins there, or 0 if none does
 abbrev pub head_at : List ℕ → ℕ → ℕ
 head_at heads granule = slice_index_or heads granule 0
 
@@ -15,20 +16,20 @@ start_at granule order = granule / 2 ^ order * 2 ^ order
 abbrev pub buddy_at : ℕ → ℕ → ℕ
 buddy_at first order = bit_xor first (2 ^ order)
 
--- the heads have a block of this order that holds the granule
+-- according to the heads, a free block of this order contains the granule
 abbrev pub is_held_at : List ℕ → ℕ → ℕ → Bool
 is_held_at heads granule order = head_at heads (start_at granule order) == order + 1
 
--- for each granule, whether a block of the heads holds it
+-- for each granule, whether a free block contains it, according to the heads
 unfoldable pub held : List ℕ → List Bool
 held heads = map (λ granule. list_any (is_held_at heads granule) (range_with_len 0 10)) (range_with_len 0 (length heads))
 
--- The blocks of the heads are the maximal blocks of the free set.
+-- The heads give exactly the maximal free blocks, where the flags say which granules are free.
 pub record AreMaximal (heads : List ℕ) (flags : List Bool) : Type 0 where
   pub sized : length heads ≡ length flags
   pub each : (order first : ℕ) → (head_at heads first ≡ order + 1) ↔ IsMaximalBlock flags order first
 
--- The heads have the maximal blocks of the free granules, which are `count` of at most 4096.
+-- The heads give the maximal free blocks of a machine with at most 4096 granules, `count` of which are free.
 pub record IsIndex (count : ℕ) (heads : List ℕ) : Type 0 where
   pub few : length heads ≤ 4096
   pub lists : AreMaximal heads (held heads)

@@ -85,9 +85,9 @@ impl PageStore for BuddyArena {
         self.index.count()
     }
 
-    /// Takes a block of order `order`, if there is a free one. The block is cut out of the first block in the nonempty
-    /// free list of the smallest order that suffices. Visits each order from `order` up to that of the list. If no list
-    /// suffices, there are no visits.
+    /// Takes a block of order `order`, and returns its first granule, or `None` if no such block is free. The block is
+    /// cut out of the first block in the nonempty free list of the smallest order that suffices. Visits each order from
+    /// `order` up to that of the list. If no list suffices, there are no visits.
     fn take(&mut self, order: Order) -> Option<Gran>
         ensures first { result ≡ first_block self.old.index.lists order }
         ensures block { IfSome result (IsFreeBlock self.old.index.flags order) }
@@ -106,8 +106,9 @@ impl PageStore for BuddyArena {
         Gran::new(first as u16, MOST_PAGES)
     }
 
-    /// Takes the block at granule `first`, if the block is free. Visits each order from 9 down to that of the block,
-    /// whether the block is taken or not. If the block is not aligned, there are no visits.
+    /// Takes the block of order `order` at granule `first` if it is free, and returns whether it was. Visits each order
+    /// from 9 down to that of the block, whether the block is taken or not. If the block is not aligned, there are no
+    /// visits.
     fn take_at(&mut self, order: Order, first: Gran) -> bool
         ensures answer { IsTrue result ↔ IsFreeBlock self.old.index.flags order first }
         ensures taken { OnTrue result (self.new.index.flags ≡ with_taken self.old.index.flags order first) }

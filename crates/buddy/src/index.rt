@@ -62,8 +62,9 @@ impl FreeIndex {
         self.lists.head(first) as usize == order + 1
     }
 
-    /// Takes a block of order `order`, if there is a free one. The block is cut out of the first block in the nonempty
-    /// free list of the smallest order that suffices. Returns the number of orders visited, too.
+    /// Takes a block of order `order`, and returns its first granule, or `None` if no such block is free. The block is
+    /// cut out of the first block in the nonempty free list of the smallest order that suffices. Returns the number of
+    /// orders visited, too.
     pub(crate) fn take(&mut self, order: usize) -> Option<(usize, u8)>
         requires { order < 10 }
         ensures first { option_map (λ r. r.0) result ≡ first_block self.old.lists order }
@@ -81,7 +82,8 @@ impl FreeIndex {
         Some((first, turns))
     }
 
-    /// Takes the block at granule `first`, if the block is free. Returns the number of orders visited, too.
+    /// Takes the block of order `order` at granule `first` if it is free, and returns whether it was. Returns the
+    /// number of orders visited, too.
     pub(crate) fn take_at(&mut self, order: usize, first: usize) -> (bool, u8)
         requires order { order < 10 }
         requires first { first < 4096 }

@@ -49,8 +49,7 @@ impl Links {
         })
     }
 
-    /// Returns a granule's head: one more than the order of the listed block beginning there. The head is 0 if no
-    /// listed block begins there.
+    /// Returns a granule's head: one more than the order of the listed block that begins there, or 0 if none does.
     pub(crate) fn head(&self, granule: usize) -> u8
         ensures { result ≡ head_at self.now.heads granule }
     {
@@ -61,7 +60,7 @@ impl Links {
         }
     }
 
-    /// Returns the first block in the free list of an order.
+    /// Returns the first granule of the first block in an order's free list, or `None` if the list is empty.
     pub(crate) fn first(&self, order: usize) -> Option<usize>
         requires { order < 10 }
         ensures first { IfSome result (λ first. first ≡ at self.now.firsts order) }

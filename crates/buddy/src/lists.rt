@@ -1,4 +1,4 @@
-//! The lists of free blocks, one for each block order. A mask has a bit set for each order with a free block.
+//! The lists of free blocks, one for each block order. A mask has a bit set for each order whose list has a block.
 ghost use Rattle.std.specs.Prelude.{◌≡◌, ℕ, ◌+◌, ◌<◌, ◌≤◌, ◌≢◌, length, replicate, slice_set, IfOk, IfSome, IfNone};
 ghost use Rattle.buddy.specs.Heads.{head_at};
 ghost use Rattle.buddy.specs.Links.{HasHead, at};
@@ -7,9 +7,9 @@ use crate::links::Links;
 use std::alloc::{AllocError, Global};
 use std::marker::Model;
 
-/// The lists of free blocks, one for each block order. A mask has a bit set for each order with a free block. The view
-/// is the table of heads, and the first block of each list. The head of a granule is one more than the order of the
-/// block that it heads, or 0 if it heads none.
+/// The lists of free blocks, one for each block order. A mask has a bit set for each order whose list has a block. The
+/// view is the table of heads, and the first block of each list. The head of a granule is one more than the order of
+/// the block that it heads, or 0 if it heads none.
 #[derive(Drop)]
 pub(crate) struct FreeLists {
     links: Links,
@@ -37,15 +37,15 @@ impl FreeLists {
         Ok(FreeLists { links, mask: 0 })
     }
 
-    /// Returns a granule's head: one more than the order of the listed block beginning there. The head is 0 if no
-    /// listed block begins there.
+    /// Returns a granule's head: one more than the order of the listed block that begins there, or 0 if none does.
     pub(crate) fn head(&self, granule: usize) -> u8
         ensures { result ≡ head_at self.now.heads granule }
     {
         self.links.head(granule)
     }
 
-    /// Finds the lowest order with a free block, from `order` on. Returns the order, and the first block in its list.
+    /// Returns the lowest order from `order` on whose list has a block, and the first block of that list, or `None` if
+    /// all these lists are empty.
     pub(crate) fn lowest(&self, order: usize) -> Option<(usize, usize)>
         requires { order < 10 }
         ensures first { IfSome result (λ r. r.1 ≡ at self.now.firsts r.0) }

@@ -1,5 +1,5 @@
--- Lemmas on a build's stack of open operations: a push has room within the bound, all operations stay reversible, and a
--- reverse removes the top.
+-- Lemmas on how a build's stack of open operations changes: an operation that has a reverse is pushed, and a reverse
+-- removes the newest operation.
 use Rattle.std.proofs.Common.{◌≡◌, ◌+◌, ◌-◌, ◌≤◌, true, false, List, [], ◌∷◌, ◌++◌, length, take, refl, sym, ap, ◌∙◌, subst, length-append}
 use Rattle.std.proofs.lemmas.Bool.{and_from}
 use Rattle.std.proofs.lemmas.List.Folds.{list_all-append}

@@ -1,5 +1,5 @@
 -- Lemmas on the stacks of leased pages: a block is pushed granule by granule, and a write to one build's stack changes
--- no other.
+-- no other build's stack.
 use Rattle.std.proofs.Common.{◌≡◌, ℕ, ◌+◌, ◌<◌, ◌≤◌, List, [], ◌∷◌, ◌++◌, length, take, get_or, set, vec_len, vec_capacity}
 use Rattle.std.proofs.Common.{sym, ap, ◌∙◌, subst, arith, append_assoc}
 use Rattle.std.proofs.lemmas.List.{length-map, get_or-map, map-set, take_more_set}

@@ -1,4 +1,4 @@
--- A theorem that pushing a block of 2^order pages makes a stack of pages longer by 2^order.
+-- A theorem that pushing a block of order `order` onto a stack of pages makes the stack longer by 2^order pages.
 use Rattle.std.specs.Prelude.{◌≡◌, ℕ, ◌+◌, ◌^◌, List, length}
 use Rattle.std.specs.List.{range_with_len}
 use Rattle.std.proofs.Common.{ap, ◌∙◌, length-append}

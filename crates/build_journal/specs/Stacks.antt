@@ -1,22 +1,23 @@
--- The leased pages of each build, as a stack with the page that was taken last on top.
+-- The leased pages of each build, as a stack whose top is the page that was taken last.
 use Rattle.std.specs.Prelude.{ℕ, ◌-◌, ◌^◌, ◌≤◌, ◌++◌, List, [], length, take, map, slice_index_or, slice_set, vec_len, vec_capacity, All}
 use Rattle.std.specs.List.{range_with_len}
 use Rattle.std.specs.Global.{Vec}
 
--- The pages of each build, in the order of taking, and the most that each build can have.
+-- The pages of each build in the sequence in which they were taken, and the greatest number of pages that a build can
+-- have.
 pub record Stacks : Type 0 where
   pub stacks : List (List ℕ)
   pub room : ℕ
 
--- The pages of a build: its page k is the k-th, from 0.
+-- The pages of a build, with page k at index k.
 abbrev pub stack_of : Stacks → ℕ → List ℕ
 stack_of leases build = slice_index_or leases.stacks build []
 
--- the leases with other pages of one build
+-- the stacks of all builds, with that of one build replaced by the given pages
 abbrev pub with_stack : Stacks → ℕ → List ℕ → Stacks
 with_stack leases build pages = record leases { stacks = slice_set leases.stacks build pages }
 
--- the pages of a build with those of a block at the end, in rising order
+-- the pages of a build, followed by those of a block in rising order
 abbrev pub pushed : List ℕ → ℕ → ℕ → List ℕ
 pushed pages first order = pages ++ range_with_len first (2 ^ order)
 
@@ -26,7 +27,7 @@ popped pages order = take (length pages - 2 ^ order) pages
 
 -- ---- stacks as they are kept
 
--- A stack has its memory already, for as many pages as it may have.
+-- A stack has at most `room` pages, and memory for that many is already allocated.
 pub record IsRoomy (room : ℕ) (stack : Vec ℕ) : Type 0 where
   pub memory : room ≤ vec_capacity stack
   pub fits : vec_len stack ≤ room

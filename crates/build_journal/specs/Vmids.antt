@@ -1,13 +1,13 @@
--- The VMIDs that a machine has, and those in use. RMM 1.0, Realm attributes, VMID.
+-- The VMIDs of a machine, and which of them are in use. RMM 1.0, Realm attributes, VMID.
 use Rattle.std.specs.Prelude.{◌≡◌, ℕ, ◌<◌, Bool, true, false, not, ◌&&◌, nat_le, List}
 use Rattle.granule_addr.specs.Vmids.{is_used, IsMarked}
 
--- The greatest VMID that a realm may have, and for each number whether it is in use.
+-- The greatest VMID that a realm may have, and, for each number, whether it is in use.
 pub record Vmids : Type 0 where
   pub vmids : ℕ
   pub used : List Bool
 
--- a realm may have the VMID: it is in range, and not in use
+-- the VMID is free: it is in range, and not in use
 abbrev pub is_free : Vmids → ℕ → Bool
 is_free pool vmid = nat_le 1 vmid && nat_le vmid pool.vmids && not (is_used pool.used vmid)
 
@@ -16,7 +16,7 @@ pub record IsLowestFree (pool : Vmids) (vmid : ℕ) : Type 0 where
   pub free : is_free pool vmid ≡ true
   pub lower : (other : ℕ) → other < vmid → is_free pool other ≡ false
 
--- one VMID is in use, or not, from now on; the others are as they were, and so is the greatest
+-- afterwards the VMID is in use exactly if `used` is true; the range and all other VMIDs are as before
 pub record IsClaimed (old new : Vmids) (vmid : ℕ) (used : Bool) : Type 0 where
   pub range : new.vmids ≡ old.vmids
   pub marked : IsMarked old.used new.used vmid used

@@ -8,8 +8,8 @@ use granule_addr::{BuildId, Gran, Order};
 use std::alloc::{AllocError, Global};
 use std::marker::Model;
 
-/// A table from granules to the builds that lease them. The index is a granule's number. The entry of a granule that no
-/// build leases is `None`.
+/// A table that maps granules to the builds that lease them. The index is a granule's number. The entry of a granule
+/// that no build leases is `None`.
 #[derive(Drop)]
 pub struct Holders {
     of: Vec<Option<BuildId>>,
@@ -56,8 +56,8 @@ impl Holders {
         matches!(self.of.get(granule.number() as usize), Some(Some(holder)) if *holder == build)
     }
 
-    /// Returns the build that leases the granule. The result is `None` if no build does, or if the machine has no such
-    /// granule.
+    /// Returns the build that leases the granule, or `None` if none does. The result is also `None` if the machine has
+    /// no such granule.
     pub fn holder(&self, granule: Gran) -> Option<BuildId>
         ensures { result ≡ slice_index_or self.now granule None }
     {

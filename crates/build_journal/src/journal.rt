@@ -51,7 +51,7 @@ impl Journal {
         count <= self.entries.len() as u16
     }
 
-    /// Updates the journal with an operation that the build performs. An operation that has a reverse is pushed, a
+    /// Updates the journal for an operation that the build performs. An operation that has a reverse is pushed, a
     /// reverse pops the newest, and any other operation changes nothing.
     pub fn follow(&mut self, act: &Act)
         requires { length (pushed self.old act.now) ≤ 512 }

@@ -60,8 +60,7 @@ impl Leases {
         pop_run(&mut self.stacks[build.number() as usize], order);
     }
 
-    /// Returns the granule that is page number `k` of a build. The result is `None` if and only if the build has no
-    /// such page.
+    /// Returns the granule that is page number `k` of a build, or `None` if the build has no such page.
     pub fn page(&self, build: BuildId, k: u16) -> Option<Gran>
         requires { build < length self.now.stacks }
         ensures { result ≡ slice_get (stack_of self.now build) k }

@@ -7,7 +7,7 @@ ghost use Rattle.build_journal.specs.Vmids.{is_free, IsLowestFree, IsClaimed};
 use granule_addr::{Vmid, VmidSet};
 use std::marker::Model;
 
-/// A pool of a machine's VMIDs that records the ones in use. The VMIDs are the numbers from 1 to a maximum.
+/// A pool of a machine's VMIDs that records which of them are in use. The VMIDs are the numbers from 1 to a maximum.
 #[derive(Drop)]
 pub struct VmidPool {
     vmids: u8,
@@ -34,7 +34,7 @@ impl VmidPool {
         }
     }
 
-    /// Returns the lowest free VMID. The result is `None` if and only if no VMID is free.
+    /// Returns the lowest free VMID, or `None` if no VMID is free.
     pub fn lowest_free(&self) -> Option<Vmid>
         ensures lowest { IfSome result (IsLowestFree self.now) }
         ensures none { IfNone result ((vmid : ℕ) → is_free self.now vmid ≡ false) }
@@ -48,7 +48,7 @@ impl VmidPool {
         None
     }
 
-    /// Claims the VMID if it is free. Returns whether it was free. If it was not, nothing changes.
+    /// Claims the VMID if it is free, and returns whether it was. If it was not, nothing changes.
     pub fn claim(&mut self, vmid: Vmid) -> bool
         ensures answer { result ≡ is_free self.old vmid }
         ensures claimed { OnTrue result (IsClaimed self.old self.new vmid true) }
@@ -61,7 +61,7 @@ impl VmidPool {
         true
     }
 
-    /// Removes a VMID from the set of those in use.
+    /// Removes a VMID from the set of VMIDs in use.
     pub fn give_back(&mut self, vmid: Vmid)
         ensures { IsClaimed self.old self.new vmid false }
     {

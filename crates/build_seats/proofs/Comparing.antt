@@ -1,5 +1,5 @@
--- Proofs that comparing a session handle's event list with the history, event by event to the ends, decides whether the
--- list is its build's part.
+-- Proofs that an event-by-event comparison with the history decides whether a session handle's event list is its
+-- build's part of that history.
 use Rattle.std.proofs.Common.{◌<◌, ◌≡◌, ℕ, ◌≤◌, ◌↔◌, IsTrue, List, [], length, drop, get_or, nat_eq, refl, sym, ap, ◌∙◌, arith, length-drop}
 use Rattle.std.specs.List.{All}
 use Rattle.std.proofs.lemmas.List.{drop_all}

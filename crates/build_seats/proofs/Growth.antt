@@ -1,4 +1,4 @@
--- Proofs that each step of a worker adds at most one to the number of exits and undos that would clear its build.
+-- Proofs that each step of a worker adds at most one to the number of exits and undos that would follow a refusal.
 use Rattle.std.proofs.Common.{◌≡◌, ℕ, zero, suc, ◌+◌, ◌-◌, ◌≤◌, Bool, true, false, List, [], ◌∷◌, length, refl, sym, ap, subst, arith, cond, eqb, ltb, not}
 use Rattle.std.specs.Prelude.{Option, Some, None, Ok, Err, replicate, min}
 use Rattle.std.proofs.lemmas.List.Filters.{length-filter_both}

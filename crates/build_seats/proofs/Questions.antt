@@ -1,4 +1,4 @@
--- Proofs that a list of a worker's questions asked part by part is asked as a whole, with one report line for each
+-- Proofs that to ask a worker's questions part by part is to ask the whole list, with one report line for each
 -- exchange.
 use Rattle.std.proofs.Common.{◌≡◌, ℕ, ◌+◌, ◌≤◌, List, [], ◌∷◌, ◌++◌, length, refl, sym, ap, subst, ◌∙◌, arith, append_assoc, length-append}
 use Rattle.std.proofs.lemmas.List.{append-nil}

@@ -1,4 +1,4 @@
--- Proofs that the loop which makes the session handles (`Seat`) gives each build a handle with no events counted.
+-- Proofs that the loop that creates the session handles (`Seat`) gives each build a handle with no event counted yet.
 use Rattle.std.proofs.Common.{◌≡◌, ℕ, suc, ◌+◌, ◌-◌, ◌<◌, List, [], ◌∷◌, ◌++◌, length, map, take, get_or, replicate, Option, Some, None, sym, ap, ◌∙◌, subst, arith, zero-add}
 use Rattle.std.specs.Array.Iter.{array_into_iter_items, array_steps}
 use Rattle.std.specs.List.{range_with_len}

@@ -1,4 +1,5 @@
--- Proofs that one question, no question, and two adjacent parts joined are each a part of a worker's run.
+-- Proofs about parts of a worker's run: asking one question is a part, asking none is an empty part, and two adjacent
+-- parts together are a part.
 use Rattle.std.proofs.Common.{◌≡◌, ℕ, ◌+◌, Bool, true, false, List, [], ◌∷◌, ◌++◌, length, refl, sym, ap, subst, ◌∙◌, arith, append_assoc, cond, ltb}
 use Rattle.std.specs.Prelude.{Some, Result, Ok, Err, MatchResult}
 use Rattle.std.proofs.lemmas.List.{append-nil}

@@ -1,5 +1,5 @@
--- Proofs that steps that ask the host nothing, and rollbacks to a mark, get the report lines that the specification
--- requires.
+-- Proofs that a worker's report has the specified lines for steps that ask the host nothing, and for rollbacks to a
+-- mark.
 use Rattle.std.proofs.Common.{◌≡◌, ℕ, ◌<◌, true, false, List, [], ◌∷◌, ◌++◌, length, refl, sym, subst, ◌∙◌, arith}
 use Rattle.std.specs.Prelude.{Ok, Err, min, Option, None}
 use Rattle.std.proofs.lemmas.List.{append-nil}

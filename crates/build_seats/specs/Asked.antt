@@ -1,4 +1,4 @@
--- The questions that a worker asks in sequence, and the report lines of their answers.
+-- The questions that a worker asks in sequence, and the report lines with their answers.
 use Rattle.std.specs.Prelude.{◌≡◌, Bool, true, false, List, [], ◌∷◌, Option, Some, None, Result, Ok, Err}
 use Rattle.host_commands.specs.declared.refusal.Refusal.{Refusal}
 use Rattle.build_seats.specs.Exchange.{Exchange, Did, Undid, KeptMark, CheckedBack}
@@ -11,8 +11,8 @@ use Rattle.build_seats.specs.declared.ask.Question.TheVariants as question
 use Rattle.build_seats.specs.declared.ask.Ending.{Ending}
 use Rattle.build_seats.specs.declared.ask.Ending.TheVariants as ending
 
--- The answer of an exchange as its report line has it: the teller's own. If a step back is not refused but has nothing
--- to undo, its line has the answer Nothing.
+-- The answer in an exchange's report line, as the teller gave it. If a `back` step is not refused but has nothing to
+-- undo, its line has the answer Nothing.
 abbrev pub told : Exchange → Answer
 told (Did cmd (Ok reply)) = Replied reply
 told (Did cmd (Err refusal)) = Refused refusal
@@ -23,7 +23,7 @@ told (KeptMark (Err refusal)) = Refused refusal
 told (CheckedBack mark (Ok count)) = Nothing
 told (CheckedBack mark (Err refusal)) = Refused refusal
 
--- the answer as one value, a refusal or not
+-- the answer that a result holds, or the result's refusal as an answer
 abbrev pub answer_of : Result Answer Refusal → Answer
 answer_of (Ok answer) = answer
 answer_of (Err refusal) = Refused refusal
@@ -35,7 +35,8 @@ is_refused (Marked length) = false
 is_refused Nothing = false
 is_refused (Refused refusal) = true
 
--- The question of an exchange. A check of the way back has no line, and so no question here.
+-- The question of an exchange, if it asks for a command, an undo or a mark. A request for the number of operations
+-- since a mark is not a `Question`, so the result is None.
 abbrev pub question_of : Exchange → Option Question
 question_of (Did cmd result) = Some (question.Do cmd)
 question_of (Undid result) = Some question.Undo
@@ -45,8 +46,8 @@ question_of (CheckedBack mark result) = None
 abbrev pub line : Asked → Answer → ReportLine
 line asked answer = record { asked = asked; answer = answer }
 
--- Questions are asked in sequence, with a line for each, up to the first that is refused, or until the gate withholds a
--- turn.
+-- Questions are asked in sequence, with a report line for each, up to the first that is refused, or until the gate
+-- withholds a turn.
 pub data ArePut : List (Asked × Question) → List Exchange → List ReportLine → Ending → Type 0 where
   all_put : ArePut [] [] [] ending.Done
   cut_short : {question : Asked × Question} {questions : List (Asked × Question)}

@@ -11,7 +11,7 @@ use Rattle.build_seats.specs.Start.{IsOfStart}
 
 -- ---- seats
 
--- the number of seats of a build
+-- the number of a build's seats in a list of seats
 abbrev pub seats_of : ℕ → List SeatView → ℕ
 seats_of build seats = length (filter (λ seat. seat.build == build) seats)
 
@@ -27,14 +27,14 @@ pub record IsMissing (builds build : ℕ) (seats : List SeatView) : Type 0 where
 
 -- ---- trails
 
--- the trail of each of a build's seats is the build's part of the history
+-- each seat of the build has a trail (its list of events) that is the build's part of the history
 abbrev pub Fits : ℕ → List Event → List SeatView → Type 0
 Fits build history seats = All (λ seat. seat.build ≡ build → seat.trail ≡ events_of build history) seats
 
 unfoldable pub FitsAll : List Event → List SeatView → Type 0
 FitsAll history seats = (build : ℕ) → build < 8 → Fits build history seats
 
--- `build` is the lowest build with a seat whose trail differs from its part of the history
+-- `build` is the lowest build with a seat whose event list (trail) differs from the build's part of the history
 pub record Differs (build : ℕ) (history : List Event) (seats : List SeatView) : Type 0 where
   pub number : build < 8
   pub differs : ¬ (Fits build history seats)
@@ -42,14 +42,14 @@ pub record Differs (build : ℕ) (history : List Event) (seats : List SeatView) 
 
 -- ---- the host that is given back
 
--- The host is one that the lock can hold, on the machine of the start. Each seat's count is the number of its
--- build's events in the host's history.
+-- The host is one that the lock can hold, and has the limits and the history capacity that it had at the start. Each
+-- seat's count is the number of its build's events in the host's history.
 pub record IsHostGivenBack (opened host : HostView) (seats : List SeatView) : Type 0 where
   pub shared : IsShared host
   pub of_start : IsOfStart opened host
   pub counted : All (λ seat. length (events_of seat.build host.history) ≡ seat.count) seats
 
--- Each build has exactly one seat, and each seat's trail is its build's part of the history.
+-- Each build has exactly one seat, and each seat's event list (trail) is its build's part of the history.
 pub record IsClosed (host : HostView) (seats : List SeatView) : Type 0 where
   pub whole : AreSeatsWhole host.limits.builds seats
   pub trails : All (λ seat. seat.trail ≡ events_of seat.build host.history) seats

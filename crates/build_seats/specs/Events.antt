@@ -16,8 +16,8 @@ use Rattle.build_seats.specs.declared.report.ReportLine.{ReportLine}
 use Rattle.build_seats.specs.declared.ask.Question.{Question}
 use Rattle.build_seats.specs.declared.ask.Question.TheVariants as question
 
--- A command was accepted, or an operation was undone. A mark that is kept is no event, and neither is an undo of
--- nothing.
+-- The answer says that a command was accepted, or that an operation was undone. Setting a mark is not an event, and
+-- neither is an undo of nothing.
 abbrev pub is_done : Answer → Bool
 is_done (Replied reply) = true
 is_done (Undone undone) = true
@@ -28,7 +28,8 @@ is_done (Refused refusal) = false
 abbrev pub is_accepted : ReportLine → Bool
 is_accepted line = is_done line.answer
 
--- The question of a line of a step. A line of an abort or of a way back asks for an undo.
+-- The question that a report line of a step answers. A line of an abort or of a `back` step answers a request for an
+-- undo.
 abbrev pub question_of_step : Step → Question
 question_of_step (step.Ask cmd) = question.Do cmd
 question_of_step step.Undo = question.Undo
@@ -36,18 +37,18 @@ question_of_step step.Abort = question.Undo
 question_of_step step.Mark = question.Mark
 question_of_step step.Back = question.Undo
 
--- The question of a line, by the steps of its plan.
+-- The question that a report line answers, given the build's steps; none if no step has the line's index.
 abbrev pub question_at : List Step → Asked → Option Question
 question_at steps (asked.Step place) = option_map question_of_step (slice_get steps place)
 question_at steps (asked.Exit number) = Some (question.Do (cmd.Exit number))
 question_at steps asked.Undo = Some question.Undo
 
--- The line is that of this exchange: it has this question and this answer.
+-- The report line belongs to the exchange: both have the same question and the same answer.
 pub record IsLineOf (steps : List Step) (line : ReportLine) (exchange : Exchange) : Type 0 where
   pub asks : question_of exchange ≡ question_at steps line.asked
   pub tells : line.answer ≡ told exchange
 
--- The accepted lines of a report match the events one by one, in sequence.
+-- The accepted lines of a worker's report match the events among the worker's exchanges one by one, in sequence.
 abbrev pub AcceptedMatchEvents : StandingView → List Step → List Exchange → List ReportLine → Bool → Type 0
 AcceptedMatchEvents standing steps exchanges lines ended =
     IsWorkerReport 0 standing steps exchanges lines ended → AllZip (IsLineOf steps) (filter is_accepted lines) (filter is_event exchanges)

@@ -6,14 +6,15 @@ use Rattle.host_commands.specs.declared.refusal.Refusal.{Refusal}
 use Rattle.host_commands.specs.declared.reply.Reply.{Reply}
 use Rattle.host_commands.specs.declared.reply.Undone.{Undone}
 
--- A question with the teller's answer: a command, an undo, a mark, or the number of operations above a mark.
+-- A worker's request to its teller (for a command, an undo, a mark, or the number of operations since a mark), with the
+-- answer.
 pub data Exchange : Type 0 where
   Did : Cmd → Result Reply Refusal → Exchange
   Undid : Result Undone Refusal → Exchange
   KeptMark : Result Mark Refusal → Exchange
   CheckedBack : Mark → Result ℕ Refusal → Exchange
 
--- Accepted commands and undos are events of the build. Marks are no events.
+-- The exchange is an event of the build: an accepted command or an accepted undo. Marks are not events.
 abbrev pub is_event : Exchange → Bool
 is_event (Did cmd (Ok reply)) = true
 is_event (Did cmd (Err refusal)) = false

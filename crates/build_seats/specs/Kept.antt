@@ -15,8 +15,8 @@ pub record KeptView : Type 0 where
   pub host : HostView
   pub books : List ℕ
 
--- The invariant of any host: its history is legal, its numbers are in their ranges, and no build has used more than its
--- room. Each build has a flag and a place for a mark, both valid.
+-- The invariant of any host: its history is legal, its limits and history capacity are in range, and no build has used
+-- more than its room. Each build has a flag and a place for a mark, both valid.
 pub record IsSound (host : HostView) : Type 0 where
   pub legal : IsLegal host.limits host.history
   pub in_range : IsInRange host.limits host.capacity
@@ -29,20 +29,20 @@ pub record IsShared (host : HostView) : Type 0 where
   pub sound : IsSound host
   pub no_abort : (build : ℕ) → is_aborting host build ≡ false
 
--- each number is that of its build's events in the history
+-- the list has, for each of the eight builds, the number of its events in the history
 pub record IsCounted (history : List Event) (books : List ℕ) : Type 0 where
   pub whole : length books ≡ 8
   pub each : (build : ℕ) → build < 8 → slice_index books build ≡ length (events_of build history)
 
--- The invariant of the lock's content. The machine is that of the start, so no trail has less room than the history has
--- for its build.
+-- The invariant of the data that the lock protects. The limits and the history's capacity are as at the start, so no
+-- trail has less room than the history has for its build.
 pub record IsKeptBehindLock (opened : HostView) (kept : KeptView) : Type 0 where
   pub shared : IsShared kept.host
   pub counted : IsCounted kept.host.history kept.books
   pub of_start : IsOfStart opened kept.host
 
--- One event of the seat's build ends the history, and the same one ends the trail. The build's count under the lock and
--- the seat's count rise by one.
+-- One event of the seat's build was appended both to the history and to the seat's event list (trail). The build's
+-- count under the lock and the seat's count rise by one.
 pub record IsNoted (kept : KeptView) (seat : SeatView) (new : KeptView) (new_seat : SeatView) : Type 0 where
   pub act : Act
   pub host_is : new.host ≡ with_event kept.host seat.build act

@@ -1,4 +1,4 @@
--- The report of a worker on its plan: the questions, and a line for each answer.
+-- A worker's report on its build's steps: the questions that it asked, and a line for each answer.
 use Rattle.std.specs.Prelude.{◌≡◌, ℕ, zero, suc, ◌+◌, ◌<◌, min, Bool, true, false, List, [], ◌∷◌, ◌++◌, length, map, replicate, Option, Some, None, Ok, Err, if◌then◌else◌}
 use Rattle.host_ledger.specs.declared.mark.Mark.{Mark}
 use Rattle.host_commands.specs.declared.cmd.Cmd.TheVariants as cmd
@@ -19,34 +19,37 @@ use Rattle.build_seats.specs.declared.ask.Question.TheVariants as question
 use Rattle.build_seats.specs.declared.ask.Ending.{Ending}
 use Rattle.build_seats.specs.declared.ask.Ending.TheVariants as ending
 
--- ---- one step
+-- ---- the report of one step
 
+-- the outcome of a question with the given answer: refused or done
 abbrev pub ending_of : Answer → Ending
 ending_of answer = if is_refused answer then ending.Refused else ending.Done
 
--- Nothing is asked, and the step's line has this answer.
+-- Nothing is asked of the teller, and the step's one report line has the given answer.
 pub record IsAnswerReported (place : ℕ) (answer : Answer) (exchanges : List Exchange) (lines : List ReportLine) (end : Ending) : Type 0 where
   pub nothing_asked : exchanges ≡ []
   pub line_is : lines ≡ line (asked.Step place) answer ∷ []
   pub end_is : end ≡ ending_of answer
 
--- A step asks one question.
+-- A step asks one question, and its report line has the answer; if the gate withholds the turn, nothing is asked or
+-- reported.
 abbrev pub IsQuestionAsked : ℕ → Question → List Exchange → List ReportLine → Ending → Type 0
 IsQuestionAsked place question exchanges lines end = ArePut ((asked.Step place, question) ∷ []) exchanges lines end
 
--- A step asks for up to the given number of undos, with a line for each. If the number is 0, its line says so.
+-- A step asks for up to the given number of undos, with a report line for each. If the number is 0, the step's one line
+-- says so.
 abbrev pub AreUndone : ℕ → ℕ → List Exchange → List ReportLine → Ending → Type 0
 AreUndone place zero exchanges lines end = IsAnswerReported place Nothing exchanges lines end
 AreUndone place (suc more) exchanges lines end =
     ArePut (replicate (suc more) (asked.Step place, question.Undo)) exchanges lines end
 
--- An abort undoes the whole journal, but is refused, with nothing asked, if a REC runs.
+-- An abort asks to undo all open operations, but if a REC runs, it asks nothing and is refused.
 abbrev pub IsAbort : ℕ → List ℕ → ℕ → List Exchange → List ReportLine → Ending → Type 0
 IsAbort place [] journal exchanges lines end = AreUndone place journal exchanges lines end
 IsAbort place (number ∷ numbers) journal exchanges lines end = IsAnswerReported place (Refused RecRunning) exchanges lines end
 
--- A step back first asks for the number of operations above its mark. If the build can go back, up to that number of
--- undos are asked for, but no more than the journal has.
+-- A `back` step asks whether the build can go back to its mark, and then for the undos that lead there. These are as
+-- many as operations were opened since the mark, but no more than the build has open.
 pub data IsWayBack (place : ℕ) (mark : Mark) (journal : ℕ) : List Exchange → List ReportLine → Ending → Type 0 where
   cut_short : IsWayBack place mark journal [] [] ending.Cut
   refused : (refusal : Refusal)
@@ -55,12 +58,12 @@ pub data IsWayBack (place : ℕ) (mark : Mark) (journal : ℕ) : List Exchange �
       → AreUndone place (min count journal) exchanges lines end
       → IsWayBack place mark journal (CheckedBack mark (Ok count) ∷ exchanges) lines end
 
--- A step back is refused, with nothing asked, if there is no mark.
+-- A `back` step goes back to the build's mark; without a mark, it asks nothing and is refused.
 abbrev pub IsStepBack : ℕ → Option Mark → ℕ → List Exchange → List ReportLine → Ending → Type 0
 IsStepBack place None journal exchanges lines end = IsAnswerReported place (Refused NothingToUndo) exchanges lines end
 IsStepBack place (Some mark) journal exchanges lines end = IsWayBack place mark journal exchanges lines end
 
--- The questions of a step at that index of the plan, and the lines of their answers.
+-- The questions that a step with the given index asks, and the report lines with their answers.
 abbrev pub IsStepReported : ℕ → StandingView → Step → List Exchange → List ReportLine → Ending → Type 0
 IsStepReported place standing (step.Ask cmd) exchanges lines end = IsQuestionAsked place (question.Do cmd) exchanges lines end
 IsStepReported place standing step.Undo exchanges lines end = IsQuestionAsked place question.Undo exchanges lines end
@@ -68,23 +71,25 @@ IsStepReported place standing step.Abort exchanges lines end = IsAbort place sta
 IsStepReported place standing step.Mark exchanges lines end = IsQuestionAsked place question.Mark exchanges lines end
 IsStepReported place standing step.Back exchanges lines end = IsStepBack place standing.mark standing.journal exchanges lines end
 
--- ---- the whole
+-- ---- the report of all steps
 
+-- the exit of a REC after a refusal: how a report line names it, and the question that asks for it
 abbrev pub exit_of : ℕ → Asked × Question
 exit_of number = (asked.Exit number, question.Do (cmd.Exit number))
 
--- The questions after a refusal: the running RECs exit in rising number, then all that is open is undone.
+-- The questions after a refusal: exits of the running RECs, the lowest number first, and then undos of all open
+-- operations.
 abbrev pub clearing : StandingView → List (Asked × Question)
 clearing standing = map exit_of standing.running ++ replicate standing.journal (asked.Undo, question.Undo)
 
--- the questions ended, by acceptance or refusal, and were not cut short for lack of a turn
+-- the questions ended because all were accepted or one was refused, and not for lack of a turn
 abbrev pub is_over : Ending → Bool
 is_over ending.Done = true
 is_over ending.Refused = true
 is_over ending.Cut = false
 
--- The report of the steps from an index on, with a standing. The steps are taken in sequence, and after the first
--- refusal the build is cleared.
+-- The report on the steps from an index on, given the state of the build (`standing`) before them. The steps are taken
+-- in sequence, and after the first refusal the build is cleared.
 pub data IsWorkerReport : ℕ → StandingView → List Step → List Exchange → List ReportLine → Bool → Type 0 where
   no_step_left : {place : ℕ} {standing : StandingView} → IsWorkerReport place standing [] [] [] true
   accepted : {place : ℕ} {standing : StandingView} {step : Step} {steps : List Step} {exchanges : List Exchange} {lines : List ReportLine} {ended : Bool}
@@ -105,8 +110,8 @@ pub data IsWorkerReport : ℕ → StandingView → List Step → List Exchange �
       → IsStepReported place standing step exchanges lines ending.Cut
       → IsWorkerReport place standing (step ∷ steps) exchanges lines false
 
--- A worker has done its work, or waits for a turn that the gate withholds. The teller was asked just this, the gate let
--- the turn of each question pass, and the report has the answers.
+-- A worker has done its work, or has stopped at a turn that the gate withholds. The teller was asked just these
+-- questions, the gate gave a turn for each, and the report has the answers.
 pub record IsWork (before after : List Exchange → Type 0) (passes stops : ℕ → Type 0) (steps : List Step) (lines : List ReportLine) (ended : Bool) : Type 0 where
   pub exchanges : List Exchange
   pub told : (earlier : List Exchange) → before earlier → after (earlier ++ exchanges)

@@ -20,7 +20,7 @@ pub record StandingView : Type 0 where
 abbrev pub first_standing : StandingView
 first_standing = record { turn = 0; journal = 0; running = []; mark = None }
 
--- the rising numbers with this one inserted, unless they already have it
+-- a list of rising numbers with one number inserted, unless the list already has it
 abbrev pub with_number : ℕ → List ℕ → List ℕ
 with_number number [] = number ∷ []
 with_number number (first ∷ rest) =
@@ -43,7 +43,7 @@ standing_after_command cmd standing = record standing {
   running = numbers_running_after cmd standing.running;
 }
 
--- the state after an answer; a refusal changes nothing
+-- the standing after an answer; a refusal changes nothing
 abbrev pub after_answer : Exchange → StandingView → StandingView
 after_answer (Did cmd (Ok reply)) standing = standing_after_command cmd standing
 after_answer (Did cmd (Err refusal)) standing = standing
@@ -56,7 +56,7 @@ after_answer (CheckedBack mark result) standing = standing
 abbrev pub after_exchange : Exchange → StandingView → StandingView
 after_exchange exchange standing = after_answer exchange (record standing { turn = standing.turn + 1 })
 
--- the standing after exchanges, the first one first
+-- the standing after a list of exchanges, taken in sequence
 abbrev pub standing_after : List Exchange → StandingView → StandingView
 standing_after [] standing = standing
 standing_after (exchange ∷ more) standing = standing_after more (after_exchange exchange standing)

@@ -9,7 +9,7 @@ use Rattle.build_seats.specs.declared.ask.Question.{Question}
 use Rattle.build_seats.specs.declared.ask.Ending.{Ending}
 use Rattle.build_seats.specs.declared.ask.Ending.TheVariants as ending
 
--- A question was asked and counted, and this was the answer.
+-- A question was asked and counted as a turn, and `answer` was its answer.
 pub record IsExchange (before after : List Exchange → Type 0) (question : Question) (old new : StandingView) (answer : Answer) : Type 0 where
   pub exchange : Exchange
   pub of_question : question_of exchange ≡ Some question
@@ -17,7 +17,7 @@ pub record IsExchange (before after : List Exchange → Type 0) (question : Ques
   pub counted : new ≡ after_exchange exchange old
   pub answer_is : answer ≡ told exchange
 
--- These exchanges took place, the gate let the turn of each pass, and these lines were added. `AreThose` holds of
+-- The exchanges took place, the gate gave a turn for each, and the lines were added to the report. `AreThose` holds of
 -- the exchanges and the lines.
 pub record IsStretch (before after : List Exchange → Type 0) (passes stops : ℕ → Type 0) (old new : StandingView) (old_lines new_lines : List ReportLine)
     (end : Ending) (AreThose : List Exchange → List ReportLine → Type 0) : Type 0 where

@@ -1,5 +1,6 @@
--- The facts about the host under a lock that follow from the answer to one call. They do not say which host that was.
--- But the host's machine is that of the start, and it has as many events of the seat's build as the seat counts.
+-- The facts about the host under a lock that follow from the answer to one call. They do not say in which state the
+-- host was. But the host has the limits and the history capacity of the start, and as many events of the seat's build
+-- as the seat counts.
 use Rattle.std.specs.Prelude.{◌≡◌, ℕ, ◌-◌, [], ◌∷◌, ◌++◌, length, Result}
 use Rattle.std.specs.Result.{IfOk, OnOk}
 use Rattle.realm_model.specs.declared.act.Event.{Event}
@@ -17,14 +18,15 @@ use Rattle.realm_model.specs.History.{events_of}
 use Rattle.build_seats.specs.Seats.{SeatView, with_noted}
 use Rattle.build_seats.specs.Start.{IsOfStart}
 
--- The lock of builds started with `opened` can hold the host. The host has as many events of the seat's build as
--- the seat counts.
+-- The host is one that the lock can hold if the host `opened` was first put under it. The host has as many events of
+-- the seat's build as the seat counts.
 pub record IsBehind (opened host : HostView) (seat : SeatView) : Type 0 where
   pub shared : IsShared host
   pub of_start : IsOfStart opened host
   pub counted : length (events_of seat.build host.history) ≡ seat.count
 
--- An accepted call: there was a host that answers so, with one event more, also in the trail.
+-- An accepted call: the host, in some state under the lock, gave the answer, and its history and the seat's event list
+-- got the same event.
 pub record IsCallTold (opened : HostView) (call : Call) (answer : HostAnswer) (seat new_seat : SeatView) : Type 0 where
   pub host : HostView
   pub new : HostView
@@ -35,21 +37,21 @@ pub record IsCallTold (opened : HostView) (call : Call) (answer : HostAnswer) (s
   pub after : IsBehind opened new new_seat
   pub noted : new_seat ≡ with_noted seat event
 
--- A refused call: there was a host that refuses so, and stays as it is.
+-- A refused call: the host, in some state under the lock, gave the refusal, and did not change.
 pub record IsCallRefused (opened : HostView) (call : Call) (refusal : Refusal) (seat : SeatView) : Type 0 where
   pub host : HostView
   pub behind : IsBehind opened host seat
   pub answered : IsAnswer host seat.build call (Refused refusal) host
 
--- A mark, or the reason why there is none: there was a host that answers so.
+-- The host, in some state under the lock, gave this answer to a request for a mark: a mark or a refusal.
 pub record IsMarkTold (opened : HostView) (seat : SeatView) (result : Result Mark Refusal) : Type 0 where
   pub host : HostView
   pub new : HostView
   pub behind : IsBehind opened host seat
   pub answered : IsMarked host seat.build result new
 
--- The distance of a mark, or the reason why there is no way back to it: there was a host that answers so. The number is
--- that of the operations that are open now but were not at the mark.
+-- The host, in some state under the lock, gave this answer to a request for the number of operations since a mark.
+-- These operations are open now, but were not open at the mark.
 pub record IsBackTold (opened : HostView) (seat : SeatView) (mark : Mark) (result : Result ℕ Refusal) : Type 0 where
   pub host : HostView
   pub behind : IsBehind opened host seat

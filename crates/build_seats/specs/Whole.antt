@@ -1,5 +1,5 @@
--- The view of the only share of a build's ghost ledger: the build, the number of the ledger's parts, and the counted
--- amount.
+-- The view of the only share of a build's ghost ledger: the build, how many of the ledger's parts the share has, and the
+-- amount that it counts.
 use Rattle.std.specs.Prelude.{ℕ}
 use Rattle.build_seats.specs.declared.ledgers.Whole.{Whole}
 use Rattle.build_seats.specs.declared.ledgers.Whole.TheVariants.{Build0, Build1, Build2, Build3, Build4, Build5, Build6, Build7}
@@ -14,7 +14,7 @@ build_of (Build5 share) = 5
 build_of (Build6 share) = 6
 build_of (Build7 share) = 7
 
--- the parts of its ledger that a share has, and the amount that it counts
+-- how many parts of its ledger a share has, and the amount that it counts
 abbrev pub share_of : {L : Type 0} → Whole L → ℕ × ℕ
 share_of (Build0 share) = (share.parts, share.amount)
 share_of (Build1 share) = (share.parts, share.amount)

@@ -1,9 +1,9 @@
-//! Ghost ledgers that are not opened yet. The type of a ghost ledger is chosen when the ledger is opened.
+//! Ghost ledgers that have not been opened yet. The type of a ghost ledger is chosen when the ledger is opened.
 ghost use Rattle.std.specs.Prelude.{◌≡◌};
 
 use std::sync::ledger::Blank;
 
-/// A ghost ledger for each build, not opened yet. A ghost ledger counts in proofs only. Each has a single part.
+/// A ghost ledger for each build, not yet opened. A ghost ledger counts in proofs only. Each has a single part.
 #[derive(Drop)]
 pub struct Blanks {
     pub blank0: Blank,

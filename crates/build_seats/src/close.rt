@@ -31,7 +31,7 @@ pub fn audit<L: Ledgers>(books: &mut Books<L>, seats: &mut [Seat<L>])
     }
 }
 
-/// Finds the lowest-numbered build that does not have exactly one session handle (`Seat`).
+/// Finds the lowest-numbered build, if any, that does not have exactly one session handle (`Seat`).
 #[tactic(auto, unfolding(crate::specs::Close::AreSeatsWhole))]
 pub fn missing<L: Ledgers>(seats: &[Seat<L>], builds: u8) -> Option<BuildId>
     requires { builds ≤ 8 }
@@ -54,7 +54,8 @@ fn seat_count<L: Ledgers>(seats: &[Seat<L>], build: BuildId) -> usize
     seats.iter().filter(|seat| seat.build() == build).count()
 }
 
-/// Finds the lowest-numbered build with a session handle (`Seat`) whose trail is not the build's part of the history.
+/// Finds the lowest-numbered build, if any, with a session handle (`Seat`) whose event list is not the build's part of
+/// the history.
 #[tactic(auto, unfolding(crate::specs::Close::FitsAll))]
 pub fn mismatch<L: Ledgers>(seats: &[Seat<L>], history: &[Event]) -> Option<BuildId>
     ensures some { IfSome result (λ build. Differs build history.now seats.now) }

@@ -9,7 +9,7 @@ pub enum Asked {
     Step(usize),
     /// A worker's request to exit a running REC after a step was refused.
     Exit(RecNo),
-    /// A worker's request, after a refused step, to undo the build's newest reversible operation not yet undone.
+    /// A worker's request, after a refused step, to undo the build's newest open operation.
     Undo,
 }
 
@@ -41,6 +41,6 @@ pub struct Report {
     pub lines: Vec<ReportLine>,
 }
 
-/// The error that the scheduler (`Gate`) withholds the next turn of a build's worker.
+/// The error that a build's worker gets if the scheduler (`Gate`) withholds its next turn.
 #[derive(Clone, Copy)]
 pub struct Stuck;

@@ -1,4 +1,4 @@
-//! Session handles (`Seat`) of builds on a shared host, and the lists (`Trail`) of the accepted events of each build.
+//! Session handles (`Seat`) of builds on a shared host, and the list (`Trail`) of each build's events.
 ghost use Rattle.std.specs.Prelude.{◌≡◌, ◌+◌, ◌<◌, ◌≤◌, [], ◌∷◌, ◌++◌, length, map, vec_len, vec_capacity, replicate, IfOk};
 ghost use Rattle.std.specs.List.{range_with_len};
 ghost use Rattle.build_seats.specs.Passes.{unused};
@@ -10,8 +10,7 @@ use realm_model::Event;
 use std::alloc::{AllocError, Global};
 use std::marker::{Model, PhantomData};
 
-/// The list of the accepted events of one build, in sequence. The list's capacity is the room of the build in the
-/// history.
+/// The list of one build's events, in sequence. The list's capacity is the room of the build in the history.
 #[derive(Drop)]
 pub struct Trail<L: Ledgers> {
     events: Vec<Event>,
@@ -50,7 +49,7 @@ impl<L: Ledgers> Trail<L> {
         self.events.push_reserved(event);
     }
 
-    /// Returns the accepted events of the build, in sequence.
+    /// Returns the events of the build, in sequence.
     pub fn events(&self) -> &[Event]
         ensures { result.now ≡ self.now }
     {
@@ -116,7 +115,7 @@ impl<L: Ledgers> Seat<L> {
         self.trail.events().len()
     }
 
-    /// Returns the accepted events of the session handle's build, in sequence.
+    /// Returns the events of the session handle's build, in sequence.
     pub fn trail(&self) -> &[Event]
         ensures { result.now ≡ self.now.trail }
     {

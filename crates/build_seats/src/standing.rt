@@ -1,5 +1,5 @@
-//! The record by which a worker follows the state of its build. It has the number of the build's open operations, its
-//! running RECs and its last mark. The teller's replies keep the record up to date.
+//! The record in which a worker keeps track of the state of its build. It has the number of the build's open
+//! operations, its running RECs and its last mark. The teller's replies keep the record up to date.
 ghost use Rattle.std.specs.Prelude.{◌≡◌, ◌+◌, ◌-◌, ◌^◌, ◌<◌, ◌≤◌, ◌++◌, length, take, drop, slice_index, Some};
 ghost use Rattle.build_seats.specs.Standing.{first_standing, with_number, without_number, standing_after_command, left_to_clear};
 

@@ -1,4 +1,4 @@
-//! Functions by which a build's worker performs the steps of a plan.
+//! Functions that a build's worker uses to perform the steps of a plan.
 ghost use Rattle.std.specs.Prelude.{◌≡◌, ◌+◌, ◌^◌, ◌<◌, ◌≤◌, List, [], ◌∷◌, ◌++◌, replicate, vec_len, vec_capacity};
 ghost use Rattle.build_seats.specs.Asked.{ArePut};
 ghost use Rattle.build_seats.specs.Exchange.{Exchange, CheckedBack};

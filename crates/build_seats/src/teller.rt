@@ -42,12 +42,12 @@ pub trait Teller {
 
 /// The scheduler that gives the workers of builds their turns.
 pub trait Gate {
-    /// Whether the scheduler (gate) gives a turn to a build's worker. The arguments are the build and the number of the
-    /// turn.
+    /// Whether the scheduler (gate) gives a build's worker the turn with a given number. The arguments are the build
+    /// and the number of the turn.
     ghost passes: { Self → ℕ → ℕ → Type 0 };
 
-    /// Whether the scheduler (gate) withholds a turn from a build's worker. The arguments are the build and the number
-    /// of the turn.
+    /// Whether the scheduler (gate) withholds the turn with a given number from a build's worker. The arguments are the
+    /// build and the number of the turn.
     ghost stops: { Self → ℕ → ℕ → Type 0 };
 
     /// Waits for the scheduler to give a build's worker the turn with number `turn`. Returns `Err` if the turn is

@@ -1,5 +1,5 @@
--- Proofs that two legal histories that agree with the event lists of the same session handles (`Seat`) have the same
--- events of each build.
+-- Proofs that two legal histories with the event lists of the same session handles (`Seat`) have the same events for
+-- each build, and lead to the same world.
 use Rattle.std.proofs.Common.{◌≡◌, ℕ, ◌<◌, ◌≤◌, Bool, true, false, cond, List, [], ◌∷◌, length, Result, Ok, Err, refl, sym, ◌∙◌, subst, arith}
 use Rattle.std.specs.Prelude.{◌==◌, nat_lt, filter, IfOk, MatchResult}
 use Rattle.std.specs.List.{All}

@@ -1,4 +1,5 @@
--- Proofs that the event list of a session handle (`Seat`) has one event for each accepted question of its worker.
+-- Proofs that the event list of a session handle (`Seat`) has one event for each accepted command or undo of its
+-- worker. Then proofs that answered exchanges, with one more answered exchange at the end, are answered in sequence.
 use Rattle.std.proofs.Common.{◌≡◌, ℕ, List, [], ◌∷◌, ◌++◌, refl, sym, ap, subst, ◌∙◌}
 use Rattle.std.proofs.lemmas.List.{append-nil, append_assoc}
 use Rattle.std.proofs.lemmas.List.Elements.{filter-append}

@@ -1,4 +1,4 @@
--- A proof that taking the minimum over the builds of unended workers finds the lowest of them, or none if all workers
+-- A proof that the minimum of the builds whose workers have not ended is the lowest of them, or none if all workers
 -- have ended.
 use Rattle.std.proofs.Common.{◌≡◌, ℕ, zero, suc, ◌≤◌, min, Bool, true, false, not, cond, List, [], ◌∷◌, map, fold, filter, MatchOption, ◌⊎◌, inl, inr, refl, sym, subst, ◌∙◌, arith}
 use Rattle.std.proofs.lemmas.Bool.Decides.{leb_tells}

@@ -1,4 +1,4 @@
--- The condition that the event list of a session handle (`Seat`) has one event for each accepted question of its
+-- The condition that the event list of a session handle (`Seat`) has one event for each accepted command or undo of its
 -- worker, in sequence.
 use Rattle.std.specs.Prelude.{◌≡◌, ℕ, List, filter, Some, Ok}
 use Rattle.std.specs.List.{AllZip}
@@ -15,23 +15,25 @@ use Rattle.realm_model.specs.declared.act.Act.TheVariants as acts
 use Rattle.realm_model.specs.declared.act.Event.{Event}
 use Rattle.build_seats.specs.Exchange.{Exchange, Did, Undid, is_event}
 
--- The operation is that of the command, with the command's own numbers, any granules of its pages, and any allocations.
+-- The operation is one that the command can ask for: it has the command's own numbers, but any granules for its pages
+-- and any allocated values.
 abbrev pub IsActFor : Cmd → Act → Type 0
 IsActFor (Take order) act = (first : ℕ) × (act ≡ acts.Take order first)
 IsActFor cmd act = (granules : List ℕ) × (allocated : Allocated) × (act_of cmd granules allocated ≡ Some act)
 
--- the operation is the reverse of one of that kind
+-- the operation is the reverse of an operation of this kind
 abbrev pub IsReverseOf : Kind → Act → Type 0
 IsReverseOf kind act = (opened : Act) × (act_kind opened ≡ Some kind) × (reverse_of opened ≡ Some act)
 
--- The event of an accepted question of a build: an operation of the command that has this reply, or the reverse of one
--- of the kind in the undo's reply.
+-- The event records an accepted command or undo of the build: an operation of the command with this reply, or the
+-- reverse of an operation of the reply's kind.
 abbrev pub IsEventOf : ℕ → Exchange → Event → Type 0
 IsEventOf build (Did cmd (Ok reply)) event =
     (event.build ≡ build) × IsActFor cmd event.act × ((pages : ℕ) × (reply ≡ reply_of pages event.act))
 IsEventOf build (Undid (Ok undone)) event = (event.build ≡ build) × IsReverseOf undone.kind event.act
 IsEventOf build _ event = ⊥
 
--- One event for each accepted question, in sequence.
+-- The trail, a list of events, has one event of the build for each accepted command or undo among the exchanges, in
+-- sequence.
 unfoldable pub IsTrailOf : ℕ → List Exchange → List Event → Type 0
 IsTrailOf build exchanges trail = AllZip (IsEventOf build) (filter is_event exchanges) trail

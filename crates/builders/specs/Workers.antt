@@ -1,4 +1,5 @@
--- The view of a worker: its session handle (`Seat`), its steps, its report, and whether it has ended.
+-- A worker as contracts see it: its view, its invariant, and the effect of its run. The view has the session handle
+-- (`Seat`), the steps, the report, and whether the worker has ended.
 use Rattle.std.specs.Prelude.{◌≡◌, ℕ, ◌<◌, ◌⊎◌, Bool, false, List, [], length}
 use Rattle.host_ledger.specs.View.{HostView}
 use Rattle.host_commands.specs.declared.cmd.Step.{Step}
@@ -16,15 +17,15 @@ pub record WorkerView : Type 0 where
   pub lines : List ReportLine
   pub ended : Bool
 
--- nothing was asked yet
+-- the worker has asked nothing yet
 pub record IsNew (worker : WorkerView) : Type 0 where
   pub no_line : worker.lines ≡ []
   pub no_event : worker.seat.trail ≡ []
   pub not_ended : worker.ended ≡ false
 
--- The worker's lines are the report of its steps, with these exchanges. Since the seat was new, they were answered by
--- hosts that the lock of builds started with `opened` can hold. The accepted ones are the trail's events, which the
--- seat counts.
+-- The worker has worked on its steps: its report lines say what it asked the host and what the host answered. Since
+-- the seat was new, the questions were answered by hosts that the lock of builds started with `opened` can hold. The
+-- accepted questions are the trail's events, which the seat counts.
 pub record HasWorked (opened : HostView) (worker : WorkerView) : Type 0 where
   pub exchanges : List Exchange
   pub is_report : IsWorkerReport 0 first_standing worker.steps exchanges worker.lines worker.ended
@@ -36,8 +37,8 @@ pub record HasWorked (opened : HostView) (worker : WorkerView) : Type 0 where
 abbrev pub IsFaithful : HostView → WorkerView → Type 0
 IsFaithful opened worker = IsNew worker ⊎ HasWorked opened worker
 
--- A worker has worked on its steps. The gate let the turn of each question pass, from 0 on. If the worker has not
--- ended, the gate stops the next turn.
+-- The worker `old` has run, and `new` is the same worker after it has worked on its steps. The gate let the turn of
+-- each question pass, from 0 on. If the worker has not ended, the gate stops the next turn.
 pub record IsWorkerRun (opened : HostView) (passes stops : ℕ → Type 0) (old new : WorkerView) : Type 0 where
   pub steps_are : new.steps ≡ old.steps
   pub build_is : new.seat.build ≡ old.seat.build

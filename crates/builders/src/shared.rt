@@ -23,9 +23,9 @@ pub struct Shared<S: PageStore, L: Ledgers> {
 }
 
 impl<S: PageStore, L: Ledgers> Shared<S, L> {
-    /// Puts a host under a lock, and returns a session handle (`Seat`) for each build. The host has no history. The
-    /// handle of the lowest build comes first. All memory for the builds' events is taken here. If an allocation fails,
-    /// the blanks and the host are returned.
+    /// Puts a host under a lock, and returns the shared host with a session handle (`Seat`) for each build. The host
+    /// has no history. The handle of the lowest build comes first. All memory for the builds' events is taken here. If
+    /// an allocation fails, the blanks and the host are returned.
     pub fn start(
         alloc: Global,
         blanks: Blanks,
@@ -70,7 +70,7 @@ impl<S: PageStore, L: Ledgers> Shared<S, L> {
         self.kept.lock(rt).mark(seat)
     }
 
-    /// Returns the number of undos that would roll the build of the session handle `seat` back to a mark. The error is
+    /// Returns the number of undos needed to roll the build whose session handle is `seat` back to a mark. The error is
     /// the host's refusal. The handle is borrowed as for `mark`.
     pub fn check_back(&self, rt: &impl Wait, seat: &mut Seat<L>, mark: Mark) -> Result<u16, Refusal>
         ensures told { IsBackTold L.opened seat.old mark result }

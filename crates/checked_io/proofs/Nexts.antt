@@ -1,4 +1,5 @@
--- Proofs that the bytes read up to a line feed, or up to the end of an input, are the next line of the input.
+-- Proofs about the next line of an input: that the bytes read are that line, that it is too long, or that no line is
+-- left.
 use Rattle.std.proofs.Common.{◌≡◌, ℕ, ◌+◌, ◌<◌, ◌==◌, false, List, [], ◌∷◌, ◌++◌, length, take, drop, get_or, length-drop}
 use Rattle.std.proofs.Common.{length-take, drop-cons, add-one, Option, Some, None, IfSome, refl, sym, ap, ◌∙◌, arith, subst}
 use mathlib.Core.List.{append-nil}

@@ -1,4 +1,5 @@
--- Proofs about the first line of a byte string: it ends before the first line feed, or else at the end.
+-- Proofs about the first line of a byte string: it goes up to the first line feed, or to the end of a string that has
+-- none.
 use Rattle.std.proofs.Common.{◌≡◌, ℕ, ◌<◌, ◌==◌, not, true, false, List, [], ◌∷◌, ◌++◌, length, refl, ap, ◌∙◌, arith}
 use Rattle.std.specs.List.{onto_first, list_all}
 use Rattle.std.proofs.lemmas.Bool.{and_parts, not-true}

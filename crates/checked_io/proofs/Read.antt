@@ -1,5 +1,5 @@
--- Lemmas on the remaining bytes of an input: without a read all remain, and consecutive reads consume their bytes in
--- sequence.
+-- Proofs that consecutive reads consume the bytes of an input in sequence, and that all bytes remain if nothing is
+-- read.
 use Rattle.std.proofs.Common.{ℕ, List, [], ◌++◌, Option, Some, None, refl, sym, ap, ◌∙◌, append_assoc}
 use Rattle.std.specs.Io.KnownBytes.{Keeps, Consumes}
 

@@ -1,5 +1,5 @@
--- Proofs that consecutive writes append their bytes to an output in sequence, and that partial writes append a prefix
--- of the text.
+-- Proofs that consecutive writes append their bytes to an output in sequence, and that partial writes of a text append
+-- a prefix of it.
 use Rattle.std.proofs.Common.{◌≡◌, ℕ, List, [], ◌++◌, take, drop, Option, Some, None, sym, ap, ◌∙◌}
 use mathlib.Core.List.{append_assoc, append-nil}
 use Rattle.std.proofs.lemmas.List.{take-append-drop}

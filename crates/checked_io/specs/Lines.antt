@@ -4,11 +4,11 @@ use Rattle.std.specs.List.{slice_split}
 use Rattle.checked_io.specs.declared.lines.Next.{Next}
 use Rattle.checked_io.specs.declared.lines.Next.TheVariants.{Line, TooLong, End}
 
--- the parts between line feeds
+-- the parts into which line feeds split a byte string
 abbrev pub parts_of : List ℕ → List (List ℕ)
 parts_of bytes = slice_split (λ b. b == 10) bytes
 
--- an empty last part is no line
+-- the last part of a split byte string, as a list of lines: the part itself, or no line if it is empty
 abbrev pub last_line : List ℕ → List (List ℕ)
 last_line [] = []
 last_line (byte ∷ more) = (byte ∷ more) ∷ []
@@ -23,13 +23,13 @@ lines_in bytes = without_empty_last (parts_of bytes)
 
 -- ---- the next item, if it is known what the input has left
 
--- the line read was the input's next, and the lines after it are left, if the input is known
+-- if the input is known, the line that was read was its next one, and the lines after it remain
 abbrev pub IsLine : Option (List ℕ) → List ℕ → Option (List ℕ) → Type 0
 IsLine None line new = Unit {0}
 IsLine (Some xs) line None = ⊥
 IsLine (Some xs) line (Some ys) = lines_in xs ≡ line ∷ lines_in ys
 
--- the next line is too long
+-- the next line of the input is longer than `most`
 pub record HasLongLine (most : ℕ) (bytes : List ℕ) : Type 0 where
   pub line : List ℕ
   pub more : List (List ℕ)

@@ -1,4 +1,4 @@
-//! Reads an input line by line through a buffer.
+//! A buffer through which an input is read line by line.
 ghost use Rattle.std.specs.Prelude.{◌≡◌, ◌<◌, [], ◌∷◌, length, true, false, is_err, ◌↔◌, Err, IfOk, OnOk};
 ghost use Rattle.std.specs.Io.KnownBytes.{Consumes, IsAtEnd, prepend_known};
 ghost use Rattle.checked_io.specs.Lines.{IsNext};

@@ -166,7 +166,7 @@ impl<W: Write> Told<W> {
         }
     }
 
-    /// Writes all of the text, and flushes once. After an `Err`, a prefix of the text has been written.
+    /// Writes the whole text, then flushes once. After an `Err`, a prefix of the text has been written.
     pub fn write_whole(&mut self, text: &[u8]) -> Result<(), DeviceFailed>
         requires { self.old.failed ≡ false }
         ensures told { self.new.failed ≡ is_err result }

@@ -1,4 +1,4 @@
--- Proofs that coloured pieces and texts appended one after another form a coloured copy of the concatenated text.
+-- Proofs that texts appended one after another, each in coloured pieces, form a coloured copy of the concatenated text.
 use Rattle.std.proofs.Common.{◌≡◌, ◌∙◌, ℕ, List, [], ◌∷◌, ◌++◌, refl, sym, ap, ap₂}
 use Rattle.std.specs.Prelude.{Option}
 use Rattle.std.proofs.lemmas.List.{append_assoc, append-nil}

@@ -1,4 +1,5 @@
--- Proofs that an accepted command line of a program that requires a subcommand names one of the program's subcommands.
+-- Proofs about accepted command lines of a program that requires a subcommand: each names one of the program's
+-- subcommands, and the values of that subcommand's options have passed their parsers.
 use Rattle.std.proofs.Common.{◌≡◌, ◌∙◌, List, [], ◌∷◌, ◌++◌, map, Bool, true, false, refl, sym, ap, ap₂, subst, ◌⊎◌, inl, inr}
 use Rattle.std.specs.Prelude.{not, ◌&&◌, find, Option, Some, None, option_map, is_some, Box}
 use Rattle.std.specs.Box.{box_value}

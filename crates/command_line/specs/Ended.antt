@@ -8,25 +8,28 @@ use Rattle.command_line.specs.declared.ended.Ended.TheVariants.{Done, Shown, Clo
 use Rattle.command_line.specs.declared.stop.Stop.{Stop}
 use Rattle.command_line.specs.declared.stop.Stop.TheVariants.{Run}
 
--- the end of a run: a failed run has ended, not stopped, if nobody reads its output any more
+-- the outcome of a program's run, or its fault as the reason to stop; if the output is closed, a failed run is not an
+-- error
 abbrev pub end_of_run : {V F : Type 0} → Result V F → Bool → Result (Ended V) (Stop F)
 end_of_run (Ok verdict) is_closed = Ok (Done verdict)
 end_of_run (Err fault) true = Ok Closed
 end_of_run (Err fault) false = Err (Run fault)
 
--- the words ask for help or for the version
+-- an error of this kind is a request for help or for the version
 abbrev pub is_request : ErrorKind → Bool
 is_request DisplayHelp = true
 is_request DisplayVersion = true
 is_request _ = false
 
--- the text was printed, or nobody reads it
+-- the outcome of printing a help or version text: `Shown` with an output that has not failed, or `Closed` with an
+-- output that is closed
 abbrev pub IsShown : {V : Type 0} → Bool → Bool → Ended V → Type 0
 IsShown failed is_closed Shown = failed ≡ false
 IsShown failed is_closed Closed = is_closed ≡ true
 IsShown failed is_closed (Done verdict) = ⊥
 
--- the text was not printed: allocation failed, or the output did
+-- the reason to stop if a help or version text was not printed: allocation failed, or the output failed and is not
+-- closed
 abbrev pub IsUnshown : {F : Type 0} → F → Bool → Bool → Stop F → Type 0
 IsUnshown memory failed is_closed (Run fault) = (fault ≡ memory) ⊎ ((failed ≡ true) × (is_closed ≡ false))
 IsUnshown memory failed is_closed _ = ⊥
@@ -36,8 +39,9 @@ abbrev pub IsFaultWith : {F : Type 0} → (F → Type 0) → Stop F → Type 0
 IsFaultWith P (Run fault) = P fault
 IsFaultWith P _ = ⊥
 
--- A program that has shown its help or its version has the status 0. One whose output was closed has that of a program
--- which the signal SIGPIPE ends, as a shell gives it: 128 + 13.
+-- The exit status of a program: the status of its verdict or of its reason to stop, or 0 if it has shown its help or
+-- its version. If its output was closed, the status is 128 + 13, which a shell gives for a program that the signal
+-- SIGPIPE ends.
 abbrev pub status_of_end : {V F : Type 0} → (V → ℕ) → (F → ℕ) → Result (Ended V) (Stop F) → ℕ
 status_of_end status_of_verdict status_of_fault (Ok (Done verdict)) = status_of_verdict verdict
 status_of_end status_of_verdict status_of_fault (Ok Shown) = 0

@@ -1,4 +1,5 @@
--- Parts of a `clap` command line: the definitions of a program and of `--erase`, and the meaning of option texts.
+-- Definitions for `clap` command lines: a program, the option `--erase`, the file argument, and values that have passed
+-- their parsers.
 use Rattle.std.specs.Prelude.{◌≡◌, ℕ, List, [], ◌∷◌, true, codes, Option, Some, None, Ok, pos, if◌then◌else◌}
 use Rattle.std.specs.Str.{bytes_eq}
 use Rattle.std.specs.Str.Parse.{ParsesUnsigned}
@@ -10,43 +11,45 @@ use Rattle.clap.specs.declared.builder.action.ArgAction.TheVariants.{Set}
 use Rattle.clap.specs.declared.builder.value_parser.ValueParser.TheVariants as parser
 use Rattle.clap.specs.declared.parser.matches.ArgMatches.{ArgMatches}
 
--- a program of this name: it has a version, and a subcommand is required
+-- a program with this name, which has a version and requires a subcommand
 abbrev pub program_named : Text → App
 program_named name =
     let a = new_app name in
     record a { top = record a.top { has_version = true; subcommand_required = true } }
 
--- `--erase B`, B from 0 to 7
+-- the option `--erase B`, where B is a number from 0 to 7
 abbrev pub erase_option : Rule
 erase_option = record (new_rule (codes "erase")) { long = Some (codes "erase"); value_names = 1; action = Some Set; parser = Some (parser.Signed (pos 0) (pos 7)) }
 
 -- ---- texts of options
 
--- The build that the text names: the number below 8 that the text is read as. `clap` accepts no other text.
+-- The option `--erase` names this build: its text is read as the build's number, which is below 8. `clap` accepts no
+-- other text. Without a text there is no build.
 abbrev pub IsErase : Option Text → Option ℕ → Type 0
 IsErase None erase = erase ≡ None
 IsErase (Some text) None = ⊥
 IsErase (Some text) (Some build) = ParsesUnsigned {E = Unit {0}} 3 10 text (Ok build)
 
--- the file that a text names: `-` names none, and means standard input
+-- the file that an argument names; none for the argument `-`, which means standard input
 abbrev pub named_file : Text → Option Text
 named_file text = if bytes_eq text (codes "-") then None else Some text
 
 -- ---- values that have passed the parser of their option
 
--- each row of a list
+-- each row of a list has the property; a row is an argument with the values that were given for it
 abbrev pub Each : (Row → Type 0) → List Row → Type 0
 Each P [] = Unit {0}
 Each P (r ∷ rs) = P r × Each P rs
 
--- a row of the rule has values that passed the rule's parser, and is read as the rule says
+-- if a row belongs to the rule's argument, its values have passed the rule's parser, and the row is read as the rule
+-- says
 abbrev pub IsPassed : Rule → Row → Type 0
 IsPassed a r = bytes_eq r.id a.id ≡ true → (values_fault a r.values ≡ []) × (r.reading ≡ reading_by a)
 
--- the rule of the option in the built command
+-- the rule of the option `--erase` once `clap` has built the command
 abbrev pub built_erase : Rule
 built_erase = filled erase_option
 
--- the values of an option have passed its parser, in what was matched
+-- all values that were matched for an option have passed the option's parser
 abbrev pub ArePassed : Rule → ArgMatches → Type 0
 ArePassed rule matches = Each (IsPassed rule) (rows_of (found_of matches))

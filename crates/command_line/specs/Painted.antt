@@ -3,7 +3,7 @@ use Rattle.std.specs.Prelude.{◌≡◌, ℕ, List, [], ◌∷◌, ◌++◌, cod
 use Rattle.command_line.specs.declared.paint.Colour.{Colour}
 use Rattle.command_line.specs.declared.paint.Colour.TheVariants.{Error, Red, Green, Yellow, Cyan}
 
--- the sequence of a number that is between ESC [ and m
+-- the terminal escape sequence that has these parameters between ESC [ and m
 abbrev pub escape : List ℕ → List ℕ
 escape number = 27 ∷ 91 ∷ number ++ codes "m"
 
@@ -17,7 +17,7 @@ code_of Cyan = escape (codes "36")
 abbrev pub reset : List ℕ
 reset = escape (codes "0")
 
--- a piece of a text, bare or in a colour
+-- a piece of a text, with its colour if it has one
 abbrev pub Piece : Type 0
 Piece = Option Colour × List ℕ
 
@@ -25,22 +25,22 @@ abbrev pub shown_by : Option Colour → List ℕ → List ℕ
 shown_by None bytes = bytes
 shown_by (Some colour) bytes = code_of colour ++ bytes ++ reset
 
--- the text that pieces are cut from
+-- the text that the pieces form, without their colours
 abbrev pub bytes_of_pieces : List Piece → List ℕ
 bytes_of_pieces [] = []
 bytes_of_pieces (piece ∷ more) = piece.1 ++ bytes_of_pieces more
 
--- the pieces in their colours
+-- the text that the pieces form, each piece in its colour if it has one
 abbrev pub painted_pieces : List Piece → List ℕ
 painted_pieces [] = []
 painted_pieces (piece ∷ more) = shown_by piece.0 piece.1 ++ painted_pieces more
 
--- the text is added in pieces, some of them in colours
+-- `text` is appended to `old` in pieces, each bare or in a colour, and the result is `new`
 pub record AddsPainted (old text new : List ℕ) : Type 0 where
   pub pieces : List Piece
   pub whole : bytes_of_pieces pieces ≡ text
   pub added : new ≡ old ++ painted_pieces pieces
 
--- nothing but colours is added to the text
+-- the output is the text with nothing added but colours
 abbrev pub IsPainted : List ℕ → List ℕ → Type 0
 IsPainted text out = AddsPainted [] text out

@@ -8,11 +8,11 @@ use Rattle.command_line.specs.declared.realmhost.Line.TheVariants.{Replay, Run}
 abbrev pub replay_subcommand : App
 replay_subcommand = with_rule (new_app (codes "replay")) erase_option
 
--- without options
+-- the subcommand `run`, which has no options
 abbrev pub run_subcommand : App
 run_subcommand = new_app (codes "run")
 
--- it has no subcommand `help`
+-- the program `realmhost` before its subcommands are added, with the subcommand `help` of `clap` disabled
 abbrev pub realmhost_alone : App
 realmhost_alone =
     let a = program_named (codes "realmhost") in
@@ -21,7 +21,7 @@ realmhost_alone =
 unfoldable pub realmhost : App
 realmhost = with_subcommand (with_subcommand realmhost_alone replay_subcommand.top) run_subcommand.top
 
--- the command line asks for the subcommand that `clap` found, with its option
+-- the request is for the subcommand that `clap` found; a replay leaves out the build that `--erase` names
 abbrev pub IsHostSubcommand : Option (Text × List Row) → Line → Type 0
 IsHostSubcommand None line = ⊥
 IsHostSubcommand (Some found) (Replay erase) = (found.0 ≡ codes "replay") × IsErase (one_of (codes "erase") found.1) erase

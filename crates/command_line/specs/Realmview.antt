@@ -11,19 +11,20 @@ use Rattle.command_line.specs.declared.realmview.ScheduleQuestion.{ScheduleQuest
 use Rattle.command_line.specs.declared.realmview.ScheduleQuestion.TheVariants.{Refused, Waiting, Leased}
 use Rattle.command_line.specs.declared.realmview.StepPlace.{StepPlace}
 
--- `sample` schedules, drawn by the seed, if they are at most a million
+-- a number of schedules drawn at random with a seed, or an error if the number is above a million
 abbrev pub schedules_drawn : ℕ → ℕ → Result Schedules BadOption
 schedules_drawn sample seed = if nat_lt 1000000 sample then Err (SampleAboveMost sample) else Ok (Drawn sample seed)
 
--- All schedules, if their runs have at most `most` states, a million if that is not given. If `sample` or `seed` is
--- given, schedules are drawn. If only the seed is given, a thousand are drawn. If no seed is given, it is 0.
+-- The schedules that the options ask for: drawn at random if `--sample` or `--seed` is given, and otherwise all, up to
+-- a limit on the states of their runs. The limit is given by `--most-states`, or is a million without it. If only the
+-- seed is given, a thousand schedules are drawn. If no seed is given, it is 0.
 abbrev pub schedules_asked : Option ℕ → Option ℕ → Option ℕ → Result Schedules BadOption
 schedules_asked most None None = Ok (All (unwrap_or most 1000000))
 schedules_asked most None (Some seed) = Ok (Drawn 1000 seed)
 schedules_asked most (Some sample) seed = schedules_drawn sample (unwrap_or seed 0)
 
--- The behaviour of builds after a refusal, by whether they are to give up. They give up only in schedules whose
--- outcomes are printed: no plan can say that builds give up.
+-- The behaviour of builds after a refusal: they go on, or give up if the options ask for that. To give up is an error
+-- in a search for a shortest schedule: the search results in a plan, and no plan can say that builds give up.
 abbrev pub after_refusal : Bool → Schedules → Result AfterRefusal BadOption
 after_refusal false schedules = Ok GoOn
 after_refusal true (All most) = Ok GiveUp
@@ -32,15 +33,16 @@ after_refusal true _ = Err GiveUpInPlan
 
 -- ---- questions
 
--- the question about leased granules, if their number is from 1 to the most that a machine has
+-- the question whether at least this many granules are leased, or an error if the number is not from 1 to 4,096, the
+-- most that a machine has
 abbrev pub question_of_leased : ℕ → Result ScheduleQuestion BadOption
 question_of_leased granules = if granules == 0 || nat_lt 4096 granules then Err (GranulesOutOfRange granules) else Ok (Leased granules)
 
 abbrev pub asked_of_leased : ℕ → Result (Option ScheduleQuestion) BadOption
 asked_of_leased granules = if granules == 0 || nat_lt 4096 granules then Err (GranulesOutOfRange granules) else Ok (Some (Leased granules))
 
--- The one question that is asked, if any: by the step of `--refused`, the build of `--waiting`, or the granules of
--- `--leased`. A text of `--refused` that is no step is an error.
+-- The one question that the options ask, if any: about a step (`--refused`), a build (`--waiting`), or a number of
+-- granules (`--leased`). More than one question is an error, and so is a text of `--refused` that does not name a step.
 abbrev pub question_asked : Option (Option StepPlace) → Option ℕ → Option ℕ → Result (Option ScheduleQuestion) BadOption
 question_asked None None None = Ok None
 question_asked (Some (Some place)) None None = Ok (Some (Refused place))

@@ -2,6 +2,6 @@
 use Rattle.std.specs.Prelude.{ℕ, Bool, false, slice_get, unwrap_or}
 use Rattle.command_line.specs.declared.rmitrace.NameSet.{NameSet}
 
--- a name is in a set
+-- the set has the name with this index in the table of names of `rmm_trace`
 abbrev pub is_name_in : NameSet → ℕ → Bool
 is_name_in set place = unwrap_or (slice_get set.places place) false

@@ -12,19 +12,20 @@ is_file (File file) = true
 
 -- ---- a file that cannot be opened
 
--- the program, the name of the file, and the reason
+-- the line names the program, the file that cannot be opened, and the reason
 pub record IsUnopenedLine (program name line : List ℕ) : Type 0 where
   pub reason : List ℕ
   pub whole : line ≡ program ++ (codes ": " ++ (name ++ (codes ": " ++ reason)))
 
--- A program stops at the file of this name: the line says so, or memory ran out.
+-- The program stops because the file of this name cannot be opened: a line says so, or memory ran out.
 abbrev pub StopsAtFile : {F : Type 0} → F → List ℕ → List ℕ → Stop F → Type 0
 StopsAtFile memory program name (Unopened line) = IsUnopenedLine program name (string_bytes line)
 StopsAtFile memory program name (Run fault) = fault ≡ memory
 StopsAtFile memory program name (Usage error) = ⊥
 StopsAtFile memory program name NotUtf8 = ⊥
 
--- the same for the input; without a file no program stops here, since standard input is read
+-- the program stops because it cannot open its input; this happens only for a file, since standard input is open
+-- already
 abbrev pub StopsAtInput : {F : Type 0} → F → List ℕ → Option (List ℕ) → Stop F → Type 0
 StopsAtInput memory program None stop = ⊥
 StopsAtInput memory program (Some name) stop = StopsAtFile memory program name stop

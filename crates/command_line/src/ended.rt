@@ -23,7 +23,7 @@ pub enum Ended<V> {
 
 impl<V> Ended<V> {
     /// Returns the outcome of a program's run, or its fault as the reason to stop. A run that failed because the output
-    /// is closed is no fault.
+    /// is closed is not a fault.
     pub fn of_run<F>(outcome: Result<V, F>, is_closed: bool) -> Result<Ended<V>, Stop<F>>
     where
         V: Drop,
@@ -37,8 +37,8 @@ impl<V> Ended<V> {
         }
     }
 
-    /// Prints the help or version that a command line asks for. Returns any other error as the reason why the program
-    /// stops.
+    /// Prints the help or version text that a command line asks for. Returns any other error as the reason why the
+    /// program stops.
     pub fn shown<F: Reason + From<DeviceFailed>, W: Write>(
         alloc: Global,
         error: Error,

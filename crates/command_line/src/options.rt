@@ -1,5 +1,5 @@
-//! Functions that define parts of a command line for `clap`, with proved contracts. The parts are a program, a
-//! subcommand, and the option `--erase`.
+//! Functions that define parts of a command line for `clap`, parse a command line, and read its values. The parts are a
+//! program, a subcommand, and the option `--erase`. The functions have proved contracts.
 ghost use Rattle.std.specs.Prelude.{◌≡◌, IfOk, None, Some, codes, false, if◌then◌else◌, map, nat_lt, option_and_then, option_map, string_bytes, true};
 ghost use Rattle.clap.specs.Words.{FailsBy, app_of, fault_of, found_of, is_simple_and_free, new_app, one_of, rows_of, rule_of, subcommand_of, subcommand_rows_of};
 ghost use Rattle.clap.specs.declared.builder.command.Command.TheViews.{out-Command as fields_of};
@@ -51,16 +51,14 @@ pub(crate) fn matched<'a>(
     program.try_get_matches_from(words)
 }
 
-/// Returns the build with the given number. The result is `None` if there is no number, or if the number is not below
-/// 8.
+/// Returns the build with the given number, or `None` if there is no number or it is not below 8.
 pub(crate) fn build_of(number: Option<u8>) -> Option<BuildId>
     ensures { result ≡ option_and_then (λ n. if nat_lt n 8 then Some n else None) number }
 {
     BuildId::new(number?)
 }
 
-/// Returns the build that the option `--erase` leaves out. The result is `None` if the matched words do not have the
-/// option.
+/// Returns the build that the option `--erase` leaves out, or `None` if the matched words do not have the option.
 pub(crate) fn erased(matches: &ArgMatches) -> Option<BuildId>
     requires { ArePassed built_erase matches.now }
     ensures { IsErase (one_of (codes "erase") (rows_of (found_of matches.now))) result }

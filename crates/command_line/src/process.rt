@@ -1,4 +1,4 @@
-//! Functions that return a program's command line arguments and its exit status.
+//! The command line arguments of a program, and the report of why it stops, with its exit status.
 ghost use Rattle.std.specs.Prelude.{◌≡◌, ◌⊎◌, IfErr, IfOk};
 ghost use Rattle.std.specs.Process.{exit_status};
 ghost use Rattle.std.specs.Vec.Iter.{into_iter_items};
@@ -36,7 +36,7 @@ pub fn arguments<R: Env + AllocGlobal, F: Reason>(rt: &R) -> Result<Vec<String>,
 }
 
 impl<F: Reason> Stop<F> {
-    /// Prints the reason for the stop to standard error, and returns the exit status.
+    /// Prints to standard error why the program stops, and returns the exit status.
     pub fn end<R: Eprint>(&self, rt: &R) -> ExitCode
         ensures { exit_status result ≡ status_of_stop F.status_of self.now }
     {

@@ -56,7 +56,7 @@ pub enum Schedules {
     Shortest(u32, ScheduleQuestion),
 }
 
-/// A condition that a search requires to hold at the end of a schedule.
+/// A condition that must hold at the end of the schedule that a search looks for.
 #[derive(Clone, Copy, Drop)]
 pub enum ScheduleQuestion {
     /// The condition that the given step of a build is refused.
@@ -71,9 +71,9 @@ pub enum ScheduleQuestion {
 /// The behaviour of a build after one of its steps is refused.
 #[derive(Clone, Copy, Drop)]
 pub enum AfterRefusal {
-    /// Goes on with the build's next step.
+    /// The build goes on with its next step.
     GoOn,
-    /// Skips the build's remaining steps, and aborts the build by undoing its operations.
+    /// The build skips its remaining steps, and aborts: its operations are undone.
     GiveUp,
 }
 
@@ -89,7 +89,7 @@ pub struct StepPlace {
 pub enum BadOption {
     /// A request to draw more schedules than the limit allows.
     SampleAboveMost { sample: u32 },
-    /// An option value that is not a valid base address: no address, an address that is too high, or no multiple of
+    /// An option value that is not a valid base address: it is not an address, is too high, or is not a multiple of
     /// 4,096.
     NoBase,
     /// An option value that does not name a step of a build.

@@ -25,9 +25,11 @@ pub struct Comparison {
     pub is_each: bool,
     /// Whether the check stops at the first wrong line.
     pub stops: bool,
-    /// The names of the commands, other questions and checks to which the comparison is restricted, if given.
+    /// The names to which the comparison is restricted, if any are given: names of commands, other questions and
+    /// checks.
     pub only: Option<NameSet>,
-    /// The names of the commands, other questions and checks whose trace lines are not compared.
+    /// The names by which trace lines are left out of the comparison, if any are given: names of commands, other
+    /// questions and checks.
     pub skip: Option<NameSet>,
 }
 
@@ -38,7 +40,7 @@ pub enum TraceSubcommand {
     Answer,
     /// Compares the answers in a trace with those of the model.
     Check(Comparison),
-    /// Writes a trace, and rewrites its raw calls with the names of commands and outputs.
+    /// Writes a trace in which raw calls and their answers are rewritten with the names of commands and outputs.
     Names,
     /// Writes a trace with the model's answers, and explains each refusal.
     Why,
@@ -137,7 +139,7 @@ fn rmitrace() -> Program {
 // ---- names
 
 impl NameSet {
-    /// Returns whether the set has the name whose index in the crate `rmm_trace` is `place`.
+    /// Returns whether the set has the name at index `place` in the table of names of `rmm_trace`.
     pub fn has(&self, place: usize) -> bool
         ensures { result ≡ is_name_in self.now place }
     {

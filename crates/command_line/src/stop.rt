@@ -8,16 +8,16 @@ use clap::error::ErrorKind;
 use std::fmt;
 use std::fmt::Display;
 
-/// A reason why a program has not done what its command line asks for. The text of the reason is a line for standard
-/// error.
+/// The trait for the reasons why a program has not done what its command line asks for. The text of a reason is a line
+/// for standard error.
 pub trait Reason: Display + Drop {
-    /// The exit status of each reason, as a logical function.
+    /// The exit status of each reason, for use in contracts.
     ghost status_of: { Self → ℕ };
 
     /// The reason to stop after a failed allocation.
     ghost memory: { Self };
 
-    /// Returns the exit status with which a program stops for this reason.
+    /// Returns the exit status of a program that stops for this reason.
     fn status(&self) -> u8
         ensures { result ≡ status_of self.now };
 
@@ -26,7 +26,7 @@ pub trait Reason: Display + Drop {
         ensures { result ≡ memory };
 }
 
-/// The reason why a program stops, with an exit status, and one or more lines for standard error.
+/// The reason why a program stops, which determines the exit status and the text on standard error.
 #[derive(Drop)]
 pub enum Stop<F> {
     /// An error that `clap` returns for the command line. The command line is refused, or asks for help or for the
@@ -41,7 +41,7 @@ pub enum Stop<F> {
 }
 
 impl<F: Reason> Stop<F> {
-    /// Returns the exit status with which the program stops.
+    /// Returns the exit status of the stopped program.
     pub fn status(&self) -> u8
         ensures { result ≡ status_of_stop F.status_of self.now }
     {

@@ -5,7 +5,7 @@ use clap::error::ErrorKind;
 use clap::{Arg, ArgAction, ArgMatches, Command, Error, value_parser};
 use std::alloc::{AllocError, Global};
 
-/// An option of a subcommand, with its help.
+/// An option of a subcommand, with its help text.
 #[derive(Clone, Copy)]
 pub(crate) enum Opt {
     /// The option `--erase B`, which leaves out build B.

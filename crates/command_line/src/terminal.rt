@@ -1,4 +1,4 @@
-//! Input and output of a program at a terminal.
+//! The input, the output and the error messages of a program, with colours on a terminal.
 ghost use Rattle.std.specs.Prelude.{◌≡◌, ◌⊎◌, IfErr, IfOk, is_some, option_map, true, None};
 ghost use Rattle.std.specs.Process.{exit_status};
 ghost use Rattle.command_line.specs.Stop.{status_of_stop};
@@ -100,7 +100,7 @@ fn allows_colours(rt: &HostRuntime) -> bool {
     }
 }
 
-/// Standard output, in colour on a terminal if the program asks for that.
+/// Standard output, which is coloured on a terminal if the program asks for colours and the environment allows them.
 #[derive(Drop)]
 pub struct Output<'a> {
     stdout: WaitingStream<'a, Stdout>,

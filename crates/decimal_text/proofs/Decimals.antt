@@ -1,5 +1,5 @@
--- Proof that a text without a leading `+` or leading zeros parses as a 32-bit number n if and only if the text is n in
--- decimal.
+-- A proof that a text without a leading `+` or leading zeros parses as a 32-bit number n if and only if the text is n
+-- in decimal.
 use Rattle.std.proofs.Common.{◌≡◌, ◌≢◌, ℕ, ◌<◌, ◌^◌, List, length, true, Result, Ok, Err, Option, sym, ◌∙◌, ap, refl, inl, inr, arith}
 use Rattle.std.specs.Prelude.{IfSome, IfNone}
 use Rattle.std.specs.Result.{result_ok}

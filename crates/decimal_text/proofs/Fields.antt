@@ -1,4 +1,5 @@
--- Proofs that the loop of `numbers_of` keeps its invariant: the unread text spells the numbers that are not yet found.
+-- Proofs that the loop of `numbers_of` preserves its invariant: the numbers found spell the text that was read, and any
+-- further numbers are spelled by the unread text.
 use Rattle.std.proofs.Common.{◌≡◌, ◌≢◌, ℕ, ◌<◌, ◌^◌, List, [], ◌∷◌, ◌++◌, length, length-append, sym, ap, ◌∙◌, arith}
 use mathlib.Core.List.{append_assoc}
 use Rattle.std.specs.List.{AllByRecursion}

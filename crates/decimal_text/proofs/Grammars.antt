@@ -1,4 +1,4 @@
--- Proof that a text means a value of a grammar if and only if the text is the value's word and numbers, and the value
+-- A proof that a text means a value of a grammar if and only if the text is the value's word and numbers, and the value
 -- is in range.
 use Rattle.std.proofs.Common.{◌≡◌, ◌≢◌, ℕ, suc, ◌<◌, ◌^◌, List, [], ◌∷◌, ◌++◌, map, Bool, true, false, cond, ltb, ◌&&◌, Option, Some, None, option_map, refl, sym, ap, ◌∙◌, arith}
 use Rattle.std.specs.Prelude.{option_and_then, ◌==◌}

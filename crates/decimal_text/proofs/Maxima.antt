@@ -1,4 +1,4 @@
--- Proof that `AreAtMost` holds if and only if two lists have the same length and each number is at most its maximum.
+-- A proof that `AreAtMost` holds if and only if two lists have the same length and each number is at most its maximum.
 use Rattle.std.proofs.Common.{◌≡◌, ℕ, zero, suc, ◌<◌, ◌≤◌, List, [], ◌∷◌, length, get_or, refl, ap, arith}
 use Rattle.decimal_text.specs.Ranges.{AreAtMost}
 

@@ -1,5 +1,5 @@
--- Lemmas for case analysis over a table of words: a property shown for each word's values holds for every value of the
--- table.
+-- Lemmas about tables of words: a property shown for each word's values holds for every value of the table, and a value
+-- can be made from operands that were checked before.
 use Rattle.std.proofs.Common.{◌≡◌, ℕ, ◌≤◌, List, [], ◌∷◌, cond, leb, ◌&&◌, Bool, true, false, Option, Some, None, option_map, refl, subst, inl, inr}
 use Rattle.std.specs.Option.{option_or, option_zip}
 use Rattle.std.specs.Str.{bytes_eq}

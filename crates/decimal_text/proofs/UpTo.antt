@@ -1,4 +1,4 @@
--- Proof that `up_to` accepts a list if and only if the list has at most `most` numbers, each of them at most the
+-- A proof that `up_to` accepts a list if and only if the list has at most `most` numbers, each of them at most the
 -- maximum.
 use Rattle.std.proofs.Common.{◌≡◌, ℕ, zero, suc, ◌≤◌, ◌<◌, ◌^◌, List, [], ◌∷◌, length, replicate, take, get_or, ◌+◌, true, leb, ltb, ◌&&◌, Some, None, refl, ap, ◌∙◌, arith}
 use Rattle.std.specs.List.{list_all, AllByRecursion}

@@ -9,7 +9,7 @@ use Rattle.std.specs.Str.Parse.{digits_value}
 abbrev pub IsPlain : List ℕ → Type 0
 IsPlain bytes = (slice_index bytes 0 ≢ 43) × (slice_index bytes 0 ≡ 48 → length bytes ≡ 1)
 
--- each number in decimal after one space
+-- the text of a list of numbers, each in decimal after one space
 abbrev pub spelled_numbers : List ℕ → List ℕ
 spelled_numbers ns = flat_map (λ n. 32 ∷ decimal n) ns
 
@@ -17,16 +17,17 @@ spelled_numbers ns = flat_map (λ n. 32 ∷ decimal n) ns
 abbrev pub AreNumbers : ℕ → List ℕ → Type 0
 AreNumbers most ns = (length ns ≤ most) × AllByRecursion (λ n. n < 2 ^ 32) ns
 
--- the part before the first space, and the rest from it on
+-- the part of a text before its first space, or the whole text if it has none
 abbrev pub before_space : List ℕ → List ℕ
 before_space [] = []
 before_space (b ∷ bs) = if b == 32 then [] else b ∷ before_space bs
 
+-- the rest of a text, from its first space on; empty if the text has no space
 abbrev pub from_space : List ℕ → List ℕ
 from_space [] = []
 from_space (b ∷ bs) = if b == 32 then b ∷ bs else from_space bs
 
--- the number below 2^32 whose decimal form the field is, if there is one
+-- the number below 2^32 that the field spells in decimal, if there is one
 abbrev pub number_of_digits : List ℕ → Option ℕ
 number_of_digits field =
     let n = digits_value 10 field in

@@ -24,6 +24,6 @@ module _ {A : Type 0} where
   four a b c d make (k ∷ l ∷ m ∷ n ∷ []) = if nat_le k a && nat_le l b && nat_le m c && nat_le n d then Some (make k l m n) else None
   four a b c d make _ = None
 
--- up to `most` numbers, each at most `maximum`
+-- the numbers as an array, if there are at most `most` and each is at most `maximum`
 abbrev pub up_to : ℕ → ℕ → List ℕ → Option (ArrayVec ℕ)
 up_to most maximum ns = if nat_le (length ns) most && list_all (λ n. nat_le n maximum) ns then Some (record { items = ns }) else None

@@ -1,7 +1,7 @@
--- The record of a word, its numbers, and the maximum of each number.
+-- A word with its numbers and the maximum of each, and the greatest numbers of 8, 16 and 32 bits.
 use Rattle.std.specs.Prelude.{ℕ, List}
 
--- a word and its numbers, each with the greatest that it can be
+-- a word and its numbers, with the maximum of each number
 pub record Written : Type 0 where
   pub word : List ℕ
   pub numbers : List ℕ
@@ -10,12 +10,14 @@ pub record Written : Type 0 where
 abbrev pub written : List ℕ → List ℕ → List ℕ → Written
 written word numbers maxima = record { word = word; numbers = numbers; maxima = maxima }
 
--- the greatest number of 8, 16 and 32 bits
+-- the greatest 8-bit number
 abbrev pub u8 : ℕ
 u8 = 255
 
+-- the greatest 16-bit number
 abbrev pub u16 : ℕ
 u16 = 65535
 
+-- the greatest 32-bit number
 abbrev pub u32 : ℕ
 u32 = 4294967295

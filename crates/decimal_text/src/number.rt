@@ -16,7 +16,7 @@ fn is_plain(bytes: &[u8]) -> bool
     }
 }
 
-/// Parses a 32-bit decimal number.
+/// Parses a 32-bit decimal number without a sign and without leading zeros. Any other text gives `None`.
 fn number_of(text: &str) -> Option<u32>
     ensures found { IfSome result (λ n. text.now ≡ decimal n) }
     ensures none { IfNone result ((n : ℕ) → n < 2 ^ 32 → text.now ≢ decimal n) }

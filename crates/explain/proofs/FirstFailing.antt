@@ -1,5 +1,5 @@
--- Proofs that the first failed check determines the host's refusal, for `undo`, `mark`, `back`, an abort's first turn,
--- and a command's requirements.
+-- Proofs that the first failed check determines how the host refuses an `undo`, `mark` or `back` step, an abort's first
+-- turn, or a command by its own checks.
 use Rattle.std.proofs.Common.{◌≡◌, ℕ, Bool, true, false, cond, not, List, [], ◌∷◌, ◌++◌, map, Option, Some, None, Result, Ok, Err, refl, sym, ap, ◌∙◌}
 use Rattle.std.specs.Prelude.{◌-◌, nat_lt, nat_le, if◌then◌else◌, length}
 use Rattle.std.specs.List.{range_with_len, list_any}

@@ -1,4 +1,4 @@
--- Proof that appending the parts of `needs_checks` one after another appends the whole list.
+-- A proof that appending the parts of `needs_checks` one after another appends the whole list.
 use Rattle.std.proofs.Common.{◌≡◌, ℕ, List, [], ◌∷◌, ◌++◌, map, ap, ◌∙◌}
 use Rattle.host_ledger.specs.View.{HostView}
 use Rattle.host_commands.specs.declared.cmd.Cmd.{Cmd}

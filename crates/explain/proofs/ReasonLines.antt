@@ -1,5 +1,5 @@
--- Proof that appending the lines of a refusal's error, help and passed checks one after another gives the lines that
--- explain the refusal.
+-- Proofs that the lines which explain a refusal are its error line, its help line and the lines on passed checks,
+-- appended one after another.
 use Rattle.std.proofs.Common.{◌≡◌, ℕ, ◌+◌, Bool, true, false, List, [], ◌∷◌, ◌++◌, length, string_bytes, if◌then◌else◌, append_assoc, ap, sym, ◌∙◌}
 use Rattle.std.specs.Prelude.{codes}
 use Rattle.std.specs.List.{flat_map}

@@ -1,4 +1,4 @@
--- Proof that an explained run followed by one more explained turn is an explained run of the longer schedule.
+-- A proof that an explained run followed by one more explained turn is an explained run of the longer schedule.
 use Rattle.std.proofs.Common.{◌≡◌, ℕ, ◌+◌, ◌<◌, ◌≤◌, List, [], ◌∷◌, ◌++◌, length, take, get_or, map, Some, None, refl, sym, ap, ◌∙◌, slice_set, subst}
 use Rattle.std.proofs.lemmas.List.{map-append, take_all, take_more}
 use Rattle.host_ledger.specs.View.{HostView}

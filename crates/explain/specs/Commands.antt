@@ -1,4 +1,4 @@
--- The checks that the host, the page store and the RMM make of each command, in sequence. RMM 1.0, RMI commands.
+-- The checks that the host, the page store and the RMM perform on each command, in sequence. RMM 1.0, RMI commands.
 use Rattle.std.specs.Prelude.{ℕ, ◌==◌, nat_le, List, [], ◌∷◌, ◌++◌, if◌then◌else◌}
 use Rattle.std.specs.List.{filter_map}
 use Rattle.host_commands.specs.declared.cmd.Cmd.{Cmd}
@@ -13,12 +13,13 @@ use Rattle.explain.specs.OfRec.{rec_create_checks, rec_there, rec_ready, rec_is_
 use Rattle.explain.specs.OfWalk.{walk_ends, entry_unassigned, entry_assigned, entry_no_table, entry_leads, entries_free}
 use Rattle.explain.specs.declared.check.Check.{Check}
 
--- ---- one command after another
+-- ---- the checks of the page store and the RMM, command by command
 
+-- the page store's check of a Take, that a block of this order is free; none if the order is above 9
 abbrev pub take_checks : HostView → ℕ → List Check
 take_checks host order = if nat_le order 9 then block_check host order ∷ [] else []
 
--- the level above that of a table
+-- the level of the table that leads to a table of this level: 2 for level 3, else 1
 abbrev pub above_of : ℕ → ℕ
 above_of level = if level == 3 then 2 else 1
 
@@ -54,14 +55,14 @@ guest_write_checks host build number ipa =
 
 -- ---- the table
 
--- the checks of commands on existing RECs
+-- the RMM's checks of a command on an existing REC; none for any other command
 abbrev pub recs_checks : HostView → ℕ → Cmd → List Check
 recs_checks host build (Enter number) = enter_checks host build number
 recs_checks host build (Exit number) = exit_checks host build number
 recs_checks host build (Poke number ipa offset value) = guest_write_checks host build number ipa
 recs_checks host build _ = []
 
--- the checks of commands on an existing realm: its tables, pages, state and RECs
+-- the RMM's checks of a command on an existing realm, on its tables, pages, state or RECs; none for any other command
 abbrev pub tables_checks : HostView → ℕ → Cmd → List Check
 tables_checks host build (Rtt page ipa level) = rtt_create_checks host build page ipa level
 tables_checks host build (Ripas ipa count) = init_ripas_checks host build ipa count
@@ -70,7 +71,8 @@ tables_checks host build (Unknown page ipa) = unknown_checks host build page ipa
 tables_checks host build Activate = realm_new host build ∷ []
 tables_checks host build cmd = recs_checks host build cmd
 
--- the checks of the store for a Take, and of the RMM for any other command, on these pages and granules
+-- the page store's checks of a Take, or the RMM's checks of any other command, given the command's pages and their
+-- granules
 abbrev pub monitor_checks : HostView → ℕ → Cmd → List ℕ → List ℕ → List Check
 monitor_checks host build (Take order) pages granules = take_checks host order
 monitor_checks host build (Fill page value) pages granules = page_undelegated host build page ∷ []
@@ -80,7 +82,7 @@ monitor_checks host build (Realm rd root width) pages granules = realm_create_ch
 monitor_checks host build (Rec page auxiliaries) pages granules = rec_create_checks host build pages granules
 monitor_checks host build cmd pages granules = tables_checks host build cmd
 
--- all checks of a command: those by its needs, and those of the store or the RMM
+-- all checks of a command: first the host's own, then those of the page store or the RMM
 unfoldable pub command_checks : HostView → ℕ → Cmd → List Check
 command_checks host build cmd =
     needs_checks host build cmd (pages_named cmd)

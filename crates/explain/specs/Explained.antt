@@ -21,8 +21,8 @@ use Rattle.explain.specs.declared.explained.Explanation.{Explanation}
 
 -- ---- what is reported of a turn
 
--- The line of a turn, as a replay prints it. For a refused turn, also the step that the build asked for, and its checks
--- up to the first that fails.
+-- The report of a turn: its line, as a replay prints it, and the reason for a refusal. The reason is the step that the
+-- build asked for, with its checks up to the first that fails.
 pub record TurnReport : Type 0 where
   pub line : List ℕ
   pub reason : Option (Step × List Check)
@@ -30,18 +30,18 @@ pub record TurnReport : Type 0 where
 abbrev pub report_of_reason : Explanation → Step × List Check
 report_of_reason reason = (reason.step, reason.checks.items)
 
--- the report of an explained turn, without its wordings
+-- the report of an explained turn, without the error and the help message
 abbrev pub report_of : ExplainedTurn → TurnReport
 report_of turn = record { line = string_bytes turn.line; reason = option_map report_of_reason turn.reason }
 
 -- ---- what there is to report
 
--- the checks up to the first that fails
+-- the checks up to and including the first that fails; all of them if none does
 abbrev pub up_to_failing : List Check → List Check
 up_to_failing [] = []
 up_to_failing (check ∷ checks) = check ∷ cond check.fails [] (up_to_failing checks)
 
--- the step and its checks up to the first that fails, if the step is refused
+-- if the answer is a refusal, the step with the checks up to the first that fails; none otherwise
 abbrev pub reason_for : TurnAnswer → Step → List Check → Option (Step × List Check)
 reason_for (Refused refusal) step checks = Some (step, up_to_failing checks)
 reason_for _ step checks = None
@@ -53,7 +53,7 @@ abbrev pub reason_of : Position → ℕ → Option (PlanStep × TurnAnswer) → 
 reason_of at build None = None
 reason_of at build (Some done) = reason_of_step at.host build (place_of at.places build) done.0 done.1
 
--- a turn of a run, from its position
+-- a turn of a run, with the position before the turn
 pub record Explained : Type 0 where
   pub at : Position
   pub turn : Turn
@@ -61,13 +61,14 @@ pub record Explained : Type 0 where
 abbrev pub report_at : Explained → TurnReport
 report_at e = record { line = turn_text e.turn; reason = reason_of e.at e.turn.build e.turn.told }
 
--- the report of a turn of a build that has no step left
+-- the report of a turn whose build has no step left
 abbrev pub idle_report : ℕ → TurnReport
 idle_report build = record { line = idle_line build; reason = None }
 
 -- ---- turns and runs
 
--- A turn of the step leads to this new host and cursor, with this report, under the plan's `gives_up`.
+-- A turn that takes the step leads to this new host and cursor, and has this report. The plan's `gives_up` decides
+-- where the cursor is after a refusal.
 pub record IsExplainedStep (gives_up : Bool) (host : HostView) (build : ℕ) (place : PlanCursor) (step : PlanStep) (new : HostView) (after : PlanCursor) (report : TurnReport) : Type 0 where
   pub answer : TurnAnswer
   pub left : PlanCursor
@@ -82,7 +83,7 @@ pub record IsExplainedTurn (plan : Plan) (from : Position) (build : ℕ) (to : P
   pub is_turn : IsTurn plan from turn to
   pub reported : report ≡ report_at (record { at = from; turn = turn })
 
--- The turns of these builds, one after the other, each from the position that those before it lead to.
+-- The explained turns are turns of these builds, in sequence, and lead from the one position to the other.
 abbrev pub AreExplained : Plan → List ℕ → Position → List Explained → Position → Type 0
 AreExplained plan [] from [] to = to ≡ from
 AreExplained plan (build ∷ order) from (e ∷ rest) to =

@@ -1,5 +1,5 @@
--- The statements that the first failed check determines the host's refusal, for `undo`, `mark`, `back`, an abort's
--- first turn, and a command's requirements.
+-- The statements that the first failed check determines how the host refuses an `undo`, `mark` or `back` step, an
+-- abort's first turn, or a command by its own checks.
 use Rattle.std.specs.Prelude.{◌≡◌, ℕ, ◌+◌, nat_le, List, map, true, Option, Some, None}
 use Rattle.host_commands.specs.Checks.{Check as HostCheck, build_checks as host_build_checks, checks_of, first_that_holds}
 use Rattle.host_commands.specs.Needs.{tables_named}
@@ -19,16 +19,17 @@ use Rattle.explain.specs.Pages.{pages_named}
 use Rattle.explain.specs.Steps.{undo_checks, begin_checks, back_checks}
 use Rattle.explain.specs.declared.check.Check.{Check}
 
--- a check as one of the host's
+-- a check in the form that the host's definitions use: whether it fails, and its refusal
 abbrev pub as_check : Check → HostCheck
 as_check check = (check.fails, check.refusal)
 
--- the refusal of the first check that fails
+-- the refusal of the first check that fails, if any
 abbrev pub first_refusal : List Check → Option Refusal
 first_refusal checks = first_that_holds (map as_check checks)
 
--- ---- undos, aborts, marks and ways back: the first check that fails decides the host's refusal
+-- ---- `undo`, `mark`, an abort's first turn, and `back`: the first check that fails decides the host's refusal
 
+-- the host refuses an undo with the refusal of the first failed check, and accepts the undo if no check fails
 abbrev pub ChecksDecideUndo : HostView → ℕ → Type 0
 ChecksDecideUndo host build = first_refusal (undo_checks host build) ≡ refusal_of host build Undo
 
@@ -38,7 +39,7 @@ ChecksDecideMark host build = first_refusal (checks_of_build host build) ≡ fir
 abbrev pub ChecksDecideBegin : HostView → ℕ → Type 0
 ChecksDecideBegin host build = first_refusal (begin_checks host build) ≡ first_that_holds (checks_of_begin host build)
 
--- the host's refusal of a way back to a mark, if any; without a mark, NothingToUndo
+-- the refusal, if any, with which the host answers a `back` step; NothingToUndo if there is no mark
 abbrev pub refusal_of_back : HostView → ℕ → Option Mark → Option Refusal
 refusal_of_back host build None = Some NothingToUndo
 refusal_of_back host build (Some mark) = first_that_holds (checks_of_back host build mark)
@@ -48,7 +49,7 @@ ChecksDecideBack host build mark = first_refusal (back_checks host build mark) �
 
 -- ---- commands: 1 to 6, 9, 10 and 12
 
--- the pages of starting tables have numbers of 16 bits, as those of each plan have
+-- if the command creates a realm, the page numbers of its starting tables fit in 16 bits, as in every plan
 abbrev pub HasPageNumbers : Cmd → Type 0
 HasPageNumbers (Realm rd root width) = nat_le (root + tables_named width) 65536 ≡ true
 HasPageNumbers _ = Unit {0}

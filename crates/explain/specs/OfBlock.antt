@@ -8,18 +8,18 @@ use Rattle.explain.specs.declared.host_facts.RoomFact.TheVariants as room_fact
 use Rattle.explain.specs.declared.check.Fact.TheVariants as fact
 use Rattle.explain.specs.declared.check.Check.{Check}
 
--- the granule is one of the machine, and nobody leases it
+-- the granule is in the machine, and no build leases it
 abbrev pub is_unleased : HostView → ℕ → Bool
 is_unleased host granule = nat_lt granule host.limits.pages && is_none (slice_index_or (world_of host).leases granule None)
 
 abbrev pub are_unleased : HostView → ℕ → ℕ → Bool
 are_unleased host first count = list_all (is_unleased host) (range_with_len first count)
 
--- an aligned block of the order begins at this granule, and is free
+-- an aligned block of this order begins at this granule, and is free
 abbrev pub is_free_at : HostView → ℕ → ℕ → Bool
 is_free_at host order first = first % 2 ^ order == 0 && are_unleased host first (2 ^ order)
 
--- an aligned block of the order is free
+-- some aligned block of this order is free
 abbrev pub has_block : HostView → ℕ → Bool
 has_block host order = list_any (is_free_at host order) (range_with_len 0 host.limits.pages)
 

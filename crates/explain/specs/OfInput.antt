@@ -1,4 +1,4 @@
--- The checks of pages, IPA granules, levels and counts whose failure gives RMI_ERROR_INPUT. RMM 1.0, RMI command
+-- The checks of pages, IPA granules, levels and counts that give RMI_ERROR_INPUT if they fail. RMM 1.0, RMI command
 -- conditions.
 use Rattle.std.specs.Prelude.{ℕ, ◌+◌, ◌-◌, ◌/◌, ◌%◌, ◌==◌, nat_le, Bool, true, false, not, ◌&&◌, ◌||◌, Option, Some, option_map, unwrap_or, if◌then◌else◌}
 use Rattle.granule_addr.specs.Ipa.{is_protected_at}
@@ -19,7 +19,7 @@ input_check asks fails = record { fact = asks; fails = fails; refusal = Rmi erro
 
 -- ---- pages
 
--- the state of the granule of a build's page
+-- the state of the granule of a build's page, if the build has the page
 abbrev pub state_of_page : HostView → ℕ → ℕ → Option GranuleState
 state_of_page host build page = option_map (λ g. (cell_at (world_of host).machine g).state) (granule_of_page host build page)
 
@@ -31,7 +31,7 @@ abbrev pub is_undelegated_state : Option GranuleState → Bool
 is_undelegated_state (Some Undelegated) = true
 is_undelegated_state _ = false
 
--- the check of a page's state: the state found, the state required, and whether the check fails
+-- the check of a page's state, given the page, the state found, the state required, and whether the check fails
 abbrev pub page_check : ℕ → Option GranuleState → GranuleState → Bool → Check
 page_check page found wanted fails = input_check (fact.Input (input.Page page wanted found)) fails
 
@@ -52,16 +52,18 @@ width_of host build = unwrap_or (option_map (λ (realm : RealmRow). realm.root.w
 abbrev pub protected : HostView → ℕ → ℕ → Check
 protected host build ipa = input_check (fact.Input (input.Protected ipa (width_of host build))) (not (is_protected_at ipa (width_of host build)))
 
--- checks of a table to be created: its level is 2 or 3, and its IPA aligned
+-- the check that the level of a new table is 2 or 3
 abbrev pub table_level : ℕ → Check
 table_level level = input_check (fact.Input (input.Level level)) (not (level == 2 || level == 3))
 
+-- the check that the first IPA granule of a new table is aligned for the table's level
 abbrev pub table_start : ℕ → ℕ → Check
 table_start ipa level = input_check (fact.Input (input.Start ipa level)) (not (ipa % (if level == 2 then 262144 else 512) == 0))
 
--- checks of pages that become RAM at once: 1 to 512 of them, in one table
+-- the check that the number of pages to make RAM is from 1 to 512
 abbrev pub run_count : ℕ → Check
 run_count count = input_check (fact.Input (input.Count count)) (not (nat_le 1 count && nat_le count 512))
 
+-- the check that one table of level 3 covers the `count` IPA granules from `ipa` on
 abbrev pub one_table : ℕ → ℕ → Check
 one_table ipa count = input_check (fact.Input (input.OneTable ipa count)) (not (ipa / 512 == (ipa + count - 1) / 512))

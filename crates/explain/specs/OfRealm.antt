@@ -13,8 +13,9 @@ use Rattle.explain.specs.declared.rmi_facts.RealmFact.TheVariants as realm_fact
 use Rattle.explain.specs.declared.check.Fact.TheVariants as fact
 use Rattle.explain.specs.declared.check.Check.{Check}
 
--- ---- the state
+-- ---- the state of an existing realm
 
+-- the state of a build's realm, if the build has one
 abbrev pub state_of_realm : HostView → ℕ → Option RealmState
 state_of_realm host build = option_map (λ realm. realm.0) (realm_at (world_of host) build)
 
@@ -26,7 +27,7 @@ abbrev pub is_active_state : Option RealmState → Bool
 is_active_state (Some Active) = true
 is_active_state _ = false
 
--- the check of a realm's state: the state found, the state required, and whether the check fails
+-- the check of a realm's state, given the state found, the state required, and whether the check fails
 abbrev pub state_check : Option RealmState → RealmState → Bool → Check
 state_check found wanted fails = rmi_check (fact.Realm (realm_fact.State wanted found)) fails error_realm
 
@@ -46,12 +47,12 @@ realm_active host build = record {
 
 -- ---- a realm that is to be made
 
--- the granules are `next` and those after it, in rising sequence
+-- the granules have consecutive numbers, from `next` on
 abbrev pub follow : ℕ → List ℕ → Bool
 follow next [] = true
 follow next (granule ∷ rest) = granule == next && follow (next + 1) rest
 
--- the granules are adjacent, in their order
+-- the granules have consecutive numbers
 abbrev pub are_adjacent : List ℕ → Bool
 are_adjacent [] = true
 are_adjacent (first ∷ rest) = follow (first + 1) rest
@@ -67,7 +68,7 @@ width_check width = input_check (fact.Realm (realm_fact.Width width)) (not (is_w
 abbrev pub apart_check : ℕ → List ℕ → Check
 apart_check rd tables = input_check (fact.Realm realm_fact.Apart) (is_in rd tables)
 
--- the checks of the starting tables, but for their states
+-- the checks of the starting tables, except those of their granules' states
 abbrev pub start_checks : ℕ → List ℕ → List Check
 start_checks rd tables =
     input_check (fact.Realm realm_fact.Adjacent) (not (are_adjacent tables))

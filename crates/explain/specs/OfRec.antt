@@ -23,6 +23,7 @@ rec_create_checks host build pages granules =
 
 -- ---- an existing REC
 
+-- the state of the REC with this number in a build's realm, if there is one
 abbrev pub state_of_rec : HostView → ℕ → ℕ → Option RecState
 state_of_rec host build number = option_map (λ rec. rec.1.state) (rec_at (world_of host) build number)
 
@@ -37,7 +38,7 @@ is_running_state _ = false
 abbrev pub rec_there : HostView → ℕ → ℕ → Check
 rec_there host build number = input_check (fact.Rec (rec_fact.There number)) (is_none (state_of_rec host build number))
 
--- the check of a REC's state: the state found, the state required, and whether the check fails
+-- the check of a REC's state, given the REC's number, the state found, the state required, and whether the check fails
 abbrev pub rec_check : ℕ → Option RecState → RecState → Bool → Check
 rec_check number found wanted fails = rmi_check (fact.Rec (rec_fact.State number wanted found)) fails error_rec
 

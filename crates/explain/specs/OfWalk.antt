@@ -17,8 +17,9 @@ use Rattle.explain.specs.declared.check.Check.{Check}
 abbrev pub rtt_check : WalkFact → Bool → ℕ → Check
 rtt_check asks fails level = record { fact = fact.Walk asks; fails = fails; refusal = Rmi (error_rtt level) }
 
--- ---- the row at which a walk ends: its level, or 0 if there is none, its state and its granule
+-- ---- the level, the state and the granule of the row at which a walk ends
 
+-- the level of the row at which a walk ends; 0 without a row
 abbrev pub level_of : Option RowView → ℕ
 level_of row = unwrap_or (option_map (λ (r : RowView). r.level) row) 0
 
@@ -40,8 +41,9 @@ abbrev pub is_table_entry : Option EntryState → Bool
 is_table_entry (Some Table) = true
 is_table_entry _ = false
 
--- ---- checks of the row where the walk of an IPA granule ends in a build's realm
+-- ---- checks of the row at which the walk of an IPA granule ends, in the realm of a build
 
+-- the check that the walk of an IPA granule towards a level ends at that level
 abbrev pub walk_ends : HostView → ℕ → ℕ → ℕ → Check
 walk_ends host build ipa to =
     let ended = level_of (row_at (world_of host) build ipa to) in
@@ -71,7 +73,7 @@ entry_leads host build ipa =
 abbrev pub is_free_entry : HostView → ℕ → ℕ → Bool
 is_free_entry host build ipa = is_unassigned_entry (state_of (row_at (world_of host) build ipa 3))
 
--- the `count` entries from an IPA granule on are UNASSIGNED
+-- for each of `count` IPA granules, from `ipa` on, the walk to level 3 ends at an UNASSIGNED entry
 abbrev pub are_free : HostView → ℕ → ℕ → ℕ → Bool
 are_free host build ipa count = list_all (is_free_entry host build) (range_with_len ipa count)
 

@@ -1,4 +1,4 @@
--- The check that consists of a fact that the RMM requires, whether the fact fails, and the RMI result for a failure.
+-- A check of the RMM, made of a required fact, whether the check fails, and the RMI result for a failure.
 use Rattle.std.specs.Prelude.{Bool}
 use Rattle.host_commands.specs.declared.refusal.Refusal.TheVariants.{Rmi}
 use Rattle.realm_model.specs.declared.rmi.Rmi as answer

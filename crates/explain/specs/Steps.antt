@@ -1,4 +1,4 @@
--- The checks of a step's turn, by ascending number of the refusals that their failures give.
+-- The checks of a step's turn, in ascending order of their refusal numbers.
 use Rattle.std.specs.Prelude.{ℕ, ◌==◌, nat_lt, List, [], ◌∷◌, ◌++◌, length, Bool, true, false, Option, Some, None, Result, Err, if◌then◌else◌}
 use Rattle.realm_model.specs.Running.{running_count}
 use Rattle.realm_model.specs.World.{realm_of}
@@ -19,6 +19,7 @@ use Rattle.explain.specs.declared.check.Check.{Check}
 
 -- ---- an undo
 
+-- the checks of an undo: the build exists, it has an open operation, and the newest one did not create a RUNNING REC
 abbrev pub undo_checks : HostView → ℕ → List Check
 undo_checks host build =
     build_there host build
@@ -38,6 +39,7 @@ begin_checks host build =
 
 -- ---- a way back to a mark
 
+-- the result is the refusal NothingToUndo
 abbrev pub is_nothing : Result ℕ Refusal → Bool
 is_nothing (Err NothingToUndo) = true
 is_nothing _ = false

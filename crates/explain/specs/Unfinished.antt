@@ -4,17 +4,18 @@ use Rattle.std.specs.Fmt.{decimal}
 use Rattle.host_ledger.specs.View.{HostView, open_of, is_aborting}
 use Rattle.explain.specs.declared.unfinished.UnfinishedAbort.{UnfinishedAbort}
 
--- the abort of a build, if it is under way: how many operations it has open, each of which needs a turn
+-- the unfinished abort of a build, if there is one, with the number of turns that it needs: one for each open operation
 abbrev pub unfinished_abort : HostView → ℕ → Option UnfinishedAbort
 unfinished_abort host build =
     if is_aborting host build then Some (record { build = build; turns = length (open_of host build) }) else None
 
--- ---- its lines
+-- ---- the lines that report an unfinished abort
 
+-- the words `more turn` or `more turns`, to follow the number of turns that an abort still needs
 abbrev pub turns_noun : ℕ → List ℕ
 turns_noun turns = if turns == 1 then codes "more turn" else codes "more turns"
 
--- the line that says how many turns an abort lacks, and the line that says how they are added
+-- the error line with the number of turns that an abort still needs, and the help line on how to add them
 abbrev pub abort_lines : UnfinishedAbort → List ℕ
 abort_lines abort =
     codes "    error: the abort of build " ++ (decimal abort.build ++ (codes " needs " ++ (decimal abort.turns ++ (32 ∷ turns_noun abort.turns ++ codes " in `order`\n"))))

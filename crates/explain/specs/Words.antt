@@ -22,13 +22,14 @@ count_line count =
 abbrev pub passed_line : List ℕ → List ℕ
 passed_line words = codes "        ok: " ++ (words ++ 10 ∷ [])
 
--- ---- texts that get words, or lines
+-- ---- texts to which words or lines are appended
 
+-- the new text is the old one, followed by some words
 pub record AppendsWords (old new : List ℕ) : Type 0 where
   pub words : List ℕ
   pub appended : new ≡ old ++ words
 
--- the lines of so many checks that passed
+-- the new text is the old one, followed by the lines of `count` checks that passed
 pub record AppendsPassed (count : ℕ) (old new : List ℕ) : Type 0 where
   pub sentences : List (List ℕ)
   pub each : length sentences ≡ count
@@ -36,11 +37,12 @@ pub record AppendsPassed (count : ℕ) (old new : List ℕ) : Type 0 where
 
 -- ---- the lines of a reason
 
--- the checks before the last, which is the one that failed
+-- all checks but the last, which is the one that failed
 abbrev pub earlier_checks : List Check → List Check
 earlier_checks checks = take (length checks - 1) checks
 
--- The lines of the error and of the help, and the number of checks that passed. If all are asked for, a line for each.
+-- The text consists of the error line, the help line, and the line with the number of checks that passed. If `all`,
+-- each of these checks has a line too.
 pub record AreReasonLines (reason : Explanation) (all : Bool) (text : List ℕ) : Type 0 where
   pub sentences : List (List ℕ)
   pub each : length sentences ≡ (if all then length (earlier_checks reason.checks.items) else 0)

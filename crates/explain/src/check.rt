@@ -1,4 +1,4 @@
-//! The checks that a step of a plan must pass, with the values that they read.
+//! The types for the checks that a step of a plan must pass, and functions that create and append checks.
 ghost use Rattle.std.specs.Prelude.{◌≡◌, ◌∷◌, ◌++◌, [], OnOk};
 ghost use Rattle.std.specs.List.{cons_option};
 ghost use Rattle.explain.specs.RmiChecks.{rmi_check};

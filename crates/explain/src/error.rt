@@ -1,4 +1,4 @@
-//! The error message of a refused step: the required fact, the found fact, and the name of the refusal.
+//! The error message of a refused step: what the failed check requires, what it found, and the name of the refusal.
 use crate::check::{Check, Fact};
 use crate::host_facts::{BuildFact, RoomFact, UndoFact};
 use crate::names::{entry_state, granule_state, realm_state, rec_state, refusal_name};
@@ -27,7 +27,7 @@ fn failure_name(step: &Step, check: &Check) -> Phrase {
     }
 }
 
-/// Appends the error message for a failed check: the words, then the name of the refusal in parentheses. For a `fill`
+/// Appends the error message for a failed check: its words, then the name of the refusal in parentheses. For a `fill`
 /// or `peek` of a page in another state, the hardware's fault takes the name's place.
 pub(crate) fn push_error(
     text: &mut String,
@@ -41,7 +41,7 @@ pub(crate) fn push_error(
     text.push_str(")")
 }
 
-/// Returns the error phrase for a failed check of a step, which states the required fact and the found fact.
+/// Returns the phrase that says what a step's failed check requires, and what it found.
 pub(crate) fn error_of<S: PageStore>(
     host: &Host<S>,
     build: BuildId,
@@ -153,7 +153,7 @@ fn of_room(machine: u16, fact: RoomFact) -> Phrase {
     }
 }
 
-/// Returns the message that REC `number` is RUNNING, so that its creation cannot be undone.
+/// Returns the message that the newest operation created REC `number`, which is RUNNING but must be READY.
 pub(crate) fn newest_error(number: u16) -> Phrase {
     one(
         "REC {}, the newest operation's, must be READY; it is RUNNING",

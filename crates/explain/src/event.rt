@@ -1,4 +1,4 @@
-//! Explanations for recorded events that a host does not apply.
+//! Explanations of why a host does not apply a recorded event.
 use crate::check::Check;
 use crate::error::{error_of, newest_error, push_error};
 use crate::of_build::build_there;

@@ -1,4 +1,4 @@
-//! Runs a plan on a host, and explains each refused step.
+//! Functions that run a plan on a host, and explain each refused step.
 ghost use Rattle.std.specs.Prelude.{◌≡◌, ◌<◌, ◌≤◌, IfOk, map, option_map, string_bytes, vec_len};
 ghost use Rattle.realm_plan.specs.Asked.{asked};
 ghost use Rattle.realm_plan.specs.PlanView.{plan_view};

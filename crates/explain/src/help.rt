@@ -34,7 +34,7 @@ enum Steps {
 }
 
 impl Help {
-    /// Creates help without words or steps, for a check that has no help.
+    /// Creates an empty help message, without words or steps.
     pub(crate) fn nothing() -> Self {
         Help::say(plain(""))
     }
@@ -71,7 +71,8 @@ impl Help {
         }
     }
 
-    /// Creates help that proposes a `rec` step with all the pages that a REC needs. `words` are the text before the step.
+    /// Creates help that proposes a `rec` step with all the pages that a REC needs. `words` are the text before the
+    /// step.
     pub(crate) fn rec(words: &'static str) -> Self {
         Help {
             before: plain(words),

@@ -1,7 +1,8 @@
-//! Facts that the host checks before it calls the RMM.
+//! Facts that the host or its page store checks, without the RMM.
 use granule_addr::{Gran, Vmid};
 
-/// A required fact about a build or a block order, whose failure gives one of refusals 1 to 6 (`NoBuild` to `NoRealm`).
+/// A required fact about a build or a block order; if it does not hold, the host gives one of refusals 1 to 6
+/// (`NoBuild` to `NoRealm`).
 #[derive(Clone, Copy)]
 pub enum BuildFact {
     /// Requires that the build exists. The value is the number of builds of the host.
@@ -24,8 +25,8 @@ pub enum BuildFact {
     NoRealm(Option<Gran>),
 }
 
-/// A required fact about free capacity, such as a free VMID, whose failure gives one of refusals 9 to 12 (`JournalFull`
-/// to `NoVmid`).
+/// A required fact about free capacity, such as a free VMID; if it does not hold, the host gives one of refusals 9 to
+/// 12 (`JournalFull` to `NoVmid`).
 #[derive(Clone, Copy)]
 pub enum RoomFact {
     /// Requires that the build has fewer than 512 open operations: reversible ones that are not undone yet. The value
@@ -47,8 +48,8 @@ pub enum RoomFact {
     },
 }
 
-/// A fact that an undo, an abort or a `back` step requires, and whose failure gives refusal 7 (`NothingToUndo`) or 8
-/// (`RecRunning`).
+/// A fact that an undo, an abort or a `back` step requires; if it does not hold, the host gives refusal 7
+/// (`NothingToUndo`) or 8 (`RecRunning`).
 #[derive(Clone, Copy)]
 pub enum UndoFact {
     /// Requires that the build has a reversible operation that is not undone yet. The value is the number of open

@@ -1,10 +1,12 @@
-//! Explains why a host refuses a step of a plan, from the first check that fails. Each check is evaluated on the host.
+//! Explanations of why a host refuses a step of a plan, based on the first check that fails. Each check is evaluated on
+//! the host.
 //!
-//! A `Check` has a required fact, whether the fact fails on the host, and the refusal that a failure gives.
+//! A `Check` has a required fact, whether the check fails on the host, and the refusal that a failure gives.
 //! `step_checks` makes the checks of a step in sequence. `law` names the refusals for which the first failed check
 //! gives the host's refusal. `explain_turns` runs a plan as `plan_replay` does, and keeps the checks of each refused
-//! turn, up to the first that fails. These are proved. The words are tested: `error`, `help`, `passed` and `event`
-//! choose phrases, and `phrase` writes them.
+//! turn, up to the first that fails. These are proved.
+//!
+//! The words are tested: `error`, `help`, `passed` and `event` choose phrases, and `phrase` writes them.
 #![tactic(auto)]
 
 mod check;

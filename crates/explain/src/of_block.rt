@@ -1,4 +1,4 @@
-//! The check that an aligned block is free, whose failure gives refusal 11 (`NoBlock`).
+//! The check that an aligned block is free; a failure gives refusal 11 (`NoBlock`).
 ghost use Rattle.std.specs.Prelude.{◌≡◌, ◌+◌, ◌<◌, ◌≤◌};
 ghost use Rattle.explain.specs.OfBlock.{is_unleased, are_unleased, is_free_at, has_block, block_check};
 

@@ -1,5 +1,5 @@
-//! Checks whose failures give refusals 1 to 6, 9, 10 and 12, and which a host makes before it calls the page store or
-//! the RMM.
+//! Checks that a host performs before it calls the page store or the RMM; a failure gives one of refusals 1 to 6, 9, 10
+//! and 12.
 ghost use Rattle.std.specs.Prelude.{◌≡◌, ◌++◌, [], OnOk, map};
 ghost use Rattle.std.specs.List.{cons_option};
 ghost use Rattle.explain.specs.OfBuild.{build_there, not_aborting, checks_of_build, checks_of_order, page_there, checks_of_realm, checks_of_journal, room_left, room_check, checks_of_vmid, needs_checks};
@@ -13,7 +13,7 @@ use realm_host::{Cmd, Host, Refusal};
 use realm_model::JOURNAL_ROOM;
 use std::alloc::AllocError;
 
-/// Creates the check that the build exists, whose failure gives refusal 1 (`NoBuild`).
+/// Creates the check that the build exists; a failure gives refusal 1 (`NoBuild`).
 pub(crate) fn build_there<S: PageStore>(host: &Host<S>, build: BuildId) -> Check
     ensures { result ≡ build_there host.now build }
 {
@@ -25,7 +25,7 @@ pub(crate) fn build_there<S: PageStore>(host: &Host<S>, build: BuildId) -> Check
     }
 }
 
-/// Creates the check that the build is not aborting, whose failure gives refusal 2 (`Aborting`).
+/// Creates the check that the build is not aborting; a failure gives refusal 2 (`Aborting`).
 pub(crate) fn not_aborting<S: PageStore>(host: &Host<S>, build: BuildId) -> Check
     ensures { result ≡ not_aborting host.now build }
 {
@@ -36,8 +36,8 @@ pub(crate) fn not_aborting<S: PageStore>(host: &Host<S>, build: BuildId) -> Chec
     }
 }
 
-/// Creates the checks that the build exists and is not aborting, whose failures give refusals 1 and 2 (`NoBuild` and
-/// `Aborting`).
+/// Creates the checks that the build exists and that it is not aborting; their failures give refusals 1 and 2
+/// (`NoBuild` and `Aborting`).
 pub(crate) fn checks_of_build<S: PageStore>(host: &Host<S>, build: BuildId) -> [Check; 2]
     ensures { result ≡ checks_of_build host.now build }
 {
@@ -166,8 +166,7 @@ fn vmid_check<S: PageStore>(host: &Host<S>, wanted: bool) -> Option<Check>
     })
 }
 
-/// Appends the host's own checks of a command that names the given pages, by ascending number of the refusals that
-/// their failures give.
+/// Appends the host's own checks of a command that names the given pages, in ascending order of their refusal numbers.
 pub(crate) fn add_needs<S: PageStore>(
     host: &Host<S>,
     build: BuildId,

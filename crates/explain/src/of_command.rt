@@ -1,4 +1,4 @@
-//! The checks that the host, the page store and the RMM make of each command, in sequence. RMM 1.0, RMI commands.
+//! The checks that the host, the page store and the RMM perform on each command, in sequence. RMM 1.0, RMI commands.
 ghost use Rattle.std.specs.Prelude.{◌≡◌, ◌++◌, ◌≤◌, OnOk, length};
 ghost use Rattle.explain.specs.Commands.{above_of, take_checks, rtt_create_checks, init_ripas_checks, data_create_checks, unknown_checks};
 ghost use Rattle.explain.specs.Commands.{guest_write_checks, enter_checks, recs_checks, tables_checks, monitor_checks, command_checks};
@@ -207,7 +207,7 @@ fn add_monitor<S: PageStore>(
     }
 }
 
-/// Appends the checks of a command to a list: first the host's own checks, then those of the store or the RMM.
+/// Appends the checks of a command to a list: first the host's own checks, then those of the page store or the RMM.
 #[tactic(auto, unfolding(crate::specs::Commands::command_checks))]
 pub(crate) fn add_command<S: PageStore>(
     host: &Host<S>,

@@ -43,7 +43,7 @@ pub(crate) fn page_delegated<S: PageStore>(host: &Host<S>, build: BuildId, page:
     page_check(page, now, Delegated, !matches!(now, Some(Delegated)))
 }
 
-/// Adds the checks that the granules of the given pages of a build are DELEGATED.
+/// Appends, for each of the given pages of a build, the check that its granule is DELEGATED.
 pub(crate) fn add_delegated<S: PageStore>(
     host: &Host<S>,
     build: BuildId,

@@ -113,7 +113,8 @@ fn add_tables(rd: Gran, tables: &[Gran], checks: &mut Vec<Check>) -> Result<(), 
     ])
 }
 
-/// Adds the checks of RMI_REALM_CREATE. The pages and the granules are those of the RD and the starting tables.
+/// Appends the checks of RMI_REALM_CREATE to a list. The pages and the granules are those of the RD and the starting
+/// tables.
 #[tactic(auto, unfolding(crate::specs::OfRealm::realm_create_checks))]
 pub(crate) fn add_realm_create<S: PageStore>(
     host: &Host<S>,

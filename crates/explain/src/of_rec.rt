@@ -27,7 +27,7 @@ fn are_distinct(granules: &[Gran]) -> bool
     true
 }
 
-/// Adds the checks of RMI_REC_CREATE. The pages and the granules are those of the REC and its auxiliaries.
+/// Appends the checks of RMI_REC_CREATE to a list. The pages and the granules are those of the REC and its auxiliaries.
 #[tactic(auto, unfolding(crate::specs::OfRec::rec_create_checks))]
 pub(crate) fn add_rec_create<S: PageStore>(
     host: &Host<S>,

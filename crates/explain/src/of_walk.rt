@@ -145,7 +145,7 @@ fn are_free<S: PageStore>(host: &Host<S>, build: BuildId, ipa: u32, count: u16) 
     true
 }
 
-/// Returns the check that, for each of the `count` IPA granules from `ipa` on, the walk to level 3 ends at an
+/// Creates the check that, for each of the `count` IPA granules from `ipa` on, the walk to level 3 ends at an
 /// UNASSIGNED entry.
 pub(crate) fn entries_free<S: PageStore>(
     host: &Host<S>,

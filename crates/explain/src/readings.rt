@@ -1,4 +1,4 @@
-//! Functions that read, from a host or a step, the values for messages that the failed check does not contain.
+//! Functions that read, from a host or a step, the values of a message that the failed check does not contain.
 use crate::of_block::has_block;
 use crate::operands::pages_named;
 use arrayvec::ArrayVec;
@@ -27,7 +27,7 @@ pub(crate) fn named_pages(step: &Step) -> ArrayVec<u16, 17> {
     }
 }
 
-/// Returns the first pages of a build, at most 17, that are in the given state and that the step does not name.
+/// Returns up to 17 pages of a build, the lowest first, that are in the given state and are not named by the step.
 pub(crate) fn other_pages<S: PageStore>(
     host: &Host<S>,
     build: BuildId,
@@ -47,7 +47,7 @@ pub(crate) fn other_pages<S: PageStore>(
     pages
 }
 
-/// Returns the first page of a build that is in the given state, and that the step does not name.
+/// Returns the lowest page of a build, if any, that is in the given state and is not named by the step.
 pub(crate) fn first_other<S: PageStore>(
     host: &Host<S>,
     build: BuildId,
@@ -90,7 +90,7 @@ fn are_tables<S: PageStore>(
     true
 }
 
-/// Finds the lowest page at which the `count` starting tables of a realm with the RD page `rd` can begin.
+/// Finds the lowest page, if any, at which the `count` starting tables of a realm with the RD page `rd` can begin.
 pub(crate) fn first_of_tables<S: PageStore>(
     host: &Host<S>,
     build: BuildId,
@@ -136,7 +136,7 @@ pub(crate) fn size_of_order(order: u8) -> u16 {
     }
 }
 
-/// Returns the least order whose blocks have at least `count` pages, or `None` if no block has so many.
+/// Returns the least order whose blocks have at least `count` pages, or `None` if no order is large enough.
 pub(crate) fn order_for(count: u16) -> Option<Order> {
     for number in 0..10 {
         if let Some(order) = Order::new(number) {
@@ -177,7 +177,7 @@ pub(crate) fn undos_of_realm<S: PageStore>(host: &Host<S>, build: BuildId) -> Op
     None
 }
 
-/// Returns the number of the REC whose creation is the next operation to undo, if any.
+/// Returns the number of the REC that a build's newest open operation created, if it created one.
 pub(crate) fn newest_rec<S: PageStore>(host: &Host<S>, build: BuildId) -> Option<u16> {
     match host.open_acts(build).last() {
         Some(Act::Rec { number, .. }) => Some(number.number()),
@@ -242,8 +242,8 @@ pub(crate) fn is_unassigned<S: PageStore>(host: &Host<S>, build: BuildId, ipa: u
     }
 }
 
-/// Finds the first IPA granule from `from` on with an UNASSIGNED level 3 entry, or without one if `unassigned` is
-/// `false`. Only the table of level 3 that serves `from` is searched.
+/// Finds the first IPA granule at or after `from` for which `is_unassigned` is equal to `unassigned`. Only the table of
+/// level 3 that serves `from` is searched.
 pub(crate) fn first_entry<S: PageStore>(
     host: &Host<S>,
     build: BuildId,

@@ -1,9 +1,9 @@
-//! The roles of pages in a step: RD, starting table, table, data, source, REC or auxiliary.
+//! The role of each page that a step names, such as RD, starting table, data or auxiliary.
 use host_commands::{Cmd, Step};
 use realm_host::GranuleState;
 
-/// Returns the words for the role of a page in a step, such as RD, that precede the noun `page`. The words are empty if
-/// the step gives the page no role. A page that is named twice has its first role.
+/// Returns the words for the role of a page in a step, such as `RD `, to be put before the noun `page`. The words are
+/// empty if the step gives the page no role. A page that is named twice has its first role.
 pub(crate) fn role_of(step: &Step, page: u16) -> &'static str {
     let Step::Ask(cmd) = step else {
         return "";
@@ -21,8 +21,8 @@ pub(crate) fn role_of(step: &Step, page: u16) -> &'static str {
     }
 }
 
-/// Returns the role of a page in a step, given the page's required state. The page of a `data` step that has to be
-/// UNDELEGATED is the source.
+/// Returns the words for the role of a page in a step, given the page's required state. The page of a `data` step that
+/// has to be UNDELEGATED is the source.
 pub(crate) fn role_by_state(step: &Step, page: u16, required: GranuleState) -> &'static str {
     match (required, step) {
         (GranuleState::Undelegated, Step::Ask(Cmd::Data { .. })) => "source ",

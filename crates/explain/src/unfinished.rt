@@ -43,7 +43,7 @@ fn add_if(
     Ok(())
 }
 
-/// Returns the unfinished aborts of a host, by ascending number of their builds.
+/// Returns the unfinished aborts of a host, in ascending order of their build numbers.
 pub fn unfinished_aborts<S: PageStore>(
     alloc: Global,
     host: &Host<S>,

@@ -1,4 +1,5 @@
--- Lemmas on runs of consecutive numbers: the run with one more number at its end, and the first numbers of a run.
+-- Proofs that a run of consecutive numbers remains a run when the next number is added, and that its first numbers are
+-- a run.
 use Rattle.std.proofs.Common.{◌≡◌, ℕ, ◌+◌, ◌≤◌, ◌∷◌, [], ◌++◌, take, sym, ap, ◌∙◌}
 use Rattle.std.specs.List.{range_with_len}
 use Rattle.std.proofs.lemmas.List.{map-id}

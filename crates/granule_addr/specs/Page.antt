@@ -1,7 +1,7 @@
--- The bytes of a page that has one value in each byte. RMM 1.0, Granule: 4 KiB.
+-- The bytes of a page in which every byte has the same value. RMM 1.0, Granule: 4 KiB.
 use Rattle.std.specs.Prelude.{ℕ, List, replicate}
 
--- a page with one value in each byte
+-- the bytes of a page in which every byte has the given value
 unfoldable pub page_of : ℕ → List ℕ
 page_of value = replicate 4096 value
 

@@ -6,7 +6,7 @@ use std::marker::Model;
 /// The largest number of granules that a machine can have.
 pub const MOST_PAGES: u16 = 4096;
 
-/// The number of a granule: its address divided by 4,096. RMM 1.0, Granule.
+/// The number of a granule in its machine: granules are counted from 0, by rising address. RMM 1.0, Granule.
 #[derive(Clone, Copy, Default, PartialEq, Eq)]
 pub struct Gran(u16);
 

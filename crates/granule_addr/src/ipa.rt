@@ -1,4 +1,4 @@
-//! Granules of a realm's address space.
+//! IPA granules: whether they are protected, and which starting table and table entries cover them.
 ghost use Rattle.std.specs.Prelude.{◌≡◌, ◌↔◌, ◌<◌, ◌&&◌, IsTrue, Some, None, if◌then◌else◌};
 ghost use Rattle.granule_addr.specs.Ipa.{is_width, is_in_space, is_protected_at, entry_index, start_index, widest_space};
 

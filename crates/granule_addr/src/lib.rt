@@ -1,5 +1,5 @@
-//! Range-checked number types: granules, sizes of blocks, IPA granules, IPA widths, RTT levels, page offsets, VMIDs,
-//! RECs and builds.
+//! Range-checked number types for granules, the order of a block, IPA granules, IPA widths, RTT levels, page offsets,
+//! VMIDs, RECs and builds.
 //!
 //! Each type keeps its range: each value of it is in range. Granules, IPA granules and pages are counted in units of 4
 //! KiB; contracts see each number as it is.

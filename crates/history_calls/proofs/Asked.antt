@@ -1,5 +1,5 @@
--- Proofs that preparing a command or an undo gives the refusal of the host's own checks, or else the actions for its
--- operation.
+-- Proofs about the preparation of a command or an undo: it gives the refusal of the host's own checks if one fails, and
+-- otherwise the actions or the model's refusal.
 use Rattle.std.proofs.Common.{◌≡◌, ℕ, ◌<◌, Bool, true, false, List, Option, Some, None, Result, Ok, Err, sym, ap, ◌∙◌}
 use Rattle.std.specs.Prelude.{nat_lt, option_and_then}
 use Rattle.std.specs.List.{last_or}

@@ -1,4 +1,5 @@
--- Proofs that a refusal found before any RMM call is the refusal that the host gives for the command.
+-- Proofs that the host gives each refusal that is found before any RMM call, and accepts a command without RMM calls if
+-- actions are prepared for it.
 use Rattle.std.proofs.Common.{◌≡◌, ℕ, Bool, true, false, cond, not, List, [], ◌∷◌, map, Option, Some, None, Result, Ok, Err, refl, sym, ap, ◌∙◌}
 use Rattle.std.specs.Prelude.{option_map, option_and_then}
 use Rattle.std.specs.List.{filter_map, cons_option}

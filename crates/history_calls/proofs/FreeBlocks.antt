@@ -1,5 +1,5 @@
--- Proofs that the search of the leases finds whether a block is free, and that a Take is refused if and only if none
--- is.
+-- Proofs that a search of the leases decides whether a block is free, and that the check for a free block fails if and
+-- only if the search finds none.
 use Rattle.std.proofs.Common.{◌≡◌, ℕ, zero, suc, ◌+◌, ◌<◌, ◌≤◌, Bool, true, false, not, ◌&&◌, ◌||◌, List, [], ◌∷◌, length, Option, Some, None, refl, ap, ◌∙◌, subst, arith}
 use Rattle.std.specs.Prelude.{is_none, is_some, unwrap_or, slice_index_or}
 use Rattle.std.specs.List.{list_all, list_any, range_with_len}

@@ -1,4 +1,4 @@
--- A proof that the calls for a history lead an RMM to the machine of the history's world.
+-- A proof that the operations of a legal history lead a fresh RMM to the machine of the history's world.
 use Rattle.std.proofs.Common.{◌≡◌, List, [], ◌∷◌, map, Option, Some, None, refl, sym, ap, ◌∙◌}
 use Rattle.std.specs.Prelude.{option_map, option_and_then}
 use Rattle.std.proofs.lemmas.Option.{same_Some, option_and_then_some}

@@ -17,7 +17,7 @@ use Rattle.history_calls.specs.Frame.{Place, address, realm_params, rec_params, 
 abbrev pub ipa_of : ℕ → ℕ
 ipa_of ipa = 4096 * ipa
 
--- the MPIDR of the REC with that number. RMM 1.0, RmiRecMpidr
+-- the MPIDR of the REC with the given number. RMM 1.0, RmiRecMpidr
 abbrev pub mpidr_of : ℕ → ℕ
 mpidr_of number = number % 2 ^ 4 + number / 2 ^ 4 * 2 ^ 8
 
@@ -46,7 +46,7 @@ on_rec rec run (Poke number ipa offset value) =
     host.Interrupt rec ∷ host.Write rec (ipa_of ipa + offset) value ∷ host.Spin rec ∷ host.Enter rec run ∷ host.Saw rec ∷ []
 on_rec rec run _ = []
 
--- The host's call for an event about a realm's tables and memory, or its activation.
+-- The host's call for an event about a realm's tables, memory or activation; `None` for any other event.
 abbrev pub call_in_realm : Place → ℕ → Act → Option HostAction
 call_in_realm place rd (Rtt granule ipa level) = Some (plain_call (RttCreate rd (address place granule) (ipa_of ipa) level))
 call_in_realm place rd (UnRtt granule ipa level) = Some (with_x1 (RttDestroy rd (ipa_of ipa) level) (address place granule))
@@ -65,7 +65,7 @@ on_rec_granule place rd (Rec granule auxiliaries number) =
 on_rec_granule place rd (UnRec granule auxiliaries number) = plain_call (RecDestroy (address place granule)) ∷ []
 on_rec_granule place rd _ = []
 
--- The host's actions for an event about pages, or about a realm's descriptor.
+-- The host's actions for an event that accesses, delegates or gives back pages, or that creates or destroys a realm.
 abbrev pub on_granules : Place → Act → List HostAction
 on_granules place (UnTake order first) = host.Fill (address place first) (2 ^ order) 0 ∷ []
 on_granules place (Fill granule value) = host.Fill (address place granule) 1 value ∷ []
@@ -78,8 +78,8 @@ on_granules place (Realm rd root vmid) =
 on_granules place (UnRealm rd root vmid) = plain_call (RealmDestroy (address place rd)) ∷ []
 on_granules place _ = []
 
--- The host's actions for an event about a realm and a REC in it. The exits of the REC's run go to the page of the given
--- number. An event is of one of the four kinds; a take has no actions.
+-- The host's actions for an event, given the realm and the REC that the event is about. The exits of the REC's run go
+-- to the run page with the given number. An event is of one of the four kinds; a take has no actions.
 abbrev pub actions_of : Place → RealmAndRec → ℕ → Act → List HostAction
 actions_of place subject run act =
     on_granules place act

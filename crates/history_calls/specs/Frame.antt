@@ -1,7 +1,7 @@
 -- The physical addresses of the granules of a history's machine, and of the host's own granules after them.
 use Rattle.std.specs.Prelude.{ℕ, ◌<◌, ◌≤◌, ◌+◌, ◌*◌, ◌^◌}
 
--- the address of granule 0, and the number of granules of the history's machine
+-- the location of a history's machine in memory: the address of its granule 0, and its number of granules
 pub record Place : Type 0 where
   pub base : ℕ
   pub pages : ℕ
@@ -10,11 +10,12 @@ pub record IsFrame (base pages : ℕ) : Type 0 where
   pub low : base < 2 ^ 46
   pub few : pages ≤ 4096
 
--- the address of a granule: RMM 1.0, Granule
+-- the address of a granule of the machine. RMM 1.0, Granule
 abbrev pub address : Place → ℕ → ℕ
 address place granule = place.base + 4096 * granule
 
--- The granules of the host follow those of the machine: parameters of realms, parameters of RECs, and pages of runs.
+-- The address of one of the host's own granules, which follow those of the machine. They are for realm parameters, REC
+-- parameters, and the runs of RECs.
 abbrev pub host : Place → ℕ → ℕ
 host place number = place.base + 4096 * (place.pages + number)
 

@@ -1,4 +1,5 @@
--- The lines of a trace for the actions of a host: a question, and its answer after ` = `. TRACES.md has their grammar.
+-- The lines of a trace for a host's actions: each has a question, then ` = ` and the answer. TRACES.md has their
+-- grammar.
 use Rattle.std.specs.Prelude.{ℕ, ◌+◌, ◌*◌, ◌==◌, nat_lt, Bool, true, false, if◌then◌else◌, List, [], ◌∷◌, ◌++◌, codes, Option, Some, None}
 use Rattle.std.specs.List.{flat_map}
 use Rattle.std.specs.Fmt.{decimal, digits}
@@ -17,16 +18,17 @@ use Rattle.history_calls.specs.Frame.{Place}
 
 -- ---- numbers
 
--- Levels, counts, sizes, VMIDs, bytes and indices are in decimal, all else is in hexadecimal. A space is before each.
+-- a number in decimal, with a space before it; for levels, counts, sizes, VMIDs, indices and the byte of a fill
 abbrev pub then_decimal : ℕ → List ℕ
 then_decimal n = 32 ∷ decimal n
 
+-- a number in hexadecimal, with a space before it; for addresses and all else that is not written in decimal
 abbrev pub then_hex : ℕ → List ℕ
 then_hex n = codes " 0x" ++ digits 16 false n
 
 -- ---- calls
 
--- a command and its operands. RMM 1.0, RMI commands
+-- the text of a call: the name of its command, and its operands. RMM 1.0, RMI commands
 abbrev pub call_text : Call → List ℕ
 call_text (Version requested) = codes "rmi_version" ++ then_hex requested
 call_text (GranuleDelegate address) = codes "rmi_granule_delegate" ++ then_hex address
@@ -52,7 +54,7 @@ call_text (RecAuxCount rd) = codes "rmi_rec_aux_count" ++ then_hex rd
 call_text (RttInitRipas rd base top) = codes "rmi_rtt_init_ripas" ++ then_hex rd ++ then_hex base ++ then_hex top
 call_text (RttSetRipas rd rec base top) = codes "rmi_rtt_set_ripas" ++ then_hex rd ++ then_hex rec ++ then_hex base ++ then_hex top
 
--- the output in X1, with its name, if the command has one
+-- the text of the output in X1, with its name; empty if the command has no such output
 abbrev pub x1_text : Call → ℕ → List ℕ
 x1_text (Version requested) x1 = codes ", lower" ++ then_hex x1
 x1_text (DataDestroy rd ipa) x1 = codes ", data" ++ then_hex x1
@@ -66,7 +68,7 @@ x1_text (RttInitRipas rd base top) x1 = codes ", top" ++ then_hex x1
 x1_text (RttSetRipas rd rec base top) x1 = codes ", top" ++ then_hex x1
 x1_text _ x1 = []
 
--- the answer to a call that succeeds, with the output in X1 if that is known
+-- the answer to a call that succeeds, with the output in X1 if it is known
 abbrev pub success_text : Call → Option ℕ → List ℕ
 success_text call None = codes " = RMI_SUCCESS"
 success_text call (Some x1) = codes " = RMI_SUCCESS" ++ x1_text call x1
@@ -77,19 +79,19 @@ status_text Realm index = codes " = RMI_ERROR_REALM"
 status_text Rec index = codes " = RMI_ERROR_REC"
 status_text Rtt index = codes " = RMI_ERROR_RTT" ++ then_decimal index
 
--- the answer to a call that is refused: the status, with the index of RMI_ERROR_RTT
+-- the answer to a call that is refused: the status, and also the index if the status is RMI_ERROR_RTT
 abbrev pub refused_text : Rmi → List ℕ
 refused_text rmi = status_text rmi.status rmi.index
 
 -- ---- actions
 
--- a byte in one granule, or in consecutive ones: the first, and the distance of the next
+-- the text of an action that fills one granule, or consecutive ones, with a byte
 abbrev pub fill_text : ℕ → ℕ → ℕ → List ℕ
 fill_text address granules value =
     if granules == 1 then codes "fill" ++ (then_hex address ++ then_decimal value)
     else codes "repeat" ++ (then_decimal granules ++ (codes " fill" ++ (then_hex address ++ (codes "+0x1000" ++ then_decimal value))))
 
--- the field of auxiliary granules, which a REC without any leaves out
+-- the field for a REC's auxiliary granules, which is left out if there are none
 abbrev pub aux_field : List ℕ → List ℕ
 aux_field [] = []
 aux_field (first ∷ more) = codes " aux" ++ (then_hex first ++ flat_map then_hex more)
@@ -132,38 +134,42 @@ is_call (host.Call call x1) = true
 is_call (host.Enter rec run) = true
 is_call _ = false
 
--- the answer: a call may be refused, and all else is done
+-- the answer to an action: the refusal if there is one and the action is a call, otherwise the answer for an action
+-- that is done
 abbrev pub answer_to : HostAction → Option Rmi → List ℕ
 answer_to action None = done_text action
 answer_to action (Some rmi) = if is_call action then refused_text rmi else done_text action
 
--- whether there is no line: a guest gets no step to do in a run if its REC is not entered
+-- whether an action gets no line: it is the step of a guest whose REC is refused entry
 abbrev pub is_step_left_out : HostAction → Option Rmi → Bool
 is_step_left_out (host.Spin rec) (Some rmi) = true
 is_step_left_out _ _ = false
 
--- the line of an action, and of its refusal if there is one
+-- the line for an action, given the refusal if there is one; empty for a guest's step that is left out
 abbrev pub action_line : HostAction → Option Rmi → List ℕ
 action_line action refusal = if is_step_left_out action refusal then [] else question_text action ++ (answer_to action refusal ++ 10 ∷ [])
 
--- a fresh machine: the history's granules and the 66 of the host, and the most auxiliary granules of a REC
+-- the `platform` line of a trace: the base address, the number of granules including the host's 66, and the number of
+-- auxiliary granules of each REC
 abbrev pub platform_line : Place → ℕ → List ℕ
 platform_line place auxiliaries =
     codes "platform"
     ++ (then_hex place.base ++ (then_decimal (place.pages + 66) ++ (codes " aux" ++ (then_decimal auxiliaries ++ codes " vmid_bits 8 s2sz 43 max_recs_order 15\n"))))
 
--- ---- as the code has them
+-- ---- parts of lines, as the code writes them
 
+-- the text of a number after a space, in decimal or hexadecimal; empty if the number is absent
 abbrev pub number_text : Number → List ℕ
 number_text Absent = []
 number_text (Decimal n) = then_decimal n
 number_text (Hexadecimal n) = then_hex n
 
--- the number of an operand, by its place: absent past the count of operands, and in decimal at one place
+-- how an operand's value is written, by its place: not at all after the last operand, in decimal at the given place,
+-- otherwise in hexadecimal
 abbrev pub operand_number : ℕ → ℕ → ℕ → ℕ → Number
 operand_number count in_decimal place n = if nat_lt count place then Absent else if place == in_decimal then Decimal n else Hexadecimal n
 
--- a call in registers, by the name of its command, the count of operands and the one in decimal
+-- the text of a call in registers, given its command's name, the count of its operands, and which operand is in decimal
 abbrev pub form_text : List ℕ → ℕ → ℕ → Registers → List ℕ
 form_text name count in_decimal r =
     name ++ number_text (operand_number count in_decimal 1 r.x1) ++ number_text (operand_number count in_decimal 2 r.x2)

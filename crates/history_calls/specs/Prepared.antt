@@ -1,4 +1,4 @@
--- The actions of a host on an RMM for a command, or for an undo, that is not performed yet.
+-- The actions of a host on an RMM for a command or an undo that is yet to be performed.
 use Rattle.std.specs.Prelude.{◌≡◌, ℕ, [], ◌∷◌, Bool, true, false, Option, Some, None, Result, Ok, Err, unwrap_or, option_map, option_and_then, if◌then◌else◌}
 use Rattle.std.specs.List.{last_or}
 use Rattle.arrayvec.specs.ArrayVec.{ArrayVec}
@@ -34,18 +34,18 @@ use Rattle.rmi_monitor.specs.Attributes.{RecAttributes}
 
 -- ---- an operation of a build
 
--- the realm of a build, and the REC there that an operation names
+-- the realm of a build, and the REC in it that an operation names
 abbrev pub subject_of : HostView → ℕ → Act → RealmAndRec
 subject_of host build act = subject_in (world_of host) build act
 
--- the host's actions on the RMM; the exits of a run go to the run page with that number
+-- the host's actions on the RMM for an operation of a build; an RMI_REC_ENTER uses the run page with the given number
 abbrev pub actions_for : Place → HostView → ℕ → ℕ → Act → ArrayVec HostAction
 actions_for place host build run act = record { items = actions_of place (subject_of host build act) run act }
 
 -- ---- a command
 
--- The numbers allocated for a command before it is performed: the lowest free VMID, and the next number of a REC. The
--- byte of a Peek is not known yet.
+-- The values that the host would allocate for a command: the lowest free VMID, and the number of the next REC of the
+-- build's realm. The byte of a Peek is not known yet.
 abbrev pub allocated_before : HostView → ℕ → Allocated
 allocated_before host build = record {
   vmid = unwrap_or (lowest_vmid host) 1;
@@ -53,7 +53,7 @@ allocated_before host build = record {
   byte = 0;
 }
 
--- the operation of a command other than a Take, before it is performed
+-- the operation that a command would perform, if there is one; there is none for a Take
 abbrev pub act_before : HostView → ℕ → Cmd → Option Act
 act_before host build cmd = act_of cmd (granules_named host build cmd) (allocated_before host build)
 
@@ -61,11 +61,11 @@ abbrev pub is_peek : Cmd → Bool
 is_peek (Peek page offset) = true
 is_peek _ = false
 
--- The prepared operation is the one that the host performs, unless the command is a Peek.
+-- Unless the command is a Peek, the prepared operation is the one that the host would perform.
 abbrev pub IsPreparedAsAsked : HostView → ℕ → Cmd → Type 0
 IsPreparedAsAsked host build cmd = is_peek cmd ≡ false → act_before host build cmd ≡ act_asked host build cmd
 
--- a Take needs nothing of the RMM, and any other command without an operation is an input error
+-- the result for a command that has no operation: no actions for a Take, and RMI_ERROR_INPUT for any other command
 abbrev pub without_act : Cmd → Result (ArrayVec HostAction) Refusal
 without_act (Take order) = Ok (record { items = [] })
 without_act _ = Err (Rmi error_input)
@@ -77,7 +77,7 @@ abbrev pub access_refusal : Option GranuleState → Option Refusal
 access_refusal (Some state) = elim state [ Undelegated ↦ None | _ ↦ Some (Rmi error_input) ]
 access_refusal None = Some (Rmi error_input)
 
--- the refusal of a command on a REC that does not exist
+-- the refusal of a command on a REC, if the REC does not exist
 abbrev pub entry_refusal : Option (ℕ × RecAttributes) → Option Refusal
 entry_refusal (Some rec) = None
 entry_refusal None = Some (Rmi error_input)
@@ -87,11 +87,12 @@ abbrev pub exit_refusal : Option (ℕ × RecAttributes) → Option Refusal
 exit_refusal (Some rec) = if is_ready rec.1.state then Some (Rmi error_rec) else None
 exit_refusal None = Some (Rmi error_input)
 
--- the state of a page of a build
+-- the state of a build's page, if the build has the page
 abbrev pub state_of_leased : HostView → ℕ → ℕ → Option GranuleState
 state_of_leased host build page = option_map (λ g. (cell_at (world_of host).machine g).state) (granule_of_page host build page)
 
--- The refusal of a command that makes no call, or that names a REC which the realm does not have.
+-- The refusal, if any, that is found without a call of the RMM, for a command that has passed the host's first checks.
+-- The command makes no call, or it names a REC that the realm does not have.
 abbrev pub refused_before : HostView → ℕ → Cmd → Option Refusal
 refused_before host build (Take order) = first_that_holds (no_block host order ∷ [])
 refused_before host build (Fill page value) = access_refusal (state_of_leased host build page)
@@ -112,23 +113,23 @@ abbrev pub actions_of_act : Place → HostView → ℕ → ℕ → Cmd → Optio
 actions_of_act place host build run cmd (Some act) = Ok (actions_for place host build run act)
 actions_of_act place host build run cmd None = without_act cmd
 
--- the actions, or the model's refusal before the call
+-- the actions for a command with the given operation, or the refusal that is found without a call of the RMM
 abbrev pub actions_or_refusal : Place → HostView → ℕ → ℕ → Cmd → Option Act → Result (ArrayVec HostAction) Refusal
 actions_or_refusal place host build run cmd act = unless_refused (refused_before host build cmd) (actions_of_act place host build run cmd act)
 
--- The actions on the RMM for a command; or the refusal before the call, by the host or by its model.
+-- The actions on the RMM for a command, or the refusal that the host gives before the RMM is called.
 abbrev pub actions_asked : Place → HostView → ℕ → ℕ → Cmd → Result (ArrayVec HostAction) Refusal
 actions_asked place host build run cmd =
     unless_refused (first_that_holds (checks_of (summary_of host) build cmd)) (actions_or_refusal place host build run cmd (act_before host build cmd))
 
 -- ---- theorems of commands
 
--- A refusal of a command before its call is the refusal that the host gives for the command.
+-- A refusal that is found before the RMM is called is the one that the host gives to the command.
 abbrev pub IsRefusedAsAsked : Place → HostView → ℕ → ℕ → Cmd → Type 0
 IsRefusedAsAsked place host build run cmd =
     (refusal : Refusal) → actions_asked place host build run cmd ≡ Err refusal → refusal_of host build (Ask cmd) ≡ Some refusal
 
--- a command that makes no call
+-- a command makes no call of the RMM: it is a Take, Fill, Peek or Exit
 abbrev pub makes_no_call : Cmd → Bool
 makes_no_call (Take order) = true
 makes_no_call (Fill page value) = true
@@ -136,7 +137,7 @@ makes_no_call (Peek page offset) = true
 makes_no_call (Exit number) = true
 makes_no_call _ = false
 
--- If actions are prepared for a command that makes no call, the host does not refuse the command.
+-- If actions are prepared for a command that makes no call of the RMM, the host does not refuse the command.
 abbrev pub IsDecidedBefore : Place → HostView → ℕ → ℕ → Cmd → Type 0
 IsDecidedBefore place host build run cmd =
     makes_no_call cmd ≡ true → (actions : ArrayVec HostAction) → actions_asked place host build run cmd ≡ Ok actions
@@ -144,7 +145,7 @@ IsDecidedBefore place host build run cmd =
 
 -- ---- an undo
 
--- the reverse of the newest operation that a build has open
+-- the reverse of the newest operation that a build has open, if it has any
 abbrev pub newest_back : HostView → ℕ → Option Act
 newest_back host build = option_and_then reverse_of (last_or None (open_of host build))
 
@@ -152,12 +153,12 @@ abbrev pub actions_of_back : Place → HostView → ℕ → Option Act → Resul
 actions_of_back place host build (Some back) = Ok (actions_for place host build 0 back)
 actions_of_back place host build None = Err NothingToUndo
 
--- The actions on the RMM for an undo, or its refusal.
+-- The actions on the RMM for a build's undo, or the refusal of the undo.
 abbrev pub actions_back : Place → HostView → ℕ → Result (ArrayVec HostAction) Refusal
 actions_back place host build = unless_refused (refusal_of host build Undo) (actions_of_back place host build (newest_back host build))
 
--- An undo is prepared as the host performs it: with the host's refusal, or for the operation that the host records.
--- Once it is prepared, the host does not refuse it.
+-- A prepared undo agrees with the host's: it has the same refusal, or the actions for the operation that the host
+-- records. If actions are prepared, the host does not refuse the undo.
 pub record IsUndoPrepared (place : Place) (host : HostView) (build : ℕ) : Type 0 where
   pub refused : (refusal : Refusal) → refusal_of host build Undo ≡ Some refusal → actions_back place host build ≡ Err refusal
   pub performed : (act : Act) → refusal_of host build Undo ≡ None → IsActOf host build Undo act → actions_back place host build ≡ Ok (actions_for place host build 0 act)

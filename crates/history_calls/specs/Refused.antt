@@ -28,21 +28,23 @@ use Rattle.rmi_monitor.specs.View.{attributes_of}
 use Rattle.rmi_monitor.specs.Walked.{walk_of}
 use Rattle.history_calls.specs.Prepared.{refused_before, state_of_leased}
 
--- if the check holds, the rest decides; else the command is refused with this refusal
+-- the given refusal if a check fails, otherwise the refusal by the remaining checks, if any
 abbrev pub unless : Bool → Rmi → Option Rmi → Option Rmi
 unless holds rmi rest = cond holds rest (Some rmi)
 
 -- ---- granules
 
+-- a granule of a world is DELEGATED
 abbrev pub is_delegated_in : World → ℕ → Bool
 is_delegated_in world granule = is_delegated (seen world.machine granule)
 
+-- the state of a page's granule is UNDELEGATED; false if there is no such page
 abbrev pub is_undelegated_page : Option GranuleState → Bool
 is_undelegated_page (Some state) = elim state [ Undelegated ↦ true | _ ↦ false ]
 is_undelegated_page None = false
 
--- The page of the host that a command names is UNDELEGATED: that of RMI_GRANULE_DELEGATE, and the source of
--- RMI_DATA_CREATE.
+-- The page that a command is to delegate, or from which RMI_DATA_CREATE is to copy, is UNDELEGATED; true for any other
+-- command.
 abbrev pub is_host_page_undelegated : HostView → ℕ → Cmd → Bool
 is_host_page_undelegated host build (Delegate page) = is_undelegated_page (state_of_leased host build page)
 is_host_page_undelegated host build (Data page ipa source) = is_undelegated_page (state_of_leased host build source)
@@ -52,7 +54,8 @@ is_host_page_undelegated host build _ = true
 abbrev pub can_start : World → ℕ → ℕ → Bool
 can_start world rd table = is_delegated_in world table && not (table == rd)
 
--- the refusal of a new realm with this RD and these starting tables. RMM 1.0, RMI_REALM_CREATE
+-- the refusal, if any, of a realm's creation, given the list of its RD and its starting tables. RMM 1.0,
+-- RMI_REALM_CREATE
 abbrev pub realm_refusal : HostView → Root → List ℕ → Option Rmi
 realm_refusal host root [] = Some error_input
 realm_refusal host root (rd ∷ tables) =
@@ -63,7 +66,8 @@ realm_refusal host root (rd ∷ tables) =
 abbrev pub state_refusal : RealmAttributes → Option Rmi
 state_refusal realm = unless (is_new realm.state) error_realm None
 
--- the refusal of a new REC in the first of these granules, with the others as auxiliaries. RMM 1.0, RMI_REC_CREATE
+-- the refusal, if any, of a REC's creation, given the list of its own granule and its auxiliary granules. RMM 1.0,
+-- RMI_REC_CREATE
 abbrev pub rec_refusal : HostView → RealmAttributes → List ℕ → Option Rmi
 rec_refusal host realm [] = Some error_input
 rec_refusal host realm (rec ∷ auxiliaries) =
@@ -72,11 +76,11 @@ rec_refusal host realm (rec ∷ auxiliaries) =
 
 -- ---- walks in the realm of a build. RMM 1.0, RMI_ERROR_RTT
 
--- the row where the walk of an IPA granule ends
+-- the row where the walk of an IPA granule in a realm ends, if the realm exists and has the IPA granule
 abbrev pub end_in : Option RealmRow → ℕ → ℕ → Option RowView
 end_in row ipa level = option_map (row_view ipa) (option_and_then (λ (realm : RealmRow). walk_of realm ipa level) row)
 
--- the refusal unless the walk ends at the level above the new table, and not at a TABLE
+-- the refusal of a new table, unless the walk ends one level above it, at an entry that is not a TABLE entry
 abbrev pub new_table_refusal : ℕ → Option RowView → Option Rmi
 new_table_refusal above (Some row) = unless (row.level == above && not (is_table row.entry)) (error_rtt row.level) None
 new_table_refusal above None = Some (error_rtt 0)
@@ -86,23 +90,23 @@ abbrev pub is_free_row : Option RowView → Bool
 is_free_row (Some row) = row.level == 3 && is_unassigned row.entry
 is_free_row None = false
 
--- the entries of level 3 from an IPA granule on are UNASSIGNED
+-- each of a number of consecutive IPA granules, from the given one on, has an UNASSIGNED entry of level 3
 abbrev pub are_free_rows : Option RealmRow → ℕ → ℕ → Bool
 are_free_rows row ipa count = list_all (λ page. is_free_row (end_in row page 3)) (range_with_len ipa count)
 
--- the refusal unless the walk ends at level 3 and the entries are free
+-- the refusal of a command that needs free entries, unless the walk ends at level 3 and the entries are free
 abbrev pub run_refusal : Bool → Option RowView → Option Rmi
 run_refusal free (Some row) = unless (row.level == 3 && free) (error_rtt row.level) None
 run_refusal free None = Some (error_rtt 0)
 
--- the refusal unless the walk ends at an ASSIGNED entry, which leads to a page
+-- the refusal of a guest's write, unless the walk ends at an ASSIGNED entry that leads to a page
 abbrev pub write_refusal : Option RowView → Option Rmi
 write_refusal (Some row) = unless (is_assigned row.entry) (error_rtt row.level) (unless (is_some row.entry.granule) error_input None)
 write_refusal None = Some (error_rtt 0)
 
 -- ---- RECs
 
--- the granule and the attributes of the realm's REC with that number
+-- the granule and the attributes of the realm's REC with the given number, if there is one
 abbrev pub rec_of_number : Option RealmRow → ℕ → Option (ℕ × RecAttributes)
 rec_of_number row number =
     option_map (λ (rec : RecRow). (rec.granule, rec_attributes_of number rec)) (option_and_then (λ (realm : RealmRow). get realm.recs number) row)
@@ -117,7 +121,7 @@ poke_refusal protected row None = Some error_input
 
 -- ---- operations
 
--- the refusal of a command on a realm's tables or memory
+-- the refusal, if any, of a command on a realm's tables or memory
 abbrev pub refusal_in_memory : World → Option RealmRow → Bool → RealmAttributes → Act → Option Rmi
 refusal_in_memory world row ready realm (acts.Rtt granule ipa level) =
     unless (is_delegated_in world granule && is_table_place ipa level && is_protected_at ipa realm.root.width) error_input
@@ -133,7 +137,7 @@ refusal_in_memory world row ready realm (acts.Unknown granule ipa) =
     (run_refusal (are_free_rows row ipa 1) (end_in row ipa 3))
 refusal_in_memory world row ready realm _ = None
 
--- the refusal of a command on a realm, by its operation and the granules that it names
+-- the refusal, if any, of a command on a realm, given its operation and the granules that it names
 abbrev pub refusal_in_realm : HostView → Option RealmRow → List ℕ → Bool → RealmAttributes → Act → Option Rmi
 refusal_in_realm host row granules ready realm (acts.Rec granule auxiliaries number) = rec_refusal host realm granules
 refusal_in_realm host row granules ready realm acts.Activate = state_refusal realm
@@ -146,7 +150,8 @@ abbrev pub refusal_if_realm : HostView → List ℕ → Bool → Act → Option 
 refusal_if_realm host granules ready act (Some realm) = refusal_in_realm host (Some realm) granules ready (attributes_of realm) act
 refusal_if_realm host granules ready act None = Some error_input
 
--- the refusal of a call of the RMM, by its operation, the granules that it names, and the realm of its build
+-- the refusal, if any, of the RMM call for an operation, given the granules that the operation names, and the realm of
+-- its build
 abbrev pub call_refusal : HostView → Option RealmRow → List ℕ → Bool → Act → Option Rmi
 call_refusal host row granules ready (acts.Fill granule value) = None
 call_refusal host row granules ready (acts.Peek granule offset byte) = None
@@ -157,7 +162,7 @@ call_refusal host row granules ready act = refusal_if_realm host granules ready 
 
 -- ---- commands
 
--- a Take has no operation, and any other command without one is an input error
+-- the refusal of a command that has no operation: none for a Take, and RMI_ERROR_INPUT for any other command
 abbrev pub refusal_without_act : Cmd → Option Rmi
 refusal_without_act (Take order) = None
 refusal_without_act _ = Some error_input
@@ -170,7 +175,7 @@ abbrev pub else : Option Refusal → Option Refusal → Option Refusal
 else (Some refusal) rest = Some refusal
 else None rest = rest
 
--- The refusal of the model, after the host's own checks.
+-- The refusal, if any, that the model gives to a command that has passed the host's own checks.
 abbrev pub model_refusal : HostView → ℕ → List ℕ → Cmd → Option Act → Option Refusal
 model_refusal host build granules cmd act =
     else (refused_before host build cmd) (option_map refusal.Rmi (refusal_of_act host (row_of (world_of host) build) granules (is_host_page_undelegated host build cmd) cmd act))

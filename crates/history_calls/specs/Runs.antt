@@ -8,16 +8,17 @@ use Rattle.realm_model.specs.declared.act.Act.TheVariants.{Enter, Exit}
 abbrev pub is_same : Option ℕ → Option ℕ → Bool
 is_same rec it = option_eq nat_eq it rec
 
--- the page of a REC that runs; the last one if it has none
+-- the number of the run page that a REC uses, or of the lowest free page for `None`; 63, the last page, if there is no
+-- such page
 abbrev pub run_page_of : Option ℕ → List (Option ℕ) → ℕ
 run_page_of rec pages = min 63 (unwrap_or (position_from (is_same rec) 0 pages) 63)
 
--- The page for an event about a REC: for an entry the lowest that is free, else that of the REC.
+-- The run page for an event about a REC: the lowest free one for an entry, and the REC's own for any other event.
 abbrev pub run_page_for : Option ℕ → Act → List (Option ℕ) → ℕ
 run_page_for rec (Enter number) pages = run_page_of None pages
 run_page_for rec _ pages = run_page_of rec pages
 
--- the pages after an event about a REC
+-- the run pages after an event about a REC, each with the running REC that uses it, if any
 abbrev pub run_pages_after : Option ℕ → Act → List (Option ℕ) → List (Option ℕ)
 run_pages_after rec (Enter number) pages = slice_set pages (run_page_of None pages) rec
 run_pages_after rec (Exit number) pages = slice_set pages (run_page_of rec pages) None

@@ -1,9 +1,9 @@
-//! Actions of a host or a guest on an RMM.
+//! Actions of a host or a guest, such as RMM calls and memory accesses.
 use arrayvec::ArrayVec;
 use rmi_abi::Call;
 
-/// One action of a host or guest, such as an RMM call or a memory access. Addresses are physical, but for that of a
-/// guest.
+/// One action of a host or guest, such as an RMM call or a memory access. Addresses are physical, except for the IPA of
+/// a guest's write.
 #[derive(Drop)]
 pub enum HostAction {
     /// The host's write of `value` to each byte of consecutive granules.
@@ -31,7 +31,7 @@ pub enum HostAction {
         mpidr: u64,
         auxiliaries: ArrayVec<u64, 16>,
     },
-    /// A call of the RMM that succeeds. `x1` is the output in X1, if that output is known beforehand.
+    /// A call of the RMM. `x1` is the output in X1 if the call succeeds, where that output is known beforehand.
     Call {
         call: Call,
         x1: Option<u64>,
@@ -51,7 +51,7 @@ pub enum HostAction {
         ipa: u64,
         value: u8,
     },
-    /// A guest's loop until it is interrupted.
+    /// A guest's loop, which lasts until an interrupt.
     Spin {
         rec: u64,
     },

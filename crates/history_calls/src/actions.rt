@@ -1,4 +1,4 @@
-//! The actions, such as RMM calls, with which a host performs a build's operation.
+//! The actions, such as RMM calls, that a host takes to perform a build's operation.
 ghost use Rattle.std.specs.Prelude.{◌≡◌, ◌<◌, ◌-◌, ◌^◌, ◌++◌, [], ◌∷◌, map, length};
 ghost use Rattle.std.specs.Option.{unwrap_or};
 ghost use Rattle.history_calls.specs.declared.action.HostAction.TheVariants.{Fill, RealmParams, RecParams};
@@ -110,7 +110,7 @@ fn rec_params(frame: Frame, number: RecNo, auxiliaries: &ArrayVec<Gran, 16>) -> 
     }
 }
 
-// Appends the actions for an event about pages or a realm's descriptor.
+// Appends the actions for an event that accesses, delegates or gives back pages, or that creates or destroys a realm.
 fn push_on_granules(actions: &mut Actions, frame: Frame, act: &Act)
     requires { actions.old.items ≡ [] }
     ensures { actions.new.items ≡ specs.on_granules frame act.now }
@@ -255,7 +255,7 @@ fn push_on_rec(actions: &mut Actions, rec: u64, run: u64, act: &Act)
     }
 }
 
-/// Returns the actions, such as RMM calls, with which a host performs a build's operation. `subject` is the realm and
+/// Returns the actions, such as RMM calls, that a host takes to perform a build's operation. `subject` is the realm and
 /// the REC of the build's operation. The exits of a run go to the page with the number `run`, which is below
 /// `RUN_PAGE_COUNT`.
 ///

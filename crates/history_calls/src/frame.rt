@@ -5,7 +5,7 @@ ghost use Rattle.history_calls.specs.Frame as frames;
 use granule_addr::Gran;
 use std::marker::Model;
 
-/// The number of the host's run pages, which RMI_REC_ENTER uses for running RECs. At most as many running RECs have a
+/// The number of the host's run pages, which RMI_REC_ENTER uses for running RECs. At most that many running RECs have a
 /// page of their own.
 pub const RUN_PAGE_COUNT: u16 = 64;
 
@@ -52,14 +52,14 @@ impl Frame {
         self.base
     }
 
-    /// Returns the number of granules of the machine and the host together.
+    /// Returns the machine's number of granules plus `HOST_GRANULES`, the number of the host's own.
     pub fn granules(self) -> u16
         ensures { result ≡ self.pages + 66 }
     {
         self.pages + HOST_GRANULES
     }
 
-    /// Returns the address of a granule, in bytes.
+    /// Returns the physical address of a granule of the machine, in bytes.
     pub fn address(self, granule: Gran) -> u64
         ensures value { result ≡ frames.address self granule }
         ensures below { result < 2 ^ 47 }
@@ -67,7 +67,7 @@ impl Frame {
         self.base + 4096 * granule.number() as u64
     }
 
-    /// Returns the address of the host's granule `number`, in bytes.
+    /// Returns the physical address of the host's own granule `number`, in bytes.
     pub(crate) fn host(self, number: u16) -> u64
         requires { number < 66 }
         ensures { result ≡ frames.host self number }

@@ -59,8 +59,8 @@ fn has_block<S: PageStore>(host: &Host<S>, order: Order) -> bool
     false
 }
 
-/// Returns `NoBlock` if no aligned block of the order is free. It is the refusal of a Take that has passed the earlier
-/// checks.
+/// Returns the refusal `NoBlock` if no aligned block of the order is free, otherwise `None`. The refusal is that of a
+/// Take that has passed the earlier checks.
 pub(crate) fn block_refusal<S: PageStore>(
     host: &Host<S>,
     build: BuildId,

@@ -1,4 +1,4 @@
-//! Theorems on the RMM calls that a host needs for histories, commands and undos.
+//! Theorems about the RMM calls that a host needs for histories, commands and undos.
 ghost use Rattle.std.specs.Prelude.{ℕ, List};
 ghost use Rattle.realm_model.specs.declared.act.Event.{Event};
 ghost use Rattle.realm_model.specs.Machine.{Limits};
@@ -8,9 +8,9 @@ ghost use Rattle.history_calls.specs.Frame.{Place};
 ghost use Rattle.history_calls.specs.Made.{LeadsToItsMachine};
 ghost use Rattle.history_calls.specs.Prepared.{IsPreparedAsAsked, IsRefusedAsAsked, IsDecidedBefore, IsUndoPrepared};
 
-/// Proves that the operations of a legal history, performed one by one, bring a fresh machine to the model's machine
-/// state. It is the state that the model's machine has after the history. Each operation is accepted. The operations
-/// are those of the project's profile: no theorem is about the calls by registers that are made of them.
+/// Proves that the operations of a legal history, performed one by one on a fresh machine, lead to the machine of the
+/// history's world. Each operation is accepted. The operations are those of the project's profile: no theorem is about
+/// the calls by registers that are made of them.
 pub fn calls_lead_to_the_machine()
     ensures { (limits : Limits) (history : List Event) → LeadsToItsMachine limits history }
 {}

@@ -1,5 +1,5 @@
-//! The RMM calls and other actions with which a host performs events, commands and undos. The events are those of a
-//! history, and the commands and undos are prepared first. A call passes its arguments in registers.
+//! The RMM calls and other actions that a host takes for events, commands and undos. The events are those of a history,
+//! and the commands and undos are prepared first. A call passes its arguments in registers.
 //!
 //! An event names granules by their numbers in the machine of the history. A frame places that machine at an address.
 //! After it are granules of the host: one for the parameters of realms, one for those of RECs, and 64 for the runs of

@@ -167,7 +167,7 @@ fn actions_of_act<S: PageStore>(
     }
 }
 
-/// Returns the actions, such as RMM calls, with which the host would perform a command. The error is the refusal that
+/// Returns the actions, such as RMM calls, that the host would take to perform a command. The error is the refusal that
 /// the host gives before the RMM is called.
 pub fn actions_asked<S: PageStore>(
     frame: Frame,
@@ -200,7 +200,7 @@ fn actions_of_newest<S: PageStore>(
     }
 }
 
-/// Returns the actions, such as RMM calls, with which the host would perform an undo. The error is the refusal of the
+/// Returns the actions, such as RMM calls, that the host would take to perform an undo. The error is the refusal of the
 /// undo.
 pub fn actions_back<S: PageStore>(
     frame: Frame,

@@ -409,7 +409,7 @@ fn model_refusal<S: PageStore>(
     Some(Refusal::Rmi(rmi))
 }
 
-/// Returns the refusal that the host would give to a command. The command is not performed.
+/// Returns the refusal, if any, that the host would give to a command. The command is not performed.
 pub fn refusal_of_command<S: PageStore>(
     host: &Host<S>,
     build: BuildId,

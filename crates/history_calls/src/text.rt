@@ -297,7 +297,7 @@ fn is_step_left_out(action: &HostAction, refusal: Option<Rmi>) -> bool
 }
 
 /// Appends a trace line for a host action, such as an RMM call, and its answer. If there is a refusal, a call is
-/// refused with it, and the REC that is not entered gets no step of a guest.
+/// answered with it, and the step of a guest whose REC is not entered gets no line.
 ///
 /// `AllocError`: the text may have a part of the line.
 pub fn push_action(
@@ -315,7 +315,7 @@ pub fn push_action(
     writeln!(text, "{words}{number}")
 }
 
-/// Appends the `platform` line of a trace, with the base address and the number of granules, the host's included. All
+/// Appends the `platform` line of a trace, with the base address and the number of granules, including the host's. All
 /// granules are UNDELEGATED, and the host's granules follow those of the history's machine.
 pub fn push_platform(text: &mut String, frame: Frame, auxiliaries: u8) -> Result<(), AllocError>
     ensures { OnOk result (string_bytes text.new ≡ string_bytes text.old ++ lines.platform_line frame auxiliaries) }

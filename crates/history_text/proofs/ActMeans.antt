@@ -1,4 +1,5 @@
--- A proof that the parser maps an operation's own word and numbers, if in range, back to that operation.
+-- Proofs that an operation whose numbers are in range is parsed back from its own word and numbers, and that it has at
+-- most 18 numbers. Its word is ASCII and has no space.
 use Rattle.std.proofs.Common.{◌≡◌, ℕ, ◌≤◌, [], ◌∷◌, replicate, true, eqb, ltb, not, Some, refl}
 use Rattle.std.specs.List.{list_all}
 use Rattle.std.proofs.lemmas.Bool.{le-leb}

@@ -1,4 +1,4 @@
--- A proof that a REC operation has at most 18 numbers, each small enough for the parser.
+-- A proof that an operation that creates or destroys a REC has at most 18 numbers, each below 2^32.
 use Rattle.std.proofs.Common.{ℕ, zero, suc, ◌≤◌, List, [], ◌∷◌, ◌++◌, length, replicate, arith}
 use Rattle.decimal_text.specs.Numbers.{AreNumbers}
 use Rattle.decimal_text.specs.Ranges.{AreAtMost}

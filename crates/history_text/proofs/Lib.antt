@@ -1,4 +1,4 @@
--- Proofs on the texts of operations, each a word and its numbers, and then on the lines of a history.
+-- Proofs about the texts of operations, each a word and its numbers, and about the lines of a history.
 pub mod Auxiliaries
 pub mod ActMeans
 pub mod RowsMake

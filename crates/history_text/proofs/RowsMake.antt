@@ -1,4 +1,5 @@
--- Proofs that each row of the parser's table gives an operation if and only if all its numbers are in range.
+-- Proofs that the parser makes an operation only from the right count of numbers in range, and always does so for one
+-- to four numbers with maxima alone.
 use Rattle.std.proofs.Common.{◌≡◌, ℕ, ◌≤◌, List, [], ◌∷◌, length, replicate, Bool, true, false, get_or, cond, leb, ◌&&◌, Option, Some, None, option_map, refl, subst}
 use Rattle.std.specs.Option.{option_zip}
 use Rattle.std.proofs.lemmas.Bool.{le-leb, leb-true, and_parts}

@@ -34,8 +34,9 @@ module _ {A : Type 0} where
       if nat_le g granule && nat_le number u16 then option_map (λ auxiliaries. make g auxiliaries number) (up_to 16 granule more) else None
   rec_row make _ = None
 
--- ---- words
+-- ---- the operation that a word and its numbers spell
 
+-- the operation on blocks or granules, such as `take` or `fill`, that a word and its numbers spell, if there is one
 abbrev pub page_act_at : List ℕ → List ℕ → Option Act
 page_act_at word ns =
     if bytes_eq word (codes "take") then two order granule (λ o first. Take o first) ns
@@ -81,6 +82,6 @@ act_at word ns =
     option_or (page_act_at word ns) (option_or (realm_act_at word ns)
     (option_or (table_act_at word ns) (option_or (data_act_at word ns) (rec_act_at word ns))))
 
--- the operation of a text: the word before the first space, and a number after each
+-- the operation that a text spells: a word up to the first space, then a number after each space
 abbrev pub act_of_text : List ℕ → Option Act
 act_of_text text = meaning_of_text act_at text

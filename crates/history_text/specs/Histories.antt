@@ -8,18 +8,19 @@ use Rattle.realm_model.specs.History.{erase}
 use Rattle.history_text.specs.declared.opening.Opening.{Opening}
 use Rattle.history_text.specs.Events.{event_text}
 
--- pages, VMIDs, auxiliary granules of a REC, the room of each build in the history, and builds
+-- the numbers in the first line: how many pages, VMIDs, auxiliary granules for each REC, events in each build's room,
+-- and builds there are
 abbrev pub opening_numbers : Opening → List ℕ
 opening_numbers o = o.pages ∷ o.vmids ∷ o.aux ∷ o.history ∷ o.builds ∷ []
 
 abbrev pub opening_maxima : List ℕ
 opening_maxima = 4096 ∷ 255 ∷ 16 ∷ 16384 ∷ 8 ∷ []
 
--- the first line: the word and the version of a history, and the size of the machine
+-- the first line of a history: the word `history`, the version 1, and the numbers that give the machine's size
 abbrev pub opening_text : Opening → List ℕ
 opening_text o = spelled (codes "history 1") (opening_numbers o)
 
--- no number is too low
+-- each number of an opening is at least its minimum
 pub record HasEnough (o : Opening) : Type 0 where
   pub pages : 1 ≤ o.pages
   pub vmids : 1 ≤ o.vmids
@@ -35,14 +36,14 @@ pub record IsOpeningText (text : List ℕ) (o : Opening) : Type 0 where
   pub is_written : text ≡ opening_text o
   pub size : IsSize o
 
--- each event with its line feed
+-- the texts of events, each with a line feed after it
 abbrev pub events_text : List Event → List ℕ
 events_text events = flat_map (λ event. event_text event ++ 10 ∷ []) events
 
 abbrev pub history_text : Opening → List Event → List ℕ
 history_text o events = opening_text o ++ (10 ∷ events_text events)
 
--- the events that are shown: all, or all but those of a build
+-- the events that the text of a history shows: all, or all but those of one build
 abbrev pub shown : Option ℕ → List Event → List Event
 shown None events = events
 shown (Some build) events = erase build events

@@ -22,7 +22,7 @@ granule = 4095
 abbrev pub offset : ℕ
 offset = 4095
 
--- the greatest IPA granule, in the widest address space
+-- the greatest number of an IPA granule, in the widest address space
 abbrev pub ipa : ℕ
 ipa = 2147483647
 
@@ -56,8 +56,8 @@ written_act (Enter number) = written (codes "enter") (number ∷ []) (u16 ∷ []
 written_act (Exit number) = written (codes "exit") (number ∷ []) (u16 ∷ [])
 written_act (Poke number i o value) = written (codes "poke") (number ∷ i ∷ o ∷ value ∷ []) (u16 ∷ ipa ∷ offset ∷ u8 ∷ [])
 
--- The bounds beside the maxima: the least IPA width, VMID and level of a table, and the most auxiliary granules of a
--- REC.
+-- In the operation, any IPA width is at least 39, any VMID and any table's level is at least 1, and there are at most
+-- 16 auxiliary granules.
 abbrev pub HasBounds : Act → Type 0
 HasBounds (Realm rd root vmid) = (39 ≤ root.width) × (1 ≤ vmid)
 HasBounds (UnRealm rd root vmid) = (39 ≤ root.width) × (1 ≤ vmid)
@@ -71,6 +71,6 @@ pub record IsActInRange (act : Act) : Type 0 where
   pub at_most : AreAtMost (written_act act).numbers (written_act act).maxima
   pub bounds : HasBounds act
 
--- the word, and each number in decimal after one space
+-- the text of an operation: its word, then each of its numbers in decimal after one space
 abbrev pub act_text : Act → List ℕ
 act_text act = spelled (written_act act).word (written_act act).numbers

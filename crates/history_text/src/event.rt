@@ -11,7 +11,7 @@ use granule_addr::BuildId;
 use realm_model::Event;
 use std::fmt;
 
-/// An event that is displayed as its line in a history.
+/// A wrapper that displays an event as its line in a history.
 #[derive(Clone, Copy)]
 pub struct EventText<'a>(pub &'a Event);
 

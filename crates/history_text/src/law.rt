@@ -1,4 +1,4 @@
-//! Theorems on the lines of a history: different events have different texts, and no line is longer than 256 bytes.
+//! Theorems about the lines of a history: different events have different texts, and no line is longer than 256 bytes.
 ghost use Rattle.std.specs.Prelude.{◌≡◌, ℕ, ◌≤◌, List, length, replicate};
 ghost use Rattle.decimal_text.specs.Ranges.{AreAtMost};
 ghost use Rattle.realm_model.specs.declared.act.Event.{Event};

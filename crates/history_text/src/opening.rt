@@ -10,8 +10,8 @@ use std::fmt;
 /// The maximum of each number in the first line of a history. The order is that of the fields of `Opening`.
 const MAXIMA: [u32; 5] = [4096, 255, 16, 16_384, 8];
 
-/// The size of a machine, as in the first line of a history. The numbers are those of pages, of VMIDs, of auxiliary
-/// granules of each REC, of entries in the room of each build, and of builds.
+/// The size of a machine, as the first line of a history gives it. The fields are the numbers of pages, of VMIDs, of
+/// auxiliary granules of each REC, of entries in the room of each build, and of builds.
 #[derive(Clone, Copy)]
 pub struct Opening {
     pub pages: u16,

@@ -1,4 +1,4 @@
--- Proofs that the operation of each command is an RMM command on the granules that the command names.
+-- Proofs that the operation of each command is an RMM command on the granules of the pages that the command names.
 use Rattle.std.proofs.Common.{◌≡◌, ℕ, ◌≤◌, true, false, Bool, cond, List, [], ◌∷◌, length, Option, Some, None, refl, sym, ap, ◌∙◌, subst, arith}
 use Rattle.std.specs.Prelude.{◌&&◌, option_map, slice_get}
 use Rattle.std.specs.Str.{bytes_eq}

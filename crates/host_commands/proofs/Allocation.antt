@@ -1,5 +1,5 @@
--- Proofs that a command's operation agrees with the machine if its allocated values do, and that the byte and REC
--- number do not affect the outcome.
+-- Proofs that a command's operation agrees with the machine if the command's allocated values do, and that the
+-- allocated byte and REC number do not affect the outcome.
 use Rattle.std.proofs.Common.{◌≡◌, ℕ, true, List, [], ◌∷◌, drop, Option, refl, sym, ap, ◌∙◌}
 use Rattle.std.specs.Prelude.{◌==◌, ◌&&◌, is_none, slice_index, option_map}
 use Rattle.std.specs.List.{All, list_all}

@@ -1,4 +1,4 @@
--- Proofs that page lookups one after another give the granules of all pages, or else the refusal of the first missing
+-- Proofs that looking up pages one after another gives the granules of all pages, or the refusal of the first missing
 -- page.
 use Rattle.std.proofs.Common.{◌≡◌, ℕ, ◌+◌, ◌<◌, List, [], ◌∷◌, ◌++◌, map, length, take, drop, get_or, Option, Some, None, Ok, Err, refl, sym, ap, ◌∙◌, subst, append_assoc, arith}
 use Rattle.std.specs.Prelude.{Result}

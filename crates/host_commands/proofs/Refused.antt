@@ -1,4 +1,4 @@
--- Proofs that a list of checks gives the refusal of the first check whose condition holds, and none if no condition
+-- Proofs that a list of checks gives the refusal of the first check whose condition holds, or success if no condition
 -- holds.
 use Rattle.std.proofs.Common.{◌≡◌, ℕ, true, false, cond, List, [], ◌∷◌, ◌++◌, map, Option, Some, None, Ok, Err, refl, sym, ap, ◌∙◌}
 use Rattle.std.specs.Prelude.{Result, is_none}

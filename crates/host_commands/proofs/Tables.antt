@@ -1,4 +1,5 @@
--- Proofs that the check of a realm's starting tables accepts exactly the right number of adjacent granules.
+-- Proofs that granules are a realm's starting tables if and only if they are adjacent, in sequence, and as many as the
+-- IPA width needs.
 use Rattle.std.proofs.Common.{◌≡◌, ◌≢◌, ℕ, ◌+◌, ◌<◌, true, false, Bool, cond, List, [], ◌∷◌, length, get_or, Some, None, refl, sym, ap, ◌∙◌}
 use Rattle.std.specs.Prelude.{slice_get, if◌then◌else◌, ◌&&◌}
 use Rattle.std.specs.List.{range_with_len}

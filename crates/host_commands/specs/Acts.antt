@@ -1,4 +1,4 @@
--- The operation that a command asks for.
+-- The operation that a command asks for, if there is one.
 use Rattle.std.specs.Prelude.{ℕ, nat_le, nat_lt, List, [], ◌∷◌, drop, slice_get, Bool, cond, ◌&&◌, Option, Some, None, option_map, option_and_then}
 use Rattle.std.specs.Str.{bytes_eq}
 use Rattle.granule_addr.specs.Ipa.{is_width, widest_space}
@@ -10,13 +10,13 @@ use Rattle.host_commands.specs.declared.cmd.Cmd.{Cmd}
 use Rattle.host_commands.specs.declared.cmd.Cmd.TheVariants.{Take, Fill, Peek, Delegate, Realm, Rtt, Ripas, Data, Unknown, Rec, Activate, Enter, Exit, Poke}
 use Rattle.host_commands.specs.declared.reply.Allocated.{Allocated}
 
--- the operation that `f` makes of the granule at an index of the list, if it has one
+-- the operation, if any, that `f` gives for the granule at an index of a list
 abbrev pub of_granule : List ℕ → ℕ → (ℕ → Option Act) → Option Act
 of_granule gs place f = option_and_then f (slice_get gs place)
 
 -- ---- the numbers that an operation can have
 
--- an IPA granule of the widest address space
+-- the number is an IPA granule of the widest address space
 abbrev pub is_ipa : ℕ → Bool
 is_ipa ipa = nat_lt ipa widest_space
 
@@ -26,7 +26,8 @@ is_level level = nat_le 1 level && nat_le level 3
 abbrev pub act_if : Bool → Act → Option Act
 act_if fits act = cond fits (Some act) None
 
--- The starting tables of a realm of that width, if realms may have it and the granules are adjacent, in sequence.
+-- The starting tables for an IPA width, if the width is valid and the given granules are adjacent, in sequence, and as
+-- many as the width needs.
 abbrev pub root_of : ℕ → List ℕ → Option Root
 root_of width [] = None
 root_of width (first ∷ rest) =
@@ -35,14 +36,15 @@ root_of width (first ∷ rest) =
 
 -- ---- the operation
 
--- The operation of a command, with the granules of its operands and with what was allocated for it.
+-- The operation, if any, that a command asks for, given the granules of its pages and the values that were allocated
+-- for it.
 --
 -- There is no operation if a number of the command can be in none. That is an IPA granule outside the widest address
 -- space, a level that no table has, a width that no realm has, or starting tables that are not adjacent. Each of these
 -- fails an input check of the command. Input checks come before all others and have one answer, so the command is
 -- refused with RMI_ERROR_INPUT, whatever else is wrong. RMM 1.0, RMI command conditions.
 --
--- A Take has no operation either: it is no command of the RMM, and the store chooses its block.
+-- A Take has no operation either: it is not a command of the RMM, and the store chooses its block.
 unfoldable pub act_of : Cmd → List ℕ → Allocated → Option Act
 act_of (Take order) gs allocated = None
 act_of (Fill page value) gs allocated = of_granule gs 0 (λ g. Some (acts.Fill g value))

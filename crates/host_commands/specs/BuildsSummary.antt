@@ -1,8 +1,9 @@
 -- The view of a host's builds that the checks of a command need.
 use Rattle.std.specs.Prelude.{◌≡◌, ℕ, List, map, Bool, Option, Some, slice_get}
 
--- The number of builds. For each build, whether it is in abort, its pages, whether it has a realm, the number of its
--- open operations, and the room that it has left. And whether a VMID is free.
+-- The data of a host that the checks of a command need. It has the number of builds, and whether a VMID is free. For
+-- each build it has: whether the build is in abort, its pages, whether it has a realm, the number of its open
+-- operations, and its room left.
 pub record BuildsSummary : Type 0 where
   pub builds : ℕ
   pub aborting : ℕ → Bool
@@ -12,10 +13,10 @@ pub record BuildsSummary : Type 0 where
   pub room_left : ℕ → ℕ
   pub vmid : Bool
 
--- the granule of a build's page
+-- the granule of a build's page, if the build has the page
 abbrev pub granule_of_page : BuildsSummary → ℕ → ℕ → Option ℕ
 granule_of_page view build page = slice_get (view.pages build) page
 
--- the build has each of these pages, and these are their granules, in sequence
+-- the build has each of the given pages, and the granules are those of the pages, in sequence
 abbrev pub AreGranulesOf : BuildsSummary → ℕ → List ℕ → List ℕ → Type 0
 AreGranulesOf view build pages granules = map (granule_of_page view build) pages ≡ map (λ granule. Some granule) granules

@@ -1,5 +1,5 @@
--- The checks of a command that the host performs before it asks the page store or the RMM. One list serves all
--- commands, by their needs.
+-- The checks that the host makes of a command before it asks the page store or the RMM. One list serves all commands,
+-- by their needs.
 use Rattle.std.specs.Prelude.{ℕ, nat_lt, nat_le, List, [], ◌∷◌, ◌++◌, map, Bool, true, false, not, cond, Option, Some, None, is_none, Result, Ok, Err}
 use Rattle.host_commands.specs.declared.cmd.Cmd.{Cmd}
 use Rattle.host_commands.specs.declared.cmd.Cmd.TheVariants.{Take}
@@ -11,7 +11,7 @@ use Rattle.host_commands.specs.declared.refusal.Refusal.TheVariants.{NoBuild, Ab
 use Rattle.host_commands.specs.BuildsSummary.{BuildsSummary, granule_of_page, AreGranulesOf}
 use Rattle.host_commands.specs.Needs.{operands, needs_of}
 
--- whether a refusal holds, and the refusal
+-- a check: whether the condition of a refusal holds, and the refusal
 abbrev pub Check : Type 0
 Check = Bool × Refusal
 
@@ -26,17 +26,17 @@ abbrev pub order_checks : Cmd → List Check
 order_checks (Take order) = (nat_lt 9 order, BadOrder) ∷ []
 order_checks _ = []
 
--- refusal 4: the build does not have the page
+-- for each of the given pages, refusal 4: the build does not have the page
 abbrev pub page_checks : BuildsSummary → ℕ → List ℕ → List Check
 page_checks view build pages = map (λ page. (is_none (granule_of_page view build page), NotLeased page)) pages
 
--- refusals 5 and 6: the build must have no realm and has one, or must have one and has none
+-- refusals 5 and 6: the build must have no realm but has one, or must have one but has none
 abbrev pub realm_checks : BuildsSummary → ℕ → RealmRequirement → List Check
 realm_checks view build Either = []
 realm_checks view build NoneOf = (view.realm build, RealmThere) ∷ []
 realm_checks view build ARealm = (not (view.realm build), NoRealm) ∷ []
 
--- refusal 9: an operation would stay open, and the build has 512 or more open
+-- refusal 9: the command's operation would stay open, and the build already has 512 or more open operations
 abbrev pub journal_checks : BuildsSummary → ℕ → Bool → List Check
 journal_checks view build true = (nat_le 512 (view.opened build), JournalFull) ∷ []
 journal_checks view build false = []
@@ -52,13 +52,13 @@ vmid_checks view false = []
 
 -- ---- the checks of a command
 
--- refusals 5, 6, 9, 10 and 12: the realm, the open operations, the room and the VMID
+-- the checks of the realm, the open operations, the room and the VMID: refusals 5, 6, 9, 10 and 12
 unfoldable pub state_checks : BuildsSummary → ℕ → Needs → List Check
 state_checks view build needs =
     realm_checks view build needs.realm ++ (journal_checks view build needs.paired ++ (room_checks view build needs.room ++ vmid_checks view needs.vmid))
 
--- The checks that apply to a command, in the order of their numbers. 7 and 8 apply to no command. After these a Take
--- has 11, which the store decides, and every other command 13, which the RMM decides.
+-- The checks that apply to a command, in the order of their refusals' numbers. Refusals 7 and 8 apply to no command.
+-- After these checks a Take has refusal 11, which the store decides, and every other command 13, which the RMM decides.
 unfoldable pub checks_of : BuildsSummary → ℕ → Cmd → List Check
 checks_of view build cmd =
     build_checks view build ++ (order_checks cmd ++ (page_checks view build (operands cmd) ++ state_checks view build (needs_of cmd)))
@@ -67,10 +67,10 @@ abbrev pub first_that_holds : List Check → Option Refusal
 first_that_holds [] = None
 first_that_holds (check ∷ checks) = cond check.0 (Some check.1) (first_that_holds checks)
 
--- the first check that holds refuses
+-- the refusal of the first check whose condition holds, or success if none holds
 abbrev pub checked : List Check → Result (Unit {0}) Refusal
 checked checks = elim (first_that_holds checks) [ Some refusal ↦ Err refusal | None ↦ Ok tt ]
 
--- the granules are those of the pages that a command names
+-- the build has each page that the command names, and the granules are those of these pages, in sequence
 abbrev pub AreFound : BuildsSummary → ℕ → Cmd → List ℕ → Type 0
 AreFound view build cmd granules = AreGranulesOf view build (operands cmd) granules

@@ -1,4 +1,4 @@
--- The statements of the theorems on a command's operation: its granules, its agreement with the machine, its outcome
+-- The statements of the theorems about a command's operation: its granules, its agreement with the machine, its outcome
 -- and its input errors.
 use Rattle.std.specs.Prelude.{◌≡◌, ◌==◌, ℕ, List, length, slice_index, true, false, Option, Some, None, Err}
 use Rattle.std.specs.List.{All}
@@ -19,8 +19,8 @@ use Rattle.host_commands.specs.declared.reply.Allocated.{Allocated}
 use Rattle.host_commands.specs.Needs.{operands, needs_of}
 use Rattle.host_commands.specs.Acts.{act_of}
 
--- The operation is a forward command of the RMM, names the granules, is paired if its command is, and takes the room
--- that its command needs.
+-- The operation is a command of the RMM, and not a reverse. It names the granules, has a reverse if the table of
+-- commands says so, and takes the room that the table says.
 pub record IsOfCommand (cmd : Cmd) (granules : List ℕ) (act : Act) : Type 0 where
   pub command : is_command act ≡ true
   pub forward : is_reverse act ≡ false
@@ -28,14 +28,15 @@ pub record IsOfCommand (cmd : Cmd) (granules : List ℕ) (act : Act) : Type 0 wh
   pub paired : is_paired act ≡ (needs_of cmd).paired
   pub room : room_taken act ≡ (needs_of cmd).room
 
--- if there are as many granules as operands, the command's operation has the properties of `IsOfCommand`
+-- if there are as many granules as operands, the operation that the command asks for has the properties of
+-- `IsOfCommand`
 abbrev pub ActIsOfCommand : Cmd → List ℕ → Allocated → Act → Type 0
 ActIsOfCommand cmd granules allocated act = length granules ≡ length (operands cmd) → act_of cmd granules allocated ≡ Some act → IsOfCommand cmd granules act
 
 -- ---- the machine
 
--- The values allocated for a command agree with the realm of its build and with the granules that it names. The byte of
--- a Peek is that of the page, a Realm is the build's first, and the number of a Rec is the realm's next.
+-- The values allocated for a command agree with the realm of its build and with the granules of its pages. The byte of
+-- a Peek is that of the page, a Realm is for a build that has no realm, and the number of a Rec is the realm's next.
 abbrev pub IsThere : Cmd → Allocated → Option Seen → List Seen → Type 0
 IsThere (Peek page offset) allocated realm cells = All (λ (g : Seen). slice_index g.cell.bytes offset ≡ allocated.byte) cells
 IsThere (Realm rd root width) allocated realm cells = realm ≡ None
@@ -48,13 +49,13 @@ ActFits cmd granules allocated act realm cells = act_of cmd granules allocated �
 
 -- ---- the outcome of a command
 
--- The outcome of the RMM's command that a command asks for: the outcome of its operation, and an input error if its
--- numbers can be in no operation.
+-- The outcome of the RMM command that a build's command asks for: the outcome of its operation, or an input error if it
+-- has no operation.
 abbrev pub outcome_of_act : Limits → List ℕ → Option Act → Option Seen → List Seen → Outcome
 outcome_of_act limits used None realm cells = Err error_input
 outcome_of_act limits used (Some act) realm cells = outcome_of limits.vmids limits.aux used act realm cells
 
--- The outcome does not depend on the byte or the number that was allocated.
+-- The outcome of a command does not depend on the byte or the REC number that was allocated for it.
 abbrev pub OutcomeIsOfAnyAllocation : Limits → List ℕ → Cmd → List ℕ → Allocated → Allocated → Option Seen → List Seen → Type 0
 OutcomeIsOfAnyAllocation limits used cmd granules one other realm cells =
     one.vmid ≡ other.vmid → outcome_of_act limits used (act_of cmd granules one) realm cells ≡ outcome_of_act limits used (act_of cmd granules other) realm cells
@@ -65,7 +66,8 @@ OutcomeIsOfAnyAllocation limits used cmd granules one other realm cells =
 abbrev pub HasWidth : Seen → Type 0
 HasWidth rd = (realm : RealmRow) → rd.cell.descriptor ≡ Some realm → is_width realm.root.width ≡ true
 
--- A command of the RMM on a realm and granules, with the numbers as they are written, is refused with RMI_ERROR_INPUT.
+-- The command names no IPA granule, or the RMM refuses it with RMI_ERROR_INPUT, given this RD and these granules. Its
+-- numbers are taken as they are written.
 abbrev pub IsInputError : Cmd → Seen → List Seen → Type 0
 IsInputError (Rtt page ipa level) rd cells = on_one cells (λ g. rtt_create rd g ipa level) ≡ Err error_input
 IsInputError (Ripas ipa count) rd cells = rtt_init_ripas rd ipa count ≡ Err error_input
@@ -74,8 +76,8 @@ IsInputError (Unknown page ipa) rd cells = on_one cells (λ g. data_create_unkno
 IsInputError (Poke number ipa offset value) rd cells = guest_write rd number ipa offset value ≡ Err error_input
 IsInputError _ rd cells = Unit {0}
 
--- An IPA granule or a level that no operation can have makes the RMM refuse the command with RMI_ERROR_INPUT, whatever
--- else is wrong.
+-- If the realm's IPA width is valid, the RMM answers RMI_ERROR_INPUT to a command with an IPA granule or level that no
+-- operation can have, whatever else is wrong.
 abbrev pub NoActIsInputError : Cmd → List ℕ → Allocated → Seen → List Seen → Type 0
 NoActIsInputError cmd granules allocated rd cells =
     length granules ≡ length (operands cmd) → act_of cmd granules allocated ≡ None → HasWidth rd → IsInputError cmd rd cells

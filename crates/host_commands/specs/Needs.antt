@@ -9,8 +9,8 @@ use Rattle.host_commands.specs.declared.needs.Needs.{Needs}
 use Rattle.host_commands.specs.declared.needs.RealmRequirement.{RealmRequirement}
 use Rattle.host_commands.specs.declared.needs.RealmRequirement.TheVariants.{Either, Realm as ARealm, NoRealm}
 
--- The number of starting tables that a command of this width names: as many as a realm of that width has, and one if no
--- realm has that width.
+-- The number of starting tables that a `realm` command names for an IPA width: as many as a realm of that width has, or
+-- one if the width is invalid.
 abbrev pub tables_named : ℕ → ℕ
 tables_named width = if is_width width then start_count width else 1
 
@@ -34,8 +34,8 @@ operands (Poke number ipa offset value) = []
 abbrev pub needs_but_vmid : RealmRequirement → Bool → ℕ → Needs
 needs_but_vmid realm paired room = record { realm = realm; paired = paired; room = room; vmid = false }
 
--- The requirements of each command: whether a realm is required, whether the operation stays open, its room, and
--- whether it needs a VMID.
+-- The requirements of each command: whether its build must have a realm or none, whether its operation stays open, the
+-- room that it takes, and whether it needs a VMID.
 unfoldable pub needs_of : Cmd → Needs
 needs_of (Take order) = needs_but_vmid Either true 2
 needs_of (Fill page value) = needs_but_vmid Either false 1

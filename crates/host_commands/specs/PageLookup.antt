@@ -1,5 +1,5 @@
--- The effect of looking up some pages of a build: their granules are appended to those found, or the first missing page
--- is refused.
+-- The effect of looking up some pages of a build: their granules are appended to those found before, or the first
+-- missing page is refused.
 use Rattle.std.specs.Prelude.{◌≡◌, ℕ, ◌+◌, List, ◌++◌, length, Some, Result, Ok, Err}
 use Rattle.host_commands.specs.declared.refusal.Refusal.{Refusal}
 use Rattle.host_commands.specs.BuildsSummary.{BuildsSummary, AreGranulesOf}

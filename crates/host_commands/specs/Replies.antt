@@ -5,8 +5,8 @@ use Rattle.realm_model.specs.declared.act.Act.TheVariants.{Take, Peek, Realm, Re
 use Rattle.host_commands.specs.declared.reply.Reply.{Reply}
 use Rattle.host_commands.specs.declared.reply.Reply.TheVariants.{Done, FirstPage, Byte, Vmid, Number}
 
--- The reply to an operation of a build that has `pages` pages before it. To a Take it is the number of the first new
--- page, to a Peek the byte, to a Realm its VMID, and to a Rec its number. To any other it is that it is done.
+-- The reply to an operation of a build that had `pages` pages before the operation. To a Take it is the number of the
+-- first new page, to a Peek the byte, to a Realm its VMID, and to a Rec its number. To any other it is that it is done.
 abbrev pub reply_of : ℕ → Act → Reply
 reply_of pages (Take order first) = FirstPage pages
 reply_of pages (Peek granule offset byte) = Byte byte

@@ -1,4 +1,4 @@
-//! Converts a build's command to the operation that the command asks for.
+//! Converts a build's command to the operation that the command asks for, if there is one.
 ghost use Rattle.std.specs.Prelude.{◌≡◌, ◌≤◌, length, slice_get, drop, true, Some, None, IfSome, if◌then◌else◌};
 ghost use Rattle.realm_model.specs.Outcome.{is_in_range};
 ghost use Rattle.realm_model.specs.declared.act.Act.TheVariants as acts;
@@ -132,8 +132,8 @@ fn act_on_pages(cmd: &Cmd, granules: &[Gran], allocated: Allocated) -> Option<Ac
     }
 }
 
-/// Converts a build's command to the operation that the command asks for. `granules` are those of the command's pages,
-/// and `allocated` has the allocated values.
+/// Converts a build's command to the operation that the command asks for, if there is one. `granules` are those of the
+/// command's pages, and `allocated` has the allocated values.
 ///
 /// The result is `None` if a number of the command can be in no operation. That is an IPA granule from 2^31 on, a level
 /// outside 1 to 3, a width outside 39 to 43, or starting tables that are not adjacent granules. The command is then

@@ -68,7 +68,7 @@ pub enum Cmd {
     Enter {
         number: RecNo,
     },
-    /// Stops a running REC.
+    /// Makes a running REC exit to the host.
     Exit {
         number: RecNo,
     },

@@ -1,4 +1,4 @@
-//! Theorems on the operations that builds' commands ask for.
+//! Theorems about the operations that builds' commands ask for.
 ghost use Rattle.std.specs.Prelude.{◌≡◌, ℕ, List, Option};
 ghost use Rattle.realm_model.specs.declared.act.Act.{Act};
 ghost use Rattle.realm_model.specs.Machine.{Limits, Seen};
@@ -18,14 +18,13 @@ pub fn act_fits_what_is_there()
     ensures { (cmd : Cmd) (granules : List ℕ) (allocated : Allocated) (act : Act) (realm : Option Seen) (cells : List Seen) → ActFits cmd granules allocated act realm cells }
 {}
 
-/// Proves that the byte and REC number in `Allocated` do not affect the RMM's answer. The answer is that to the command
-/// for which they were allocated.
+/// Proves that the byte and the REC number that were allocated for a command do not affect the RMM's answer to it.
 pub fn outcome_ignores_allocation()
     ensures { (limits : Limits) (used : List ℕ) (cmd : Cmd) (granules : List ℕ) (one other : Allocated) (realm : Option Seen) (cells : List Seen) → OutcomeIsOfAnyAllocation limits used cmd granules one other realm cells }
 {}
 
-/// Proves that a command with an impossible IPA granule or level gets RMI_ERROR_INPUT. Such a granule or level can be
-/// in no operation. The RMM refuses the command so, whatever else is wrong, if the realm's IPA width is valid.
+/// Proves that the RMM answers RMI_ERROR_INPUT to a command with an IPA granule or level that no operation can have. It
+/// does so whatever else is wrong, if the realm's IPA width is valid.
 pub fn missing_act_is_an_input_error()
     ensures { (cmd : Cmd) (granules : List ℕ) (allocated : Allocated) (rd : Seen) (cells : List Seen) → NoActIsInputError cmd granules allocated rd cells }
 {}

@@ -1,4 +1,4 @@
-//! Defines and checks the commands that builds give to the host.
+//! The commands that builds give to the host, and the checks that the host makes of them.
 //!
 //! A command names pages by the build's own numbers. One table, `Needs`, has a row for each command, and one list of
 //! checks follows from it. `check_needs` returns the granules of the named pages, or the refusal with the lowest

@@ -5,8 +5,7 @@ ghost use Rattle.host_commands.specs.Needs.{needs_of, needs_but_vmid, tables_nam
 use crate::Cmd;
 use granule_addr::IpaWidth;
 
-/// A command's requirement on whether its build has a realm. The command requires that there is one, that there is
-/// none, or nothing.
+/// What a command requires of its build: that it has a realm, that it has none, or neither of these.
 #[derive(Clone, Copy)]
 pub enum RealmRequirement {
     Either,
@@ -17,7 +16,7 @@ pub enum RealmRequirement {
 /// The requirements of a command on its build and on free VMIDs. They are one row of a table of all commands.
 #[derive(Clone, Copy)]
 pub struct Needs {
-    /// The requirement on whether the build has a realm.
+    /// The requirement on the build's realm.
     pub realm: RealmRequirement,
     /// Whether an undo can reverse the command's operation. The operation then stays open, and needs an entry in the
     /// journal.

@@ -1,4 +1,4 @@
-//! Functions that find the granules of the page numbers in a command.
+//! Functions that find the granules of the pages that a command names.
 ghost use Rattle.std.specs.Prelude.{◌≡◌, ◌+◌, ◌<◌, ◌≤◌, ℕ, List, [], ◌∷◌, length, IsOk, Some, IfOk, IfErr};
 ghost use Rattle.std.specs.List.{range_with_len};
 ghost use Rattle.host_commands.specs.Needs.{operands};

@@ -1,4 +1,4 @@
-//! The reasons for which a host refuses a command or an undo, by number.
+//! The numbered reasons why a host refuses a command or an undo.
 use granule_addr::Order;
 use realm_model::Rmi;
 use thiserror::Error;

@@ -33,8 +33,8 @@ pub fn reply_of(page_count: u16, act: &Act) -> Reply
     }
 }
 
-/// The values that the host gets from the machine for a command. Each value may be anything for a command that does not
-/// use it.
+/// The values that the host allocates or reads for a command: a VMID, a REC number and a byte. Each value may be
+/// anything for a command that does not use it.
 #[derive(Clone, Copy)]
 pub struct Allocated {
     /// The lowest free VMID, for a command that creates a realm.
@@ -45,7 +45,7 @@ pub struct Allocated {
     pub byte: u8,
 }
 
-/// The host's reply when it has undone an operation of a build. `kind` is the kind of the reversed operation, and
+/// The host's reply to a successful undo of a build's operation. `kind` is the kind of the reversed operation, and
 /// `left` is the number of operations that the build has open afterwards.
 #[derive(Clone, Copy, Debug, PartialEq, Eq)]
 pub struct Undone {

@@ -1,5 +1,5 @@
--- Proofs that a binary search of a list with rising REC numbers finds a REC's granule, or none if no REC has the
--- number.
+-- Proofs that a binary search in a list of RECs with rising numbers finds the granule of REC `number`, or nothing if
+-- there is no such REC.
 use Rattle.std.proofs.Common.{◌≡◌, ℕ, zero, suc, ◌+◌, ◌<◌, ◌≤◌, List, [], ◌∷◌, cond, length, get_or, Some, None, refl, sym, ap, ◌∙◌, arith}
 use Rattle.std.proofs.lemmas.Bool.{eq-eqb, ne_eqb}
 use Rattle.realm_model.specs.RecsOpen.{granule_in, number_at, IsRising}

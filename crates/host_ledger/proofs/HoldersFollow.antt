@@ -1,4 +1,5 @@
--- Proofs that the table of holders equals the world's leases after one more operation of a build.
+-- Proofs that the ledger's update of the holders of granules gives the world's leases after one more operation of a
+-- build.
 use Rattle.std.proofs.Common.{◌≡◌, ℕ, ◌+◌, ◌-◌, ◌^◌, ◌<◌, ◌≤◌, List, length, Option, Some, None, sym, ap, ◌∙◌, subst, arith}
 use Rattle.std.specs.Prelude.{slice_get}
 use Rattle.std.specs.List.{All}

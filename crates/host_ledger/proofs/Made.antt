@@ -1,5 +1,5 @@
--- Proofs on the list of what a build's open operations created, such as RECs: an operation appends its own items, and
--- its reverse removes them.
+-- Proofs about the list of what a build's open operations created, such as RECs: an operation appends its own items,
+-- and its reverse removes them.
 use Rattle.std.proofs.Common.{◌≡◌, ℕ, true, false, List, [], ◌∷◌, ◌++◌, Some, sym, ap, ◌∙◌}
 use Rattle.std.specs.List.{flat_map}
 use Rattle.std.proofs.lemmas.List.{append-nil}

@@ -1,4 +1,5 @@
--- Proofs that the ledger's update of a build's RECs gives the RECs after one more operation, with rising numbers.
+-- Proofs that the ledger's update of a build's RECs gives the RECs after one more operation, and that their numbers
+-- rise.
 use Rattle.std.proofs.Common.{◌≡◌, ℕ, ◌+◌, ◌-◌, ◌<◌, ◌≤◌, ⊎_elim, List, [], ◌∷◌, ◌++◌, length, take, refl, sym, ap, ◌∙◌, subst, arith}
 use Rattle.std.specs.List.{flat_map}
 use Rattle.std.proofs.lemmas.Bool.{cases_lt}

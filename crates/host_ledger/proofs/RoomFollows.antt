@@ -1,5 +1,5 @@
--- Proofs that one more operation of a build changes its number of running RECs and its used room by that operation's
--- own amounts.
+-- Proofs that an operation adds the room that it takes to its build's used room, and that only an enter or an exit
+-- changes the number of running RECs.
 use Rattle.std.proofs.Common.{◌≡◌, ℕ, ◌+◌, Bool, true, false, cond, List, [], ◌∷◌, ◌++◌, length, Some, refl, ap, ◌∙◌, arith}
 use Rattle.std.proofs.lemmas.List.{length-append}
 use Rattle.realm_model.specs.declared.act.Act.{Act}

@@ -1,4 +1,5 @@
--- The records that a host keeps in addition to its history, as functions of the history.
+-- The records that a host keeps in addition to its history: how an operation changes them, when it can be recorded, and
+-- the invariant that ties them to the history.
 use Rattle.std.specs.Prelude.{◌≡◌, ℕ, nat_lt, ◌+◌, ◌-◌, ◌*◌, ◌^◌, ◌<◌, ◌≤◌, true, false, ◌&&◌, List, [], ◌∷◌, ◌++◌, map, take, Option, Some, None, length, slice_get, vec_capacity}
 use Rattle.std.specs.List.{All}
 use Rattle.std.specs.Global.{Vec}
@@ -32,13 +33,14 @@ new_build = record { journal = []; events = 0; realm = None; recs = []; running 
 
 -- ---- after an operation of the build
 
--- the RD of the build's realm after an operation
+-- the RD that the build's realm has after an operation, if there is a realm then
 abbrev pub rd_after : Option ℕ → Act → Option ℕ
 rd_after rd (Realm d root vmid) = Some d
 rd_after rd (UnRealm d root vmid) = None
 rd_after rd _ = rd
 
--- the build's RECs after an operation: a new one comes last, and the last one is removed first
+-- the list of the build's RECs after an operation: a created REC is added at the end, and a destroyed one is removed
+-- there
 abbrev pub recs_after : List (ℕ × ℕ) → Act → List (ℕ × ℕ)
 recs_after recs (Rec granule auxiliaries number) = recs ++ (number, granule) ∷ []
 recs_after recs (UnRec granule auxiliaries number) = take (length recs - 1) recs
@@ -50,13 +52,15 @@ running_after running (Enter number) = running + 1
 running_after running (Exit number) = running - 1
 running_after running _ = running
 
--- the build's pages after an operation: those of a taken block come last, those of a returned one are removed
+-- the build's pages after an operation: a taken block adds its pages at the end, and a returned block removes as many
+-- there
 abbrev pub pages_after : List ℕ → Act → List ℕ
 pages_after pages (Take order first) = pages ++ block order first
 pages_after pages (UnTake order first) = take (length pages - 2 ^ order) pages
 pages_after pages _ = pages
 
--- the build leaves abort once nothing is open, and its mark is dropped once fewer operations are open than at the mark
+-- the record of a build, out of abort if nothing is open, and without its mark if fewer operations are open than at the
+-- mark
 abbrev pub points_after : Build → Build
 points_after build = record build {
   aborting = build.aborting && nat_lt 0 (length build.journal);
@@ -74,7 +78,7 @@ build_after build act = points_after (record build {
 
 -- ---- the operations that can be followed
 
--- the build has capacity for a new REC, whose number is above the others', and at an exit some REC runs
+-- if the operation creates a REC, the build has fewer than 512, all with lower numbers; if it is an exit, some REC runs
 abbrev pub CanFollowRec : Build → Act → Type 0
 CanFollowRec build (Rec granule auxiliaries number) = (length build.recs < 512) × IsAbove build.recs number
 CanFollowRec build (Exit number) = 1 ≤ build.running
@@ -88,13 +92,14 @@ pub record CanFollow (build : Build) (act : Act) : Type 0 where
   pub running : build.running ≤ 16384
   pub rec : CanFollowRec build act
 
--- the stack has capacity for a taken block, which lies below granule 4096; a returned block is no larger than the stack
+-- a block to take fits the build's stack of pages and has granules below 4096; a block to give back is no larger than
+-- the stack
 abbrev pub CanFollowPages : Stacks → ℕ → Act → Type 0
 CanFollowPages leases build (Take order first) = (length (stack_of leases build) + 2 ^ order ≤ leases.room) × (first + 2 ^ order ≤ 4096)
 CanFollowPages leases build (UnTake order first) = 2 ^ order ≤ length (stack_of leases build)
 CanFollowPages leases build _ = Unit {0}
 
--- the block that is taken or given back is inside the machine
+-- if the operation takes or gives back a block, the block is inside the machine
 abbrev pub CanFollowHolders : List (Option ℕ) → Act → Type 0
 CanFollowHolders leases (Take order first) = first + 2 ^ order ≤ length leases
 CanFollowHolders leases (UnTake order first) = first + 2 ^ order ≤ length leases
@@ -102,8 +107,8 @@ CanFollowHolders leases _ = Unit {0}
 
 -- ---- the operations that can be recorded
 
--- An operation of a build can be recorded: it is in turn and a step. The build has the room that the operation takes,
--- if it takes any. If the operation has a reverse, the build can have one more operation open.
+-- An operation of a build can be recorded: its event keeps the history legal. The build has the room that the operation
+-- takes, if it takes any. If the operation has a reverse, the build can have one more operation open.
 pub record CanRecord (host : HostView) (build : ℕ) (act : Act) : Type 0 where
   pub turn : IsInTurn host.history (by build act)
   pub next : World
@@ -123,7 +128,7 @@ ledger_of builds leases vmids aux capacity history = record {
   marks = map (λ (build : Build). build.mark) builds;
 }
 
--- The record of a build agrees with its part of the history and its realm in the world.
+-- The record of a build agrees with the build's events in the history and with its realm in the world.
 pub record IsBuildOf (history : List Event) (world : World) (number : ℕ) (build : Build) : Type 0 where
   pub journal : build.journal ≡ open_entries number history
   pub events : build.events ≡ length (acts_of number history)
@@ -131,30 +136,30 @@ pub record IsBuildOf (history : List Event) (world : World) (number : ℕ) (buil
   pub recs : build.recs ≡ recs_open number history
   pub running : build.running ≡ running_count (realm_of number world)
 
--- The build has used no more than its room, and has never had more open than its journal can hold.
+-- The build has used no more than its room, and has never had more than 512 operations open.
 pub record HasRoom (host : HostView) (build : ℕ) : Type 0 where
   pub used : used host build ≤ host.capacity
   pub few_open : (n : ℕ) → length (open_entries build (take n host.history)) ≤ 512
 
--- A mark that is kept for a build is its own. Since then the build has never had fewer operations open than at the
--- mark.
+-- A mark belongs to the given build, and since it was set the build has never had fewer operations open than it had
+-- then.
 pub record IsMarkOf (host : HostView) (build : ℕ) (mark : Mark) : Type 0 where
   pub of_build : mark.build ≡ build
   pub stands : IsValidMark (point_of mark) host.history
 
--- There is a flag and a place for a mark of each build.
+-- There is an abort flag for each build, and a place for its mark.
 pub record AreOfEach (host : HostView) : Type 0 where
   pub aborts : length host.aborting ≡ host.limits.builds
   pub marks : length host.marks ≡ host.limits.builds
 
--- A build in abort has something open, and its mark is valid, if it has one.
+-- A build has something open if it is in abort, and its mark is valid if it has one.
 pub record PointsHold (host : HostView) (build : ℕ) : Type 0 where
   pub in_abort : is_aborting host build ≡ true → 0 < length (open_of host build)
   pub marked : (mark : Mark) → mark_of host build ≡ Some mark → IsMarkOf host build mark
 
--- The history is legal, and the record of each build agrees with its part of the history. Each granule is held by the
--- build that leases it, and a VMID is in use exactly when a realm has it. Memory is allocated for as many events as the
--- builds' rooms allow. A build in abort has something open, and marks are valid.
+-- The history is legal, and the record of each build agrees with the build's events and its realm. Each granule is held
+-- by the build that leases it, and a VMID is in use exactly when a realm has it. Memory is allocated for as many events
+-- as the builds' rooms allow. A build in abort has something open, and marks are valid.
 pub record IsKept (host : HostView) (builds : List Build) (leases : Stacks) (holders : List (Option ℕ)) (vmids : Vmids) (events : Vec Event) : Type 0 where
   pub legal : IsLegal host.limits host.history
   pub few_builds : host.limits.builds ≤ 8

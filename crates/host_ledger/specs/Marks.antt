@@ -3,15 +3,15 @@ use Rattle.std.specs.Prelude.{ℕ, nat_le, Bool, ◌&&◌, ◌==◌, cond, Optio
 use Rattle.host_ledger.specs.declared.mark.Mark.{Mark}
 use Rattle.realm_model.specs.Marks as marks
 
--- as a point of its build in a history
+-- a mark in the form of the model's definitions: its build, how many operations were open, and a place in the history
 abbrev pub point_of : Mark → marks.Mark
 point_of mark = record { build = mark.build; depth = mark.length; place = mark.place }
 
--- the same point of the same build
+-- two marks have the same build, the same number of open operations and the same place in the history
 abbrev pub is_same_mark : Mark → Mark → Bool
 is_same_mark a b = a.build == b.build && (a.length == b.length && a.place == b.place)
 
--- a mark is dropped if fewer operations are open than at it
+-- the mark that a build keeps while `opened` operations are open: it is dropped if they are fewer than at the mark
 abbrev pub mark_while : ℕ → Option Mark → Option Mark
 mark_while opened None = None
 mark_while opened (Some mark) = cond (nat_le mark.length opened) (Some mark) None

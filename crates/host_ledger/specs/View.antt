@@ -10,7 +10,7 @@ use Rattle.realm_model.specs.History.{replay, open_entries, pages_of}
 use Rattle.realm_model.specs.Room.{used_room}
 use Rattle.realm_model.specs.Undoing.{by}
 
--- A host's limits, its history, each build's room in it, and each build's abort flag and mark.
+-- What contracts see of a host: its limits, each build's room, the history, and each build's abort flag and mark.
 pub record HostView : Type 0 where
   pub limits : Limits
   pub capacity : ℕ
@@ -18,7 +18,7 @@ pub record HostView : Type 0 where
   pub aborting : List Bool
   pub marks : List (Option Mark)
 
--- The world of a host is the replay of its history.
+-- The world of a host: the state to which the replay of its history leads.
 unfoldable pub world_of : HostView → World
 world_of host = unwrap_or (replay host.limits host.history) (opening host.limits)
 
@@ -30,7 +30,7 @@ open_of host build = open_entries build host.history
 abbrev pub pages_of_build : HostView → ℕ → List ℕ
 pages_of_build host build = pages_of build host.history
 
--- the granule of a build's page
+-- the granule of a build's page, if the build has that page
 abbrev pub granule_of_page : HostView → ℕ → ℕ → Option ℕ
 granule_of_page host build page = slice_get (pages_of_build host build) page
 
@@ -44,17 +44,17 @@ used host build = used_room build host.history (world_of host)
 abbrev pub is_aborting : HostView → ℕ → Bool
 is_aborting host build = slice_index_or host.aborting build false
 
--- an abort begins: the build is in abort, if it has anything open
+-- the host after the abort of a build begins: the build is in abort if it has anything open
 abbrev pub begun : HostView → ℕ → HostView
 begun host build = record host { aborting = slice_set host.aborting build (nat_lt 0 (length (open_of host build))) }
 
 -- ---- marks
 
--- the mark that is kept for a build
+-- the mark that is kept for a build, if there is one
 abbrev pub mark_of : HostView → ℕ → Option Mark
 mark_of host build = slice_index_or host.marks build None
 
--- the mark that a build gets now: the number of operations it has open, and the length of the history
+-- the mark that a build gets now, with the number of operations it has open and the length of the history
 abbrev pub mark_now : HostView → ℕ → Mark
 mark_now host build = record { build = build; length = length (open_of host build); place = length host.history }
 

@@ -1,4 +1,4 @@
--- The VMIDs that a host's realms have, and the lowest VMID that no realm has.
+-- The free VMIDs of a host, the lowest of them, and the change that an operation makes to those in use.
 use Rattle.std.specs.Prelude.{◌≡◌, ℕ, Bool, true, false, Option, not, ◌&&◌, nat_le}
 use Rattle.std.specs.List.{find, range_with_len}
 use Rattle.build_journal.specs.Vmids.{Vmids, is_free, IsClaimed}
@@ -11,18 +11,19 @@ use Rattle.host_ledger.specs.View.{HostView, world_of}
 abbrev pub is_vmid_free : HostView → ℕ → Bool
 is_vmid_free host vmid = nat_le 1 vmid && nat_le vmid host.limits.vmids && not (is_vmid_used (world_of host).machine vmid)
 
--- the lowest such VMID, if there is one
+-- the lowest VMID with which a realm may be created, if there is one
 abbrev pub lowest_vmid : HostView → Option ℕ
 lowest_vmid host = find (is_vmid_free host) (range_with_len 1 host.limits.vmids)
 
 -- ---- after an operation
 
--- the VMID of a realm that is created is free
+-- if the operation creates a realm, the VMID of that realm is free
 abbrev pub CanFollowVmids : Vmids → Act → Type 0
 CanFollowVmids vmids (Realm rd root vmid) = is_free vmids vmid ≡ true
 CanFollowVmids vmids _ = Unit {0}
 
--- a realm that is created has its VMID from then on, and one that ends has it no more
+-- the VMID of a created realm comes into use, the VMID of a destroyed realm becomes free, and all others stay as they
+-- were
 abbrev pub IsVmidsAfter : Act → Vmids → Vmids → Type 0
 IsVmidsAfter (Realm rd root vmid) old new = IsClaimed old new vmid true
 IsVmidsAfter (UnRealm rd root vmid) old new = IsClaimed old new vmid false

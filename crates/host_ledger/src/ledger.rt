@@ -188,8 +188,8 @@ impl HostLedger {
         (build.number() as usize) < self.builds.len()
     }
 
-    /// Returns how many of its reserved history entries a build uses. It is one entry for each of the build's events,
-    /// one for each of its open operations, and one for each of its running RECs.
+    /// Returns the room that a build has used, in entries of the history. It is one entry for each of the build's
+    /// events, one for each of its open operations, and one for each of its running RECs.
     pub fn used(&self, build: BuildId) -> u16
         requires { build < self.now.limits.builds }
         ensures value { result ≡ used self.now build }
@@ -248,7 +248,7 @@ impl HostLedger {
         self.builds[build.number() as usize].realm
     }
 
-    /// Returns the granule of REC `number` in a build's realm.
+    /// Returns the granule of REC `number` in a build's realm, or `None` if there is no such REC.
     pub fn rec(&self, build: BuildId, number: RecNo) -> Option<Gran>
         requires { build < self.now.limits.builds }
         ensures { result ≡ rec_granule (realm_of build (world_of self.now)) number }
@@ -257,8 +257,8 @@ impl HostLedger {
         kept.recs.granule(number)
     }
 
-    /// Returns the RD of the build's realm, and the granule of an operation's REC. The REC is the existing one, if any,
-    /// that the operation names.
+    /// Returns the RD of the build's realm, if it has one, and the granule of the REC that an operation uses or
+    /// destroys, if that REC exists.
     pub fn place(&self, build: BuildId, act: &Act) -> RealmAndRec
         requires { build < self.now.limits.builds }
         ensures { IsPlaceOf (world_of self.now) build act.now result }
@@ -291,7 +291,7 @@ impl HostLedger {
         self.vmids.lowest_free()
     }
 
-    /// Returns the granule that is page number `page` of a build.
+    /// Returns the granule that is page number `page` of a build, if the build has that page.
     pub fn page(&self, build: BuildId, page: u16) -> Option<Gran>
         requires { build < self.now.limits.builds }
         ensures value { result ≡ granule_of_page self.now build page }

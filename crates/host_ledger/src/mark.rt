@@ -4,8 +4,8 @@ ghost use Rattle.host_ledger.specs.Marks.{is_same_mark};
 
 use granule_addr::BuildId;
 
-/// A point in the history to which a build can be rolled back. It has a number of open operations, and a position in
-/// the history.
+/// A point in the history to which a build can be rolled back. It has the build, a number of open operations, and a
+/// position in the history.
 #[derive(Clone, Copy)]
 pub struct Mark {
     pub(crate) build: BuildId,

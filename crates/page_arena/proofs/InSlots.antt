@@ -1,4 +1,5 @@
--- Proofs on pages whose bytes are in slots: writing a page, in its own slot or in a new one, changes that page alone.
+-- Proofs about pages in slots: a write to a page changes that page alone, whether the page has a slot of its own or
+-- gets a new one.
 use Rattle.std.proofs.Common.{◌≡◌, ◌≢◌, ℕ, zero, suc, ◌+◌, ◌-◌, ◌<◌, ◌≤◌, List, [], ◌∷◌, ◌++◌, length, replicate, set, get_or, refl, sym, ap, ◌∙◌, ⊎_elim, arith, length-set}
 use Rattle.std.proofs.lemmas.Bool.{cases_eq}
 use Rattle.std.proofs.lemmas.List.{length-replicate, length-map, get_or-map, get_or-replicate, get_or_append_left, get_or_at, get_or-set_same, get_or-set_other, set-get_or, ext_get_or}

@@ -1,4 +1,4 @@
--- Lemmas on a write to a list at an index: the item there is replaced, or an item is added at the end.
+-- Lemmas about a write to a list at an index, which replaces the item there or adds an item at the end.
 use Rattle.std.proofs.Common.{◌≡◌, ℕ, suc, ◌+◌, ◌<◌, List, [], ◌∷◌, ◌++◌, length, take, drop, set, sym, ap, ◌∙◌, arith}
 use Rattle.std.proofs.lemmas.List.{take_all, drop_all, set_split}
 use Rattle.page_arena.specs.Owned.{put_at}

@@ -1,4 +1,4 @@
--- The rules of the separation logic that the proofs of pointer code use.
+-- The separation logic rules that the proofs of pointer code use.
 pub use mathlib.Core.Path.{◌≡◌, refl, sym, ap, subst, ◌∙◌}
 pub use mathlib.Core.List.{List, [], ◌∷◌, ◌++◌}
 pub use Prim.Native.Nat.{ℕ, zero, suc, ◌+◌, ◌-◌, ◌*◌, ◌^◌, ◌<◌, ◌≤◌}

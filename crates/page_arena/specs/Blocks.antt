@@ -1,4 +1,5 @@
--- Theorems on takes and gives of blocks: a take makes a free block taken, and giving the block back restores the flags.
+-- Theorems about blocks that are taken and given back: a take turns a free block into a taken one, and giving it back
+-- restores the flags.
 use Rattle.std.specs.Prelude.{◌≡◌, ℕ, ◌+◌, ◌^◌, ◌<◌, ◌≤◌, ◌⊎◌, Bool, true, false, List, length}
 use Rattle.std.proofs.Common.{◌∙◌, arith}
 use Rattle.std.proofs.lemmas.Nat.{pow_pos}

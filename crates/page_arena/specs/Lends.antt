@@ -7,11 +7,11 @@ use Rattle.page_arena.specs.declared.row.Row.{Row}
 use Rattle.page_arena.specs.declared.row.Start.{Start}
 use Rattle.page_arena.specs.contracts.row.Row.{the_row}
 
--- The row begins at this start, has an item at the index, and has fewer than 2^63 items and 2^63 bytes.
+-- The row begins at this start, has an item at the index, and has fewer than 2^63 items and fewer than 2^63 bytes.
 abbrev pub HasItem : (R : RattleType) {A : Type 0} → Start R.Denot → Row R.Denot A → ℕ → Type 0
 HasItem R start row index = (start.first ≡ row.at) × (index < length row.items) × Reaches R (length row.items)
 
--- the row with other items
+-- the row with these items instead of its own
 abbrev pub with_items : {X A : Type 0} → Row X A → List X → Row X A
 with_items row items = record { mark = row.mark; at = row.at; room = row.room; items = items; alloc = row.alloc }
 

@@ -1,4 +1,4 @@
--- The pages after a mutable borrow of one of them.
+-- A mutable borrow of one page, and the pages after the borrow.
 use Rattle.std.specs.Prelude.{ℕ, List, slice_set}
 use Rattle.std.specs.Borrow.{Fml, MutBor, Array, u8, Lends}
 use Rattle.page_arena.specs.contracts.pages.RawPages.{the_row}

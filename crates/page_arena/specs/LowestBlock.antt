@@ -3,12 +3,12 @@ use Rattle.std.specs.Prelude.{ℕ, ◌+◌, ◌%◌, ◌^◌, ◌==◌, ◌&&◌
 use Rattle.std.specs.List.{find, list_all, range_with_len}
 use Rattle.page_arena.specs.Page.{is_free}
 
--- whether a free block of an order begins at a granule: it is aligned, inside the machine, and each of its granules is
--- free
+-- whether a free block of the given order begins at the given granule: it is aligned and inside the machine, and each
+-- of its granules is free
 unfoldable pub begins_free_block : List Bool → ℕ → ℕ → Bool
 begins_free_block flags order first =
     first % 2 ^ order == 0 && (nat_le (first + 2 ^ order) (length flags) && list_all (is_free flags) (range_with_len first (2 ^ order)))
 
--- the lowest free block of an order: the first granule, from 0 on, at which one begins
+-- the first granule of the lowest free block of an order, or none if no block of that order is free
 unfoldable pub lowest_block : List Bool → ℕ → Option ℕ
 lowest_block flags order = find (begins_free_block flags order) (range_with_len 0 (length flags))

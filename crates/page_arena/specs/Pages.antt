@@ -1,4 +1,4 @@
--- Theorems on the sizes of pages and page stores, which no write, take or give changes.
+-- Theorems that the sizes of pages and page stores stay the same when pages are written, taken or given back.
 use Rattle.std.specs.Prelude.{◌≡◌, ℕ, ◌+◌, ◌<◌, ◌≤◌, Bool, List, [], length, replicate, set}
 use Rattle.std.proofs.Common.{sym, ap, ◌∙◌, ⊎_elim, arith}
 use Rattle.std.proofs.lemmas.List.{length-set, length-replicate}
@@ -12,7 +12,7 @@ pub length-page_of : (value : ℕ) → length (page_of value) ≡ 4096
 unfolding page_of
 length-page_of value = length-replicate 4096 value
 
--- 1 to 4,096 pages of zeros, with a flag each, are sized
+-- 1 to 4,096 pages of zeros, with a flag for each, satisfy `IsSized`
 pub IsSized-replicate : (count : ℕ) (flag : Bool) → 1 ≤ count → count ≤ 4096 → IsSized (replicate count zero_page) (replicate count flag)
 IsSized-replicate count flag some few =
     let len = length-replicate count zero_page in

@@ -1,4 +1,5 @@
--- Theorems on a list in which a take or a give overwrites a run of elements with one value.
+-- Theorems about a list in which a run of elements is overwritten with one value, as when a block is taken or given
+-- back.
 use Rattle.std.specs.Prelude.{◌≡◌, ℕ, ◌+◌, ◌-◌, ◌<◌, ◌≤◌, ◌⊎◌, List, [], ◌∷◌, ◌++◌, length, take, drop, replicate, get_or, set}
 use Rattle.std.proofs.Common.{sym, ap, ◌∙◌, inl, inr, ⊎_elim, arith, length-append, append-nil, append_assoc, take-append-drop}
 use Rattle.std.proofs.lemmas.List.{length-drop, length-replicate, length-take-le, drop_more, set_at, replicate_more}
@@ -6,7 +7,7 @@ use Rattle.std.proofs.lemmas.List.{get_or_append_left, get_or-append_right, get_
 use Rattle.std.proofs.lemmas.Bool.{cases_lt}
 use Rattle.page_arena.specs.Block.{with_run}
 
--- an index is in a run, or below it, or above
+-- an index is inside a run, below it or above it
 pub inside_or_outside : (first count i : ℕ) → ((first ≤ i) × (i < first + count)) ⊎ ((i < first) ⊎ (first + count ≤ i))
 inside_or_outside first count i =
     ⊎_elim (λ below. inr (inl below)) (λ low. ⊎_elim (λ high. inl (low, high)) (λ above. inr (inr above)) (cases_lt i (first + count))) (cases_lt i first)
@@ -18,7 +19,7 @@ with_run_none xs first x =
     let same : first + 0 ≡ first = omega arith in
     rw (same, append-nil) (take-append-drop first xs)
 
--- setting the item after a run makes the run longer by one
+-- setting the item after a run to the run's value makes the run longer by one
 pub with_run_more : {X : Type 0} (xs : List X) (first count : ℕ) (x : X) → first + count < length xs → set (with_run xs first count x) (first + count) x ≡ with_run xs first (count + 1) x
 unfolding with_run
 with_run_more xs first count x within =
@@ -74,7 +75,7 @@ module _ {X : Type 0} (xs : List X) (first count : ℕ) (x : X) (fits : first + 
       (λ h. get_or-with_run_outside i d h)
       (inside_or_outside first count i))
 
--- if a run is overwritten twice, only the second time counts
+-- if a run is overwritten twice, only the second value counts
 pub with_run-with_run : {X : Type 0} (xs : List X) (first count : ℕ) (x y : X) → first + count ≤ length xs → with_run (with_run xs first count y) first count x ≡ with_run xs first count x
 with_run-with_run {X} xs first count x y fits =
     let ys : List X = with_run xs first count y in

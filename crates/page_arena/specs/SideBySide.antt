@@ -1,4 +1,4 @@
--- Theorems on bytes and words that are written into a page side by side.
+-- Theorems about bytes and words that are written into a page side by side.
 use Rattle.std.specs.Prelude.{◌≡◌, ℕ, zero, suc, ◌+◌, ◌*◌, ◌<◌, ◌≤◌, List, [], ◌++◌, length, take, drop}
 use Rattle.std.specs.Int.{to_le_bytes, w64}
 use Rattle.std.proofs.Common.{refl, sym, ap, ◌∙◌, add-one, arith, append_assoc, length-append}
@@ -8,7 +8,7 @@ use Rattle.page_arena.specs.Word.{with_bytes, page_with_word, bytes_of_words}
 
 -- ---- bytes
 
--- writing bytes, and then others right after them, is writing both as one list
+-- writing bytes, and then more bytes right after them, equals writing both as one list
 pub with_bytes-append : (page xs ys : List ℕ) (at : ℕ) → at + length xs ≤ length page → with_bytes (with_bytes page at xs) (at + length xs) ys ≡ with_bytes page at (xs ++ ys)
 unfolding with_bytes
 with_bytes-append page xs ys at fits =
@@ -29,7 +29,7 @@ with_bytes-none page at =
     ∙ ap (λ (n : ℕ). take at page ++ drop n page) (omega arith)
     ∙ take-append-drop at page
 
--- writing 4,096 bytes at the start of a page replaces it
+-- writing 4,096 bytes at the start of a page replaces the whole page
 pub with_bytes-whole : (page bytes : List ℕ) → length page ≡ 4096 → length bytes ≡ 4096 → with_bytes page 0 bytes ≡ bytes
 unfolding with_bytes
 with_bytes-whole page bytes whole all =
@@ -37,6 +37,7 @@ with_bytes-whole page bytes whole all =
 
 -- ---- words
 
+-- `count` words of 64 bits take 8 * `count` bytes
 pub length-bytes_of_words : (count : ℕ) (f : ℕ → ℕ) → length (bytes_of_words count f) ≡ 8 * count
 unfolding bytes_of_words
 length-bytes_of_words zero f = refl
@@ -44,7 +45,7 @@ length-bytes_of_words (suc count) f =
     length-append (bytes_of_words count f) (to_le_bytes w64 (f count))
     ∙ (let before = length-bytes_of_words count f in let eight : length (to_le_bytes w64 (f count)) ≡ 8 = refl in omega arith)
 
--- writing the next word after the first `count` words is writing the first `count + 1`
+-- writing one more word after the first `count` words equals writing the first `count + 1` words
 pub bytes_of_words-more : (page : List ℕ) (count : ℕ) (f : ℕ → ℕ) → length page ≡ 4096 → count < 512
     → page_with_word (with_bytes page 0 (bytes_of_words count f)) count (f count) ≡ with_bytes page 0 (bytes_of_words (count + 1) f)
 unfolding page_with_word bytes_of_words
@@ -56,7 +57,7 @@ bytes_of_words-more page count f whole few =
     ∙ with_bytes-append page before (to_le_bytes w64 (f count)) 0 (omega arith)
     ∙ ap (λ (n : ℕ). with_bytes page 0 (bytes_of_words n f)) (sym (add-one count))
 
--- writing 512 words at the start of a page replaces it
+-- writing 512 words at the start of a page replaces the whole page
 pub bytes_of_words-all : (page : List ℕ) (f : ℕ → ℕ) → length page ≡ 4096 → with_bytes page 0 (bytes_of_words 512 f) ≡ bytes_of_words 512 f
 bytes_of_words-all page f whole =
     with_bytes-whole page (bytes_of_words 512 f) whole (length-bytes_of_words 512 f)

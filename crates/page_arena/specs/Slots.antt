@@ -1,8 +1,8 @@
--- The slot of memory that holds each page's bytes. Pages without a slot of their own share slot 0.
+-- For each page, the slot of memory that holds the page's bytes. Pages without a slot of their own share slot 0.
 use Rattle.std.specs.Prelude.{◌≡◌, ◌≢◌, ℕ, zero, suc, ◌<◌, List, [], ◌∷◌, length, map, get_or}
 use Rattle.granule_addr.specs.Page.{zero_page}
 
--- the pages, if `items` are the bytes of each slot
+-- the bytes of each page, where `slots` gives the slot of each page, and `items` the bytes of each slot
 unfoldable pub pages_in : List (List ℕ) → List ℕ → List (List ℕ)
 pages_in items slots = map (λ slot. get_or items slot zero_page) slots
 
@@ -12,7 +12,8 @@ owners [] = 0
 owners (zero ∷ slots) = owners slots
 owners (suc _ ∷ slots) = suc (owners slots)
 
--- `used` slots are used: slot 0, which all pages without their own share, and one for each page that has its own.
+-- The first `used` slots are in use: slot 0, which all pages without a slot of their own share, and one slot for each
+-- other page.
 pub record IsSlots (slots : List ℕ) (used : ℕ) : Type 0 where
   pub below : (page : ℕ) → page < length slots → get_or slots page 0 < used
   pub apart : (page other : ℕ) → page < length slots → other < length slots → page ≢ other → get_or slots page 0 ≡ get_or slots other 0 → get_or slots page 0 ≡ 0

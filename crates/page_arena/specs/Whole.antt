@@ -1,10 +1,10 @@
--- The invariant of the pages of a machine, whose slots are in one allocation.
+-- The invariant of a machine's pages, which are kept in the slots of one allocation.
 use Rattle.std.specs.Prelude.{◌≡◌, ℕ, ◌+◌, ◌≤◌, List, length, get_or}
 use Rattle.granule_addr.specs.Page.{zero_page}
 use denote.RawPtr.{Ptr}
 
--- The row begins at its start, was allocated by this allocator, has capacity for one slot more than there are pages,
--- and has the slots that are used. The first of them has zeros.
+-- The row begins at `first`, was allocated by `alloc`, has capacity for one slot more than there are pages, and holds
+-- the used slots. The first of them has zeros. There are 1 to 4,096 pages.
 pub record IsWhole {A : Type 0} (first at : Ptr) (slots : List ℕ) (used room : ℕ) (items : List (List ℕ)) (alloc from : A) : Type 0 where
   pub place : at ≡ first
   pub owner : from ≡ alloc

@@ -1,17 +1,17 @@
--- The 512 words of a page, of 8 bytes each, little endian.
+-- The 512 little-endian words of a page, of 8 bytes each.
 use Rattle.std.specs.Prelude.{ℕ, zero, suc, ◌+◌, ◌*◌, ◌%◌, ◌^◌, List, [], ◌++◌, length, take, drop, slice_range, slice_set}
 use Rattle.std.specs.Int.{from_le_bytes, to_le_bytes, w64}
 use Rattle.page_arena.specs.Page.{page_at}
 
--- the page with `bytes` in place of as many of its bytes, from `at` on
+-- the page after `bytes` are written into it, from the offset `at` on
 unfoldable pub with_bytes : List ℕ → ℕ → List ℕ → List ℕ
 with_bytes page at bytes = take at page ++ bytes ++ drop (at + length bytes) page
 
--- a page's word i
+-- word i of a page
 unfoldable pub word_of_page : List ℕ → ℕ → ℕ
 word_of_page page i = from_le_bytes w64 (slice_range page (8 * i) (8 * i + 8))
 
--- a page with a word in place of its word i
+-- the page after its word i is overwritten
 unfoldable pub page_with_word : List ℕ → ℕ → ℕ → List ℕ
 page_with_word page i word = with_bytes page (8 * i) (to_le_bytes w64 word)
 
@@ -19,7 +19,7 @@ page_with_word page i word = with_bytes page (8 * i) (to_le_bytes w64 word)
 abbrev pub word_at : List (List ℕ) → ℕ → ℕ → ℕ
 word_at pages granule i = word_of_page (page_at pages granule) i
 
--- the pages with a word in place of word i of a granule's page
+-- the pages after word i of a granule's page is overwritten
 abbrev pub with_word : List (List ℕ) → ℕ → ℕ → ℕ → List (List ℕ)
 with_word pages granule i word = slice_set pages granule (page_with_word (page_at pages granule) i word)
 
@@ -28,6 +28,6 @@ unfoldable pub bytes_of_words : ℕ → (ℕ → ℕ) → List ℕ
 bytes_of_words zero f = []
 bytes_of_words (suc count) f = bytes_of_words count f ++ to_le_bytes w64 (f count)
 
--- word k of a rising sequence: `first` and k steps, modulo 2^48, added to the kind
+-- word k of a rising sequence: `kind` plus the sum modulo 2^48 of `first` and k times `step`
 abbrev pub rising_word : ℕ → ℕ → ℕ → ℕ → ℕ
 rising_word kind first step k = kind + (first + k * step) % 2 ^ 48

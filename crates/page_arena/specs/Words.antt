@@ -1,5 +1,5 @@
--- Theorems on the 64-bit words of pages: those after a word is written, and those of a page of zeros. With these
--- theorems, no crate above depends on bytes.
+-- Theorems about the 64-bit words of a page after one of them is written, and about those of a page of zeros. With
+-- these theorems, no crate above depends on bytes.
 use Rattle.std.specs.Prelude.{◌≡◌, ◌≢◌, ℕ, ◌+◌, ◌-◌, ◌*◌, ◌^◌, ◌<◌, ◌≤◌, ◌⊎◌, List, [], ◌++◌, length, take, drop, replicate, get_or, slice_range}
 use Rattle.std.specs.Int.{from_le_bytes, to_le_bytes, w64}
 use Rattle.std.proofs.Common.{refl, sym, ap, ◌∙◌, inl, inr, ⊎_elim, arith, length-append, append_assoc}
@@ -110,9 +110,10 @@ module _ (pages : List (List ℕ)) (granule i word : ℕ) (inside : granule < le
       (λ beside. ap (λ page. word_of_page page j) (get_or-set_other pages granule other _ [] beside))
       (cases_eq other granule)
 
--- every other page and the number of pages are as before
+-- writing a word into a page leaves every other page as it is
 pub page_at-with_word_other : (pages : List (List ℕ)) (granule i word other : ℕ) → other ≢ granule → page_at (with_word pages granule i word) other ≡ page_at pages other
 page_at-with_word_other pages granule i word other ne = get_or-set_other pages granule other _ [] ne
 
+-- writing a word does not change the number of pages
 pub length-with_word : (pages : List (List ℕ)) (granule i word : ℕ) → length (with_word pages granule i word) ≡ length pages
 length-with_word pages granule i word = length-set pages granule _

@@ -92,7 +92,7 @@ impl RawPages {
         }
     }
 
-    /// Writes the bytes of one page to another.
+    /// Copies the bytes of one page to another.
     pub fn copy(&mut self, target: usize, source: usize)
         requires target { target < length self.old }
         requires source { source < length self.old }

@@ -101,7 +101,7 @@ impl<T, A: Allocator> Row<T, A> {
         unsafe { &mut *start.first.add(index) }
     }
 
-    /// Returns references to two values of the array, the second one mutable.
+    /// Returns a reference to one value of the array, and a mutable reference to another.
     pub(crate) fn two(&mut self, start: Start<T>, read: usize, write: usize) -> (&T, &mut T)
         requires { HasItem T.row start self.old read × HasItem T.row start self.old write × (read ≢ write) }
         ensures* writes_back { sem 𝓛 (lends_item T.row A.row A.Allocator self.entry write result.1) }

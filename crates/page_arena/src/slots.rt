@@ -39,7 +39,7 @@ impl Slots {
         self.of[page] as usize
     }
 
-    /// Gives the next unused slot to a page that shares slot 0. There is a slot for each page.
+    /// Gives the next unused slot to a page that shares slot 0, and returns the slot. There is a slot for each page.
     pub(crate) fn own(&mut self, page: usize) -> usize
         requires inside { page < length self.old.of.items }
         requires shared { get_or self.old.of.items page 0 ≡ 0 }

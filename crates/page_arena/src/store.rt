@@ -1,4 +1,4 @@
-//! The trait of page stores, and the errors of building a store.
+//! The trait for page stores, and the reasons why a store cannot be created.
 ghost use Rattle.std.specs.Prelude.{◌≡◌, ◌≢◌, ℕ, ◌+◌, ◌^◌, ◌<◌, ◌≤◌, ◌↔◌, Bool, true, false, List, length, filter, Option, IsTrue, IfSome, IfNone, slice_set};
 ghost use Rattle.std.specs.Bool.{OnTrue, OnFalse};
 ghost use Rattle.granule_addr.specs.Page.{page_of, zero_page};
@@ -10,7 +10,8 @@ use granule_addr::{Gran, Order, PageOff};
 use std::alloc::AllocError;
 use thiserror::Error;
 
-/// A store of the pages of a machine. It has the 4,096 bytes of each page, and the set of free pages. RMM 1.0, Granule.
+/// The trait for stores of a machine's pages. A store has the 4,096 bytes of each page, and the set of free pages. RMM
+/// 1.0, Granule.
 ///
 /// A block of order k is 2^k pages from a multiple of 2^k on. No call takes memory, and none fails.
 pub trait PageStore {
@@ -31,7 +32,8 @@ pub trait PageStore {
     fn free_count(&self) -> u16
         ensures { result ≡ length (filter (λ flag. flag) (free_flags self.now)) };
 
-    /// Chooses and takes a free block of the given order. Returns `None` if and only if no block of the order is free.
+    /// Chooses and takes a free block of the given order, and returns the block's first granule. Returns `None` if and
+    /// only if no block of the order is free.
     fn take(&mut self, order: Order) -> Option<Gran>
         ensures first { result ≡ choice self.old order }
         ensures block { IfSome result (IsFreeBlock (free_flags self.old) order) }
@@ -79,7 +81,7 @@ pub trait PageStore {
         ensures written { page_bytes self.new ≡ with_byte (page_bytes self.old) granule offset value }
         ensures flags { free_flags self.new ≡ free_flags self.old };
 
-    /// Writes the bytes of one page to another. The source may be free.
+    /// Copies the bytes of one page to another. The source may be free.
     fn copy(&mut self, target: Gran, source: Gran)
         requires inside { target < length (page_bytes self.old) }
         requires source_inside { source < length (page_bytes self.old) }

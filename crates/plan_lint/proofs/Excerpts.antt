@@ -1,4 +1,4 @@
--- Proof that an excerpt's text is a line in two parts followed by a line of spaces and carets.
+-- Proofs that an excerpt written part by part is a line of text, followed by a line of spaces and carets.
 use Rattle.std.proofs.Common.{◌≡◌, ℕ, List, [], ◌∷◌, ◌++◌, ap, ◌∙◌, append_assoc}
 
 -- a line of spaces and carets, which is added to a text

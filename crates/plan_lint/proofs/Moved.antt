@@ -1,5 +1,5 @@
--- Lemmas on findings: sorting them, or adding an error to errors, keeps their severity and leaves their spans inside
--- the text.
+-- Lemmas on lists of findings: after sorting, or after an error is added to errors, all are still errors, or all
+-- warnings, with spans inside the text.
 use Rattle.std.proofs.Common.{List, [], ◌∷◌, ◌++◌, ◌≡◌, ℕ, length, ap, sym, ◌∙◌, subst}
 use Rattle.std.specs.Prelude.{All, Any, Ok, Err, Some, None, Result}
 use Rattle.std.specs.List.Sorted.{IsPermutation, IsNonDecreasingBy}

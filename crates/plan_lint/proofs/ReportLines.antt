@@ -1,4 +1,5 @@
--- Proof that the text of a report is the text of each finding, followed by the size if the document is a plan.
+-- Proofs that the text of a report has the text of each finding in sequence, and then the plan's size if the document
+-- is a plan.
 use Rattle.std.proofs.Common.{◌≡◌, ℕ, List, [], ◌∷◌, ◌++◌, string_bytes, Result, Ok, Err, refl, sym, ap, ◌∙◌, append_assoc}
 use Rattle.std.specs.Prelude.{is_some, is_ok}
 use Rattle.std.specs.List.{flat_map}

@@ -13,12 +13,12 @@ abbrev pub IsError : Severity → Type 0
 IsError (Error fault also) = Unit {0}
 IsError Warning = ⊥
 
--- an error whose mistake causes the fault, as its first fault or its second
+-- an error whose first or second fault is the given fault
 abbrev pub IsErrorOf : PlanFault → Severity → Type 0
 IsErrorOf fault (Error first also) = (first ≡ fault) ⊎ (also ≡ Some fault)
 IsErrorOf fault Warning = ⊥
 
--- All findings are errors, and at least one has the fault.
+-- All findings are errors, and at least one has the given fault.
 pub record AreErrors (fault : PlanFault) (findings : List Finding) : Type 0 where
   pub errors : All (λ f. IsError f.severity) findings
   pub told : Any (λ f. IsErrorOf fault f.severity) findings
@@ -26,7 +26,8 @@ pub record AreErrors (fault : PlanFault) (findings : List Finding) : Type 0 wher
 abbrev pub AreWarnings : List Finding → Type 0
 AreWarnings findings = All (λ f. f.severity ≡ Warning) findings
 
--- The findings on a plan are all warnings. Those on other bytes are all errors, and at least one has the bytes' fault.
+-- The findings on a plan are all warnings; those on other bytes are all errors, at least one of which has the bytes'
+-- fault.
 abbrev pub AreOf : Result Plan PlanFault → List Finding → Type 0
 AreOf (Ok plan) findings = AreWarnings findings
 AreOf (Err fault) findings = AreErrors fault findings

@@ -11,16 +11,17 @@ use Rattle.plan_lint.specs.declared.judging.Size.{Size}
 
 -- ---- a finding
 
+-- the word for the severity of a finding, `error` or `warning`
 abbrev pub severity_word : Severity → List ℕ
 severity_word (Error fault also) = codes "error"
 severity_word Warning = codes "warning"
 
--- the source, the line and the column, whether it is an error or a warning, and its words
+-- the first line of a finding: the source, the line and the column, the word for its severity, and the message
 abbrev pub head_line : List ℕ → ℕ → ℕ → Finding → List ℕ
 head_line source line column f =
     source ++ (58 ∷ decimal line ++ (58 ∷ decimal column ++ (codes ": " ++ (severity_word f.severity ++ (codes ": " ++ plain_line (string_bytes f.words))))))
 
--- The text of a finding: its head at some place, an excerpt of some bytes, and each note as a line.
+-- The text of a finding: a first line with a position, an excerpt, and a line for each note.
 pub record IsFindingText (source : List ℕ) (f : Finding) (text : List ℕ) : Type 0 where
   pub line : ℕ
   pub column : ℕ
@@ -28,14 +29,15 @@ pub record IsFindingText (source : List ℕ) (f : Finding) (text : List ℕ) : T
   pub is_excerpt : IsExcerpt excerpt
   pub whole : text ≡ head_line source line column f ++ (excerpt ++ flat_map (λ note. plain_line (string_bytes note)) f.notes.items)
 
--- such texts, one after the other
+-- the texts of the findings, one after the other
 abbrev pub AreFindingTexts : List ℕ → List Finding → List ℕ → Type 0
 AreFindingTexts source [] text = text ≡ []
 AreFindingTexts source (f ∷ findings) text =
     (first : List ℕ) × (rest : List ℕ) × IsFindingText source f first × AreFindingTexts source findings rest × (text ≡ first ++ rest)
 
--- ---- texts that get one more finding, or several
+-- ---- a text to which a finding is appended, or several
 
+-- the new text is the old one, followed by the text of the finding
 pub record AppendsFinding (source : List ℕ) (f : Finding) (old new : List ℕ) : Type 0 where
   pub text : List ℕ
   pub is_text : IsFindingText source f text
@@ -46,8 +48,9 @@ pub record AppendsFindings (source : List ℕ) (findings : List Finding) (old ne
   pub of_findings : AreFindingTexts source findings lines
   pub appended : new ≡ old ++ lines
 
--- ---- a size
+-- ---- the size of a plan
 
+-- the plural ending of a noun for a count: nothing if the count is 1, and an `s` otherwise
 abbrev pub plural : ℕ → List ℕ
 plural count = if count == 1 then [] else codes "s"
 

@@ -1,13 +1,13 @@
--- The text that shows arbitrary bytes as one line, without ASCII control characters or invalid UTF-8, and the form of
--- an excerpt.
+-- The form in which arbitrary bytes are shown as one line of text, and the form of an excerpt. The line has no ASCII
+-- control characters and no invalid UTF-8.
 use Rattle.std.specs.Prelude.{◌≡◌, ℕ, ◌==◌, ◌||◌, nat_lt, max, List, [], ◌∷◌, ◌++◌, map, replicate, if◌then◌else◌}
 use Rattle.std.specs.Str.Lossy.{utf8_lossy}
 
--- a space for an ASCII control character
+-- the byte as it is shown: a space in place of an ASCII control character
 abbrev pub shown_byte : ℕ → ℕ
 shown_byte byte = if nat_lt byte 32 || byte == 127 then 32 else byte
 
--- the bytes without ASCII control characters, and with U+FFFD for invalid UTF-8
+-- the bytes as text, with a space for each ASCII control character, and with U+FFFD for invalid UTF-8
 abbrev pub plain_text : List ℕ → List ℕ
 plain_text bytes = utf8_lossy (map shown_byte bytes)
 
@@ -16,11 +16,12 @@ plain_line bytes = plain_text bytes ++ 10 ∷ []
 
 -- ---- an excerpt
 
+-- a line of `before` spaces followed by `count` carets
 abbrev pub caret_line : ℕ → ℕ → List ℕ
 caret_line before count = replicate before 32 ++ (replicate count 94 ++ 10 ∷ [])
 
--- Some bytes as one line of text, and below it a caret for each marked character, at least one. Which bytes these are,
--- and which are marked, is in no definition.
+-- An excerpt: some bytes as one line of text, and below it a caret for each marked character, or one caret if none is
+-- marked. Which bytes these are, and which are marked, is in no definition.
 pub record IsExcerpt (text : List ℕ) : Type 0 where
   pub front : List ℕ
   pub back : List ℕ

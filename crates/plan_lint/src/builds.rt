@@ -6,7 +6,7 @@ use crate::outline::{Build, Content, Outline, Value};
 use crate::step_text::{InvalidStep, report_invalid_step};
 use realm_plan::{MOST_BUILDS, MOST_STEPS, PlanFault, step_from_text};
 
-/// Returns the number of builds of a plan. It is `None` if `build` is missing or not an array.
+/// Returns the number of builds of a plan, or `None` if `build` is missing or not an array.
 pub(crate) fn count_of_builds(outline: &Outline) -> Option<usize> {
     match outline.value("build") {
         Some(value) if !value.is_array() => None,

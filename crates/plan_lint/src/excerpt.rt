@@ -8,7 +8,8 @@ use std::alloc::{AllocError, Global};
 /// caret, and the second begins above it.
 const MOST: usize = 80;
 
-/// The number of bytes kept of an excerpt's side that has more than `MOST` bytes. Two dots replace the other bytes.
+/// The number of bytes that an excerpt shows on a side that has more than `MOST` bytes. Two dots replace the other
+/// bytes.
 const LESS: usize = 78;
 
 /// A position in a text. The line and the column are counted from 1.
@@ -34,7 +35,7 @@ fn begins_char(byte: u8) -> bool {
     byte < 128 || byte >= 192
 }
 
-/// Returns the position after the first `at` bytes of a text, counted on from the earlier position `from`.
+/// Returns the position after the first `at` bytes of a text, by counting on from the earlier position `from`.
 pub(crate) fn place_at(text: &[u8], from: Cursor, at: usize) -> Cursor {
     let mut place = from;
     for byte in text.get(from.at..at).unwrap_or(&[]) {
@@ -116,7 +117,7 @@ fn shown_len(alloc: Global, bytes: &[u8]) -> Result<usize, AllocError> {
     Ok(char_count(shown.as_str()))
 }
 
-/// Appends the bytes as one line of text, with a line feed.
+/// Appends the bytes as one line of text, followed by a line feed.
 pub(crate) fn push_line(alloc: Global, text: &mut String, bytes: &[u8]) -> Result<(), AllocError>
     ensures { OnOk result (string_bytes text.new ≡ string_bytes text.old ++ plain_line bytes.now) }
 {

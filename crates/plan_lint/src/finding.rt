@@ -25,11 +25,11 @@ pub enum Severity {
     /// A mistake that keeps a document from being a valid plan. The values are the fault of the mistake, and a second
     /// fault if the mistake causes two.
     Error(PlanFault, Option<PlanFault>),
-    /// A likely slip in a plan.
+    /// A likely mistake in a plan, which is valid all the same.
     Warning,
 }
 
-/// A mistake or a likely slip in a document, with its span in the text.
+/// An error in a document, or a likely mistake in a valid plan, with its span in the text.
 pub struct Finding {
     pub severity: Severity,
     pub span: Span,
@@ -143,7 +143,8 @@ impl Findings {
         }
     }
 
-    /// Returns the name that a misspelled word probably means, if any.
+    /// Returns the one of `names` that a misspelled word probably means, or `None` if none is near. If an allocation
+    /// fails, that is noted, and the result is `None`.
     pub(crate) fn nearest(&mut self, names: &[&'static str], word: &str) -> Option<&'static str> {
         let Ok(near) = nearest(self.alloc, names, word) else {
             self.has_failed = true;

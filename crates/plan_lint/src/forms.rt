@@ -16,7 +16,7 @@ pub enum OperandKind {
 }
 
 impl OperandKind {
-    /// Returns the name that messages give to the operand's kind, and the greatest value of the kind.
+    /// Returns what messages call an operand of this kind, and the greatest value that it can have.
     pub(crate) fn limits(self) -> (&'static str, u64) {
         match self {
             OperandKind::Order => ("the order of a block", 255),
@@ -106,7 +106,7 @@ fn forms() -> &'static [Form; 18] {
     &FORMS
 }
 
-/// Returns the word that a misspelled first word of a step probably means, if any.
+/// Returns the word of a step that the misspelled `word` probably means, or `None` if no step's word is near.
 pub(crate) fn nearest_step(word: &str, found: &mut Findings) -> Option<&'static str> {
     let mut words = [""; 18];
     for (place, form) in forms().iter().enumerate() {
@@ -115,7 +115,7 @@ pub(crate) fn nearest_step(word: &str, found: &mut Findings) -> Option<&'static 
     found.nearest(&words, word)
 }
 
-/// Finds the syntax of a step by the step's first word. The result is `None` if no step has that word.
+/// Returns the syntax of the step with the given first word, or `None` if no step has that word.
 pub(crate) fn form_of(word: &str) -> Option<Form> {
     for form in forms() {
         if form.word == word {
@@ -125,7 +125,8 @@ pub(crate) fn form_of(word: &str) -> Option<Form> {
     None
 }
 
-/// Finds a step's first word by the name that the step's command has in the RMI, in a trace or in a history.
+/// Returns the word of the step whose command has the given name in the RMI, in traces or in histories, or `None` if
+/// there is none.
 pub(crate) fn step_of_command(name: &str) -> Option<&'static str> {
     for form in forms() {
         if form.has_name(name) {

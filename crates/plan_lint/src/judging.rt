@@ -1,4 +1,4 @@
-//! The judgment of a document: its errors, or its likely slips if it is a plan.
+//! The judgment of a document: its errors, or its likely mistakes if it is a valid plan.
 ghost use Rattle.std.specs.Prelude.{◌≡◌, ◌≤◌, ℕ, true, map, sum_by, All, Any, IfOk, length, vec_len};
 ghost use Rattle.std.specs.List.Sorted.{IsPermutation, IsNonDecreasingBy};
 ghost use Rattle.realm_plan.specs.PlanView.{plan_view};
@@ -151,7 +151,7 @@ fn all_warnings(alloc: Global, found: Vec<Finding>, end: usize) -> Result<Vec<Fi
     Ok(warnings)
 }
 
-// The likely slips of a plan.
+// The likely mistakes in a valid plan, as warnings.
 fn warnings_of(alloc: Global, bytes: &[u8], plan: &Plan) -> Result<Vec<Finding>, AllocError>
     ensures warnings { IfOk result (λ v. AreWarnings v.items) }
     ensures inside { IfOk result (λ v. AreInside (length bytes.now) v.items) }
@@ -168,8 +168,8 @@ fn in_order(mut found: Vec<Finding>) -> Result<Vec<Finding>, AllocError>
     Ok(found)
 }
 
-/// Returns the errors in a document, or the likely slips if it is a plan. If the document is a plan, the result also
-/// has the size of the plan. The one error is that allocation failed.
+/// Returns the errors in a document, or the likely mistakes if it is a valid plan. If it is one, the result also has
+/// the size of the plan. The one error is that allocation failed.
 pub fn judge(alloc: Global, bytes: &[u8]) -> Result<Judged, AllocError>
     ensures { IfOk result (IsJudged bytes.now) }
 {

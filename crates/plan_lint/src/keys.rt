@@ -121,7 +121,7 @@ fn is_near_steps(key: &KeyValue, found: &mut Findings) -> bool {
     found.nearest(&["steps"], key.name.as_str()).is_some()
 }
 
-/// Returns whether a key of a build that lacks `steps` was probably meant as `steps`.
+/// Returns whether some key of a build that lacks `steps` is probably a misspelled `steps`.
 pub(crate) fn means_steps(build: &Build, found: &mut Findings) -> bool {
     for key in &build.keys {
         if is_near_steps(key, found) {

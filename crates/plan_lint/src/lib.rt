@@ -1,4 +1,4 @@
-//! Findings on the text of a plan: errors, or likely slips. Each has a message and a position.
+//! Findings on the text of a plan: errors, or likely mistakes if the plan is valid. Each has a message and a position.
 //!
 //! No function reads a device or depends on a host. `realm_plan` decides whether bytes are a plan, and its fault is
 //! always among the errors. The rest of this crate finds the messages and the positions. A walk over the text finds

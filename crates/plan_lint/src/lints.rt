@@ -1,4 +1,4 @@
-//! The search for likely slips in a valid plan.
+//! The search for likely mistakes in a valid plan.
 use crate::finding::{Finding, Findings, Span};
 use crate::message_text::Piece::{self, Count, Plural, Quoted, Words};
 use crate::needs::{KnownState, MOST_ORDER, block_len};
@@ -9,7 +9,8 @@ use realm_plan::{Plan, PlanStep};
 use std::alloc::{AllocError, Global};
 use std::str::from_utf8;
 
-/// Finds the likely slips in a plan. `bytes` are the text of the plan. The one error is that allocation failed.
+/// Finds the likely mistakes in a valid plan. `bytes` are the text of the plan. The one error is that allocation
+/// failed.
 pub(crate) fn slips_in(
     alloc: Global,
     bytes: &[u8],

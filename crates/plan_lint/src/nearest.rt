@@ -2,7 +2,7 @@
 use std::alloc::{AllocError, Global};
 use strsim::osa_distance;
 
-/// The maximum length of a word for which a name is searched, in bytes.
+/// The maximum length, in bytes, of a word that is compared with names.
 const LONGEST: usize = 32;
 
 /// Returns the name that is nearest to a word, if one is near enough. A name is near enough if it differs from the word

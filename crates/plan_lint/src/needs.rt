@@ -8,7 +8,7 @@ use host_commands::{Cmd, Step};
 use realm_plan::{Plan, PlanStep};
 use std::alloc::{AllocError, Global};
 
-/// The maximum number of a build's open operations: reversible ones that are not undone yet.
+/// The maximum number of a build's open operations: reversible ones that have not been undone yet.
 const MOST_OPEN: usize = 512;
 
 /// The greatest order of a block.
@@ -22,8 +22,8 @@ pub(crate) fn block_len(order: u8) -> usize {
 /// The facts that are certain about a build's state after the steps recorded so far.
 #[derive(Drop)]
 pub struct KnownState {
-    /// A lower bound on the number of the build's reversible operations that are not undone yet. `since_mark` is the
-    /// number of those performed since the mark.
+    /// A lower bound on the number of the build's reversible operations that have not been undone yet. `since_mark` is
+    /// the number of those performed since the mark.
     open: usize,
     since_mark: usize,
     has_mark: bool,
@@ -32,7 +32,7 @@ pub struct KnownState {
     delegated: Vec<u16>,
     /// Whether a `realm` step surely succeeds once its pages are delegated.
     can_have_realm: bool,
-    /// Whether the next `take` of the build surely succeeds, and further commands can still be known to succeed. The
+    /// Whether the build's further commands can still be known to succeed. If so, its next `take` surely does. The
     /// value is `false` after an `undo`, `abort`, `back` or `enter` step, and from the start if pages, history or
     /// journal may run out.
     is_plain: bool,

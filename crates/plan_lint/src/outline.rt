@@ -3,19 +3,19 @@ use crate::finding::Span;
 use std::alloc::{AllocError, Global};
 use toml_parser::Scalar;
 
-/// Returns all keys that a plan can have.
+/// Returns the keys that a plan can have at its top level.
 pub(crate) fn plan_keys() -> &'static [&'static str] {
     &["pages", "vmids", "aux", "history", "order", "build"]
 }
 
-/// The kind of a TOML value, with its content if it is a string or scalar.
+/// The kind of a TOML value, with the content of a string, a number, a boolean or a date-time.
 pub enum Content {
     Text(String),
     Scalar(Scalar),
     Array,
     /// A table that is written inline or with dotted keys.
     Table,
-    /// A table that a header opens.
+    /// A table that a header `[KEY]` opens.
     Headed,
     /// An array of tables written with headers `[[KEY]]`.
     Tables,
@@ -31,7 +31,7 @@ impl Drop for Content {
 }
 
 impl Content {
-    /// Returns the TOML type of the value for messages, with an article: `an integer`.
+    /// Returns the TOML type of the value for messages, with an article, as in `an integer`.
     pub(crate) fn kind(&self) -> &'static str {
         match self {
             Content::Text(_) => "a string",
@@ -135,7 +135,7 @@ pub struct Outline {
     pub builds: Vec<Build>,
     /// The elements of the plan's array `order`.
     pub turns: Vec<Value>,
-    /// The keys of a plan that the text lacks.
+    /// The top-level keys that a plan can have and the text lacks.
     pub missing: Vec<&'static str>,
     /// Whether a key `pages` was found in an unknown table. Keys in an unknown inline table, and dotted keys in an
     /// unknown table, are not noted.
@@ -165,7 +165,7 @@ impl Outline {
         }
     }
 
-    /// Records which keys of a plan the text lacks.
+    /// Records which of a plan's top-level keys the text lacks.
     pub(crate) fn note_missing_keys(&mut self) -> Result<(), AllocError> {
         for name in plan_keys() {
             let has_builds = *name == "build" && !self.builds.is_empty();
@@ -176,12 +176,12 @@ impl Outline {
         Ok(())
     }
 
-    /// Returns the value of a plan's key, if the plan has it.
+    /// Returns the value of a top-level key of the plan, if the plan has the key.
     pub(crate) fn value(&self, name: &str) -> Option<&Value> {
         value_of(&self.keys, name)
     }
 
-    /// Returns whether a plan lacks a key.
+    /// Returns whether a top-level key is recorded as missing from the plan.
     pub(crate) fn lacks(&self, name: &str) -> bool {
         is_among(&self.missing, name)
     }
@@ -197,7 +197,7 @@ impl Outline {
         Span::new(start, 0)
     }
 
-    /// Returns the span of the value of a plan's key `order`. It is `start` if the text has no `order`.
+    /// Returns the span of the value of a plan's key `order`, or `start()` if the text has no `order`.
     pub(crate) fn order_span(&self) -> Span {
         match self.value("order") {
             Some(value) => value.span,
@@ -205,7 +205,7 @@ impl Outline {
         }
     }
 
-    /// Returns the span of a turn in a plan's text. It is `order_span` if there is no such turn.
+    /// Returns the span of a turn in a plan's text, or `order_span()` if there is no such turn.
     pub(crate) fn turn_span(&self, place: usize) -> Span {
         match self.turns.get(place) {
             Some(turn) => turn.span,

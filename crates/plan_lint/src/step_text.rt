@@ -8,7 +8,7 @@ use realm_plan::PlanFault;
 /// The number of bytes of a page.
 const PAGE: u64 = 4096;
 
-/// The greatest length of a number that is printed without backquotes, in bytes.
+/// The greatest length, in bytes, of a number that is printed without backquotes.
 const LONGEST: usize = 20;
 
 /// A string in a plan that is not a valid step, with the string's fault and span.

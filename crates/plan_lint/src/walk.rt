@@ -16,9 +16,9 @@ enum Part {
     Turns,
     /// The elements of the array `build`.
     Builds,
-    /// The keys of the latest build so far in the text.
+    /// The keys of the last build that the walk has reached.
     Build,
-    /// The elements of the array `steps` in the latest build so far.
+    /// The elements of the array `steps` of the last build that the walk has reached.
     Steps,
     /// A table or an array that no plan has.
     Other,
@@ -37,7 +37,7 @@ impl Part {
     }
 }
 
-/// An array or inline table whose closing bracket is not yet read.
+/// An array or inline table whose closing bracket has not been read yet.
 #[derive(Clone, Copy)]
 struct Open {
     /// The part of the text that contains the array or table. `part` is the part to which its own keys or items belong.
@@ -46,7 +46,7 @@ struct Open {
     is_table: bool,
 }
 
-/// The state of the walk through a plan's text at a position.
+/// The state of the walk through a plan's text: the text that is still to be read, and the parts found so far.
 #[derive(Drop)]
 struct Walk<'a> {
     alloc: Global,

@@ -1,4 +1,4 @@
--- Proof that each turn of an abort in a run reports correctly whether the abort is done.
+-- A proof that each turn of an abort in a run reports correctly whether the abort is done.
 use Rattle.std.proofs.Common.{◌≡◌, ◌≢◌, ℕ, zero, suc, ◌+◌, ◌-◌, ◌==◌, ◌<◌, Bool, true, false, cond, eqb, List, [], ◌∷◌, length, get_or, set, replicate, Option, Some, None, Result, Ok, Err, refl, sym, ap, ◌∙◌, subst, arith}
 use Rattle.std.specs.Prelude.{nat_lt}
 use Rattle.std.specs.Bool.{OnTrue, OnFalse}

@@ -1,4 +1,4 @@
--- Proof that hosts with the same world and the same pages of each build have the same map.
+-- A proof that hosts with the same world and the same pages of each build have the same map.
 use Rattle.std.proofs.Common.{◌≡◌, ℕ, ◌++◌, length}
 use Rattle.std.specs.Prelude.{sum, slice_index}
 use Rattle.std.specs.List.{flat_map, range_with_len}

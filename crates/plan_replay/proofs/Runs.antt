@@ -1,4 +1,5 @@
--- Proof that a run followed by one more turn is a run of the longer schedule.
+-- Proofs that a run followed by one more turn is a run of the schedule with that turn at its end, and that its text
+-- ends with the turn's text.
 use Rattle.std.proofs.Common.{◌≡◌, ℕ, Result, Ok, Err, OnErr, ◌+◌, ◌<◌, ◌≤◌, List, [], ◌∷◌, ◌++◌, length, take, get_or, refl, sym, ap, ◌∙◌, subst}
 use Rattle.std.specs.List.{flat_map}
 use Rattle.std.proofs.lemmas.List.{flat_map_more, take_all, take_more}

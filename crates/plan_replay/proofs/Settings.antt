@@ -1,4 +1,4 @@
--- Proof that a run changes neither the limits of a host nor the capacity of the host's history.
+-- A proof that a run changes neither the limits of a host nor the capacity of the host's history.
 use Rattle.std.proofs.Common.{◌≡◌, ℕ, ◌-◌, ◌==◌, Bool, true, false, List, [], ◌∷◌, Option, Some, None, Result, Ok, Err, ap, ap₂, sym, ◌∙◌}
 use Rattle.std.specs.Bool.{OnTrue, OnFalse}
 use Rattle.host_ledger.specs.View.{HostView}

@@ -1,5 +1,5 @@
--- Proof that a step's turn does not change the number of done steps in the build's cursor, which changes only when the
--- cursor moves on.
+-- A proof that no turn of a step changes the number of done steps in the build's cursor; only moving the cursor on
+-- does.
 use Rattle.std.proofs.Common.{◌≡◌, ℕ, List, length, slice_index_or, ◌<◌, ◌≤◌, ◌-◌, arith, ◌==◌, true, false, Result, Ok, Err, ap}
 use Rattle.std.specs.Bool.{OnTrue, OnFalse}
 use Rattle.std.proofs.lemmas.List.{get_or_default}

@@ -15,9 +15,9 @@ pub record HasLeftNothing (host : HostView) (build : ℕ) : Type 0 where
   pub legal_without : IsLegal host.limits (erase build host.history)
   pub no_trace : replay host.limits (erase build host.history) ≡ Some (world_of host)
 
--- The state after a turn of an abort, by its answer. The abort is done: the build has left nothing. One operation was
--- undone, and more are left: the build is in abort. The abort is refused: this was the abort's first turn, and the host
--- is as it was. There is no other answer.
+-- After a turn of an abort, the state of the run agrees with the turn's answer. The abort is done: the build has left
+-- nothing. One operation was undone, and more are left: the build is in abort. The abort is refused: this was the
+-- abort's first turn, and the host is as it was. There is no other answer.
 abbrev pub ReportsOfAbort : TurnAnswer → Position → ℕ → Position → Type 0
 ReportsOfAbort (Ended kind) from build to = HasLeftNothing to.host build
 ReportsOfAbort Nothing from build to = HasLeftNothing to.host build

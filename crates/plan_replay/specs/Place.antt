@@ -1,14 +1,15 @@
--- The cursor of a build in its plan: the first cursor, and the cursor after an answer.
+-- The cursor of a build in a plan: at the start of a run, and after the answer of each turn.
 use Rattle.std.specs.Prelude.{ℕ, ◌+◌, ◌==◌, ◌&&◌, nat_lt, Bool, true, false, if◌then◌else◌, None}
 use Rattle.plan_replay.specs.declared.answer.TurnAnswer.{TurnAnswer}
 use Rattle.plan_replay.specs.declared.answer.TurnAnswer.TheVariants.{Refused}
 use Rattle.plan_replay.specs.declared.place.PlanCursor.{PlanCursor}
 
--- no step is done, and there is no mark
+-- the cursor at the start of a run: no step is done, and there is no mark
 abbrev pub first_place : PlanCursor
 first_place = record { done = 0; left = 0; mark = None }
 
--- The step number at which a build that gives up aborts. The numbers of a plan's steps are lower.
+-- The step number of the abort that follows a refused step of a build that gives up. The numbers of a plan's steps are
+-- lower.
 abbrev pub giving_up : ℕ
 giving_up = 1025
 
@@ -16,11 +17,11 @@ abbrev pub is_refusal : TurnAnswer → Bool
 is_refusal (Refused refusal) = true
 is_refusal _ = false
 
--- A build's next step number once a step is done. A refused step of a plan that gives up leads to the abort.
+-- The number of a build's next step after step `done`. A refused step of a plan that gives up leads to the abort.
 abbrev pub number_after : Bool → Bool → ℕ → ℕ
 number_after gives_up refused done = if gives_up && (refused && nat_lt done giving_up) then giving_up else done + 1
 
--- The cursor after an answer: at the next step, unless undos of the current one are left.
+-- The cursor after an answer: it is at the next step, unless the current step has undos left.
 abbrev pub moved_on : Bool → TurnAnswer → PlanCursor → PlanCursor
 moved_on gives_up answer place =
     if place.left == 0 then record place { done = number_after gives_up (is_refusal answer) place.done } else place

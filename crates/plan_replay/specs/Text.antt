@@ -15,6 +15,6 @@ answer_text (Ended kind) = codes "done " ++ kind_word kind
 answer_text Nothing = codes "done"
 answer_text (Refused refusal) = codes "no " ++ refusal_text refusal
 
--- the build, the step as it is in the plan, and the answer
+-- the output line of a turn: the build, the step as it is in the plan, and the answer
 abbrev pub turn_line : ℕ → PlanStep → TurnAnswer → List ℕ
 turn_line build step answer = decimal build ++ (32 ∷ spelling step ++ (codes " = " ++ (answer_text answer ++ 10 ∷ [])))

@@ -20,8 +20,9 @@ use Rattle.plan_replay.specs.declared.answer.TurnAnswer.{TurnAnswer}
 use Rattle.plan_replay.specs.declared.answer.TurnAnswer.TheVariants as tells
 use Rattle.plan_replay.specs.declared.place.PlanCursor.{PlanCursor}
 
--- ---- steps of one turn: the answer is the host's
+-- ---- steps that take one turn, with the answer of the host
 
+-- the turn's answer to a command: the host's reply, or its refusal
 abbrev pub answer_of_command : Result Reply Refusal → TurnAnswer
 answer_of_command (Ok reply) = tells.Replied reply
 answer_of_command (Err refusal) = tells.Refused refusal
@@ -40,12 +41,12 @@ pub record IsUndoTurn (host : HostView) (build : ℕ) (answer : TurnAnswer) (new
   pub is_answer : IsAnswer host build call.Undo (undone result) new
   pub told : answer ≡ answer_of_undo result
 
--- the answer of a mark is its length
+-- the answer to a step `mark`: the number of operations open at the mark, or the refusal
 abbrev pub answer_of_mark : Result Mark Refusal → TurnAnswer
 answer_of_mark (Ok mark) = tells.Marked mark.length
 answer_of_mark (Err refusal) = tells.Refused refusal
 
--- the build's last mark: a mark that is refused leaves the one before
+-- the build's last mark after a step `mark`; it stays the same if the step is refused
 abbrev pub last_mark : Option Mark → Result Mark Refusal → Option Mark
 last_mark before (Ok mark) = Some mark
 last_mark before (Err refusal) = before
@@ -56,39 +57,40 @@ pub record IsMarkTurn (host : HostView) (build : ℕ) (place : PlanCursor) (answ
   pub told : answer ≡ answer_of_mark result
   pub place_is : after ≡ record place { mark = last_mark place.mark result }
 
--- ---- steps of many turns: an undo at each
+-- ---- steps that take a turn for each undo
 
--- An abort and a step back undo any number of operations, with a line for each.
+-- The step undoes any number of operations, one in each turn: it is an abort or a `back`.
 abbrev pub undoes_many : PlanStep → Bool
 undoes_many (Whole Abort) = true
 undoes_many (Whole Back) = true
 undoes_many _ = false
 
--- The answer is the kind of the operation that was undone, and whether it was the last.
+-- The answer to one of many undos: the kind of the undone operation and whether it was the last, or the refusal.
 abbrev pub answer_of_one : ℕ → Result Undone Refusal → TurnAnswer
 answer_of_one left (Ok it) = if left == 0 then tells.Ended it.kind else tells.Undone it.kind
 answer_of_one left (Err refusal) = tells.Refused refusal
 
--- nothing is left to do if an undo is refused
+-- the number of undos that are left after one undo; 0 if the undo is refused
 abbrev pub left_after : ℕ → Result Undone Refusal → ℕ
 left_after left (Ok it) = left
 left_after left (Err refusal) = 0
 
--- one undo, with `left` more to come
+-- a turn that performs one of many undos, with `left` more to come
 pub record IsOneOfMany (host : HostView) (build : ℕ) (place : PlanCursor) (left : ℕ) (answer : TurnAnswer) (new : HostView) (after : PlanCursor) : Type 0 where
   pub result : Result Undone Refusal
   pub is_answer : IsAnswer host build call.Undo (undone result) new
   pub told : answer ≡ answer_of_one left result
   pub place_is : after ≡ record place { left = left_after left result }
 
--- A turn of a step that undoes many operations: one is undone, none is left, or it is refused.
+-- A turn of a step that undoes many operations: one is undone, none is left to undo, or the turn is refused.
 abbrev pub IsTurnOfMany : Result ℕ Refusal → HostView → ℕ → PlanCursor → TurnAnswer → HostView → PlanCursor → Type 0
 IsTurnOfMany (Err refusal) host build place answer new after = (answer ≡ tells.Refused refusal) × (new ≡ host) × (after ≡ place)
 IsTurnOfMany (Ok count) host build place answer new after =
     OnTrue (count == 0) ((answer ≡ tells.Nothing) × (new ≡ host) × (after ≡ place))
     × OnFalse (count == 0) (IsOneOfMany host build place (count - 1) answer new after)
 
--- The number of operations that an abort has to undo. Its first turn begins it.
+-- The number of operations that an abort has left to undo, or its refusal, and the host once the abort has begun. The
+-- first turn of an abort begins it.
 abbrev pub IsToAbort : HostView → ℕ → PlanCursor → Result ℕ Refusal → HostView → Type 0
 IsToAbort host build place count new =
     OnTrue (place.left == 0) (IsBegun host build count new)
@@ -100,12 +102,13 @@ pub record IsAbortTurn (host : HostView) (build : ℕ) (place : PlanCursor) (ans
   pub to_undo : IsToAbort host build place count begun
   pub is_turn : IsTurnOfMany count begun build place answer new after
 
--- the number of operations above the build's last mark
+-- the number of open operations that are newer than the build's last mark, or the refusal to go back to the mark
 abbrev pub above_mark : HostView → ℕ → Option Mark → Result ℕ Refusal
 above_mark host build (Some mark) = way_back host build mark
 above_mark host build None = Err NothingToUndo
 
--- The number of operations that a way back has to undo. Its first turn asks for those above the build's last mark.
+-- The number of operations that a step `back` has left to undo, or its refusal. In the first turn, these are the open
+-- operations that are newer than the build's last mark.
 abbrev pub undos_to_go : HostView → ℕ → PlanCursor → Result ℕ Refusal
 undos_to_go host build place = if place.left == 0 then above_mark host build place.mark else Ok place.left
 

@@ -39,9 +39,9 @@ fn push_build<S: PageStore>(
     }
 }
 
-/// Appends the text of the map of a host's pages and realms. The map has the pages and the realm of each build, and the
-/// number of granules that no build leases. An `Err` means that allocation failed; the text may then have a part of the
-/// map.
+/// Appends the printed map of a host's pages and realms to a text. The map has the pages and the realm of each build,
+/// and the number of granules that no build leases. An `Err` means that allocation failed; the text may then have a
+/// part of the map.
 pub fn push_map<S: PageStore>(text: &mut String, host: &Host<S>) -> Result<(), AllocError>
     ensures { OnOk result (string_bytes text.new ≡ string_bytes text.old ++ map_text host.now) }
 {
@@ -51,7 +51,7 @@ pub fn push_map<S: PageStore>(text: &mut String, host: &Host<S>) -> Result<(), A
     push_free(text, host.free_count())
 }
 
-/// Returns the text of the map of a host's pages and realms. The map has the pages and the realm of each build, and the
+/// Returns the printed map of a host's pages and realms. The map has the pages and the realm of each build, and the
 /// number of granules that no build leases. The one error is that allocation failed.
 pub fn map_text<S: PageStore>(alloc: Global, host: &Host<S>) -> Result<String, AllocError>
     ensures { IfOk result (λ text. string_bytes text ≡ map_text host.now) }

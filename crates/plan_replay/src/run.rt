@@ -35,8 +35,8 @@ fn step_numbered<'a>(plan: &'a Plan, steps: &'a [PlanStep], number: usize) -> Op
     }
 }
 
-/// Returns the next step of a build that has done `done` steps. Returns `None` if no step is left. In a plan that gives
-/// up, an abort follows a refused step.
+/// Returns the next step of a build that has done `done` steps, or `None` if no step is left. In a plan that gives up,
+/// an abort follows a refused step.
 pub fn step_after(plan: &Plan, build: usize, done: usize) -> Option<&PlanStep>
     ensures value { option_map (λ step. step.now) result ≡ nth_step (plan_view plan.now) build done }
     ensures few { IfSome result (λ _. done ≤ giving_up) }

@@ -1,4 +1,4 @@
--- Proofs that the evaluated test `is_answer` decides whether the last turn of a schedule answers a question.
+-- Proofs that the test `is_answer` decides whether the answer to a question is yes for the last turn of a schedule.
 use Rattle.std.proofs.Common.{◌≡◌, ◌≢◌, ℕ, zero, suc, ◌+◌, ◌<◌, ◌==◌, ◌&&◌, ◌||◌, Bool, true, false, not, List, [], ◌∷◌, ◌++◌, map, length, Option, Some, None, inr, refl, sym, subst, ap, ◌∙◌, eq-eqb, ne_eqb, le-leb, zero-add, arith}
 use Rattle.std.specs.Prelude.{◌≤◌, is_some, if◌then◌else◌, slice_get, sum}
 use Rattle.std.specs.List.{list_any, range_with_len}

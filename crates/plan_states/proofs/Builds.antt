@@ -1,4 +1,4 @@
--- Proof that the logical view of a plan has as many builds as the plan has.
+-- A proof that the logical view of a plan has as many builds as the plan itself.
 use Rattle.std.proofs.Common.{◌≡◌, ℕ, length, vec_len, sym, ◌∙◌}
 use Rattle.std.proofs.lemmas.List.{length-map}
 use Rattle.realm_plan.specs.PlanView.{plan_view}

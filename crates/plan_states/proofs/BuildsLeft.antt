@@ -1,5 +1,5 @@
--- Proofs that the check of a state's edges succeeds only if they belong to exactly the builds with a step left, in
--- sequence.
+-- Proofs that the check of a state's edges succeeds only if there is exactly one edge for each build with a step left,
+-- from the lowest build on.
 use Rattle.std.proofs.Common.{◌≡◌, ℕ, ◌+◌, ◌<◌, ◌≤◌, ◌==◌, Bool, true, false, cond, List, [], ◌∷◌, ◌++◌, map, length, get_or, take, Option, Some, None, refl, sym, ap, ◌∙◌, append-nil, arith, eqb-true}
 use Rattle.std.specs.Prelude.{filter, slice_get}
 use Rattle.std.specs.Bool.{OnTrue}

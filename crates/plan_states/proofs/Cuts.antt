@@ -1,4 +1,4 @@
--- Proof that cutting a state graph after a layer keeps the layers up to it, and the next layer's states without their
+-- A proof that cutting a state graph after a layer keeps the layers up to it, and the next layer's states without their
 -- edges.
 use Rattle.std.proofs.Common.{◌≡◌, ℕ, ◌+◌, List, [], ◌∷◌, ◌++◌, map, take, get_or, Vec, Global, vec_items, sym, ap, ◌∙◌}
 use Rattle.std.specs.Prelude.{slice_index_or}

@@ -1,4 +1,4 @@
--- Lemmas on lengths of vectors: an added item adds one, and an added vector lowers the remaining capacity by its
+-- Lemmas on lengths of vectors: one more item adds one, and one more vector reduces what is left of a limit by its
 -- length.
 use Rattle.std.proofs.Common.{◌≡◌, ℕ, ◌+◌, ◌-◌, ◌≤◌, List, [], ◌∷◌, ◌++◌, Vec, Global, vec_len, length, sym, ap, ◌∙◌, arith, length-append}
 use Rattle.std.specs.Prelude.{sum_by}

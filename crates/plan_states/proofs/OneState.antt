@@ -1,4 +1,4 @@
--- Proof that two positions in runs of a plan are the same state if their snapshots are equal.
+-- A proof that two positions reached by runs of a plan are the same state if their snapshots are equal.
 use Rattle.std.proofs.Common.{◌≡◌, ℕ, ◌<◌, ◌≤◌, inl, inr, zero, suc, false, List, [], ◌∷◌, map, length, get_or, Option, Some, None, refl, sym, ap, ◌∙◌, arith}
 use Rattle.std.specs.Prelude.{option_map, IsSome}
 use Rattle.std.proofs.lemmas.Bool.{cases_lt}

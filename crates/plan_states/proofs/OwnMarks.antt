@@ -1,4 +1,4 @@
--- Proof that each rollback mark in the cursors of a run belongs to the build of its cursor.
+-- A proof that in each run of a plan the mark in a build's cursor, if there is one, is a mark of that build.
 use Rattle.std.proofs.Common.{◌≡◌, ℕ, zero, suc, ◌==◌, ◌-◌, Bool, true, false, List, [], ◌∷◌, get_or, set, replicate, Option, Some, None, Result, Ok, Err, inl, inr, sym, ap, subst}
 use Rattle.std.specs.Bool.{OnTrue, OnFalse}
 use Rattle.std.proofs.lemmas.Bool.{cases_eq}

@@ -1,4 +1,5 @@
--- Proof that all paths of a state graph are runs of the plan if the log has a turn for each edge.
+-- A proof that, if the log of turns has a turn for each edge of a state graph, all paths of the graph are runs of the
+-- plan.
 use Rattle.std.proofs.Common.{◌≡◌, ℕ, zero, suc, ◌+◌, ◌<◌, List, [], ◌∷◌, map, length, get_or, Option, Some, None, inl, inr, refl, sym, ap, ◌∙◌, subst, add-one}
 use Rattle.std.specs.Prelude.{slice_get, is_some, Vec, vec_items}
 use Rattle.std.specs.declared.alloc.Global.{Global}

@@ -1,5 +1,5 @@
--- Lemmas on list indices: a search finds an index if and only if some item passes, and the vector at an index has the
--- listed items.
+-- Lemmas on list indices: a search finds an index if and only if some item passes the test, and mapping vectors to
+-- their items keeps the indices.
 use Rattle.std.proofs.Common.{◌≡◌, ℕ, zero, suc, ◌+◌, ◌<◌, ◌||◌, Bool, true, false, cond, List, [], ◌∷◌, map, length, get_or, Vec, Global, vec_items, Some, refl, ap, ◌∙◌}
 use Rattle.std.specs.Prelude.{is_some, slice_get, slice_index_or}
 use Rattle.std.specs.List.{list_any, position, position_from}

@@ -1,5 +1,5 @@
--- Lemmas on runs from boot: one more turn extends a run, the host keeps its settings, and collected outcomes and maps
--- are those of runs.
+-- Lemmas on runs from boot: one more turn extends a run, the host keeps its settings, and all collected outcomes and
+-- maps occur in runs.
 use Rattle.std.proofs.Common.{◌≡◌, ℕ, ◌+◌, ◌<◌, ◌==◌, Bool, true, false, if◌then◌else◌, List, [], ◌∷◌, ◌++◌, length, get_or, take, All, Option, Some, None, inl, inr, refl, sym, subst, ap}
 use Rattle.std.specs.List.{flat_map}
 use Rattle.std.specs.Prelude.{string_bytes}

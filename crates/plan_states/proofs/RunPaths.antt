@@ -1,4 +1,4 @@
--- Proofs that each run along a path of a state graph is a run of the plan in the path's schedule.
+-- Proofs that each run along a path of a state graph is a run of the plan with the path's schedule.
 use Rattle.std.proofs.Common.{ℕ, List, [], ◌∷◌, map, Option, None, refl}
 use Rattle.std.specs.Prelude.{Contains}
 use Rattle.std.specs.declared.alloc.Global.{Global}

@@ -1,4 +1,5 @@
--- Proofs that the paths of a whole state graph have all schedules of the plan, each once, in ascending order.
+-- Proofs that a whole state graph's paths have all schedules of any scheduling rule that agrees with them, in ascending
+-- order, and end each build's steps in sequence.
 use Rattle.std.proofs.Common.{◌≡◌, ℕ, zero, suc, ◌+◌, ◌-◌, ◌<◌, ◌≤◌, ◌==◌, ◌&&◌, inl, inr, Bool, true, false, cond, List, [], ◌∷◌, ◌++◌, map, length, get_or, drop, All, Option, Some, None, Vec, Global, vec_items, is_some, refl, sym, ap, subst, ◌∙◌, arith, append_assoc, add-one, drop-cons, eqb-true}
 use Rattle.std.specs.Prelude.{◌⊎◌, AllPairs, Contains, count_by, filter, option_and_then, slice_get}
 use Rattle.std.specs.List.{find, list_all, range_with_len}

@@ -1,5 +1,5 @@
--- Lemmas on steps along a path: a turn ends its build's next step or none, and that step and those left after it are
--- those left before.
+-- Lemmas on the steps of a path: each turn ends its build's next step or none, and so the steps of each build end in
+-- sequence.
 use Rattle.std.proofs.Common.{◌≡◌, ℕ, suc, ◌+◌, ◌-◌, ◌<◌, ◌≤◌, ◌==◌, ◌&&◌, inl, inr, Bool, true, false, cond, List, [], ◌∷◌, ◌++◌, map, length, Option, Some, None, is_some, refl, sym, ap, subst, ◌∙◌, arith, eqb-true, eq-eqb, ne_eqb}
 use Rattle.std.specs.Prelude.{filter, fold, option_and_then, option_map, option_to_list, slice_get, unwrap_or}
 use Rattle.std.specs.List.{range_with_len}

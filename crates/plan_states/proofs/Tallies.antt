@@ -1,5 +1,5 @@
--- Lemmas on tallies of paths: each has the count and the first schedule of an outcome's paths, and is inserted by that
--- schedule.
+-- Lemmas on tallies of paths: a tally has the number of an outcome's paths and the first of their schedules, and
+-- tallies are sorted by these schedules.
 use Rattle.std.proofs.Common.{◌≡◌, ℕ, zero, suc, ◌+◌, ◌<◌, ◌≤◌, Bool, true, false, cond, List, [], ◌∷◌, ◌++◌, map, length, min, get_or, take, drop, Vec, Global, Option, Some, None, refl, sym, subst, ap, ◌∙◌, add-one, drop-cons, arith}
 use Rattle.std.specs.Prelude.{filter, option_map, slice_index_or}
 use Rattle.std.specs.List.{find, insert}

@@ -1,4 +1,4 @@
--- Proof that in a legal history, a build without open operations does not affect the printed map of pages and realms.
+-- A proof that in a legal history a build without open operations does not affect the printed map of pages and realms.
 use Rattle.std.proofs.Common.{◌≡◌, ℕ, List, [], Some, inl, inr, sym, ap, ◌∙◌}
 use Rattle.std.specs.Prelude.{unwrap_or}
 use Rattle.std.specs.List.{flat_map}

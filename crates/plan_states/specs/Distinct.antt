@@ -5,7 +5,7 @@ use Rattle.std.specs.declared.string.String.{String}
 use Rattle.plan_states.specs.declared.graph.Graph.{Graph}
 use Rattle.plan_states.specs.declared.step_end.EndOfStep.{EndOfStep}
 
--- the end at this index differs from each end before it
+-- the step outcome at this index differs from each one before it
 abbrev pub IsNewEnd : List EndOfStep → ℕ → Type 0
 IsNewEnd ends place = (before : ℕ) (d : EndOfStep) → before < place → slice_index_or ends before d ≢ slice_index_or ends place d
 
@@ -14,7 +14,7 @@ abbrev pub IsNewMap : List (String Global) → ℕ → Type 0
 IsNewMap maps place =
     (before : ℕ) (d : String Global) → before < place → string_bytes (slice_index_or maps before d) ≢ string_bytes (slice_index_or maps place d)
 
--- no two ends are the same
+-- no two step outcomes are the same
 abbrev pub AreEndsDistinct : List EndOfStep → Type 0
 AreEndsDistinct ends = (place : ℕ) → place < length ends → IsNewEnd ends place
 
@@ -22,7 +22,7 @@ AreEndsDistinct ends = (place : ℕ) → place < length ends → IsNewEnd ends p
 abbrev pub AreMapsDistinct : List (String Global) → Type 0
 AreMapsDistinct maps = (place : ℕ) → place < length maps → IsNewMap maps place
 
--- no two ends of the graph are the same, and no two maps
+-- the graph lists no step outcome twice, and no map twice
 pub record IsGraphDistinct (graph : Graph) : Type 0 where
   pub ends : AreEndsDistinct graph.ends.items
   pub maps : AreMapsDistinct graph.maps.items

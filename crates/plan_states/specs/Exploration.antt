@@ -14,12 +14,13 @@ use Rattle.plan_states.specs.declared.graph.Exploration.TheVariants as explored
 use Rattle.plan_states.specs.declared.graph.Graph.{Graph}
 use Rattle.plan_states.specs.declared.step_end.EndOfStep.{EndOfStep}
 
--- Each end is that of a step in a run of the plan, and each map is that of a whole run.
+-- Each outcome is the outcome of a step in some run of the plan, and each map is the final map of a run after which no
+-- step is left.
 pub record AreOfRuns (plan : Plan) (the_ends : List EndOfStep) (the_maps : List (String Global)) : Type 0 where
   pub ends : All (IsEndOfRun plan) the_ends
   pub maps : All (λ map. IsMapOfRun plan (string_bytes map)) the_maps
 
--- The graph's ends and maps are those of runs, and it has at most `most` states.
+-- The graph's step outcomes and maps occur in runs of the plan, and the graph has at most `most` states.
 pub record IsFound (plan : Plan) (most : ℕ) (graph : Graph) : Type 0 where
   pub of_runs : AreOfRuns plan graph.ends.items graph.maps.items
   pub states : sum_by vec_len graph.layers.items ≤ most

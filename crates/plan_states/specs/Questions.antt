@@ -15,9 +15,9 @@ use Rattle.plan_states.specs.declared.step_end.EndOfStep.{EndOfStep}
 abbrev pub pages_of_builds : HostView → List ℕ
 pages_of_builds host = map (λ build. length (pages_of_build host build)) (range_with_len 0 8)
 
--- ---- by the end of a turn's step, and the number of pages that each build holds after it
+-- ---- by the outcome of a turn's step, and the number of pages that each build holds after it
 
--- a refusal for lack of a shared resource: no block of the order is free, or no VMID
+-- a refusal for lack of a shared resource: no block of the order is free, or no VMID is free
 abbrev pub is_of_shared : Option Refusal → Bool
 is_of_shared (Some (NoBlock order)) = true
 is_of_shared (Some NoVmid) = true
@@ -32,14 +32,15 @@ abbrev pub is_other_with : ℕ → ℕ → Option ℕ → Bool
 is_other_with build other None = false
 is_other_with build other (Some pages) = not (other == build) && pages == 0
 
--- the build is another one, and holds nothing
+-- `other` is a build other than `build`, and holds no page
 abbrev pub is_other_without_pages : ℕ → List ℕ → ℕ → Bool
 is_other_without_pages build held other = is_other_with build other (slice_get held other)
 
 abbrev pub has_other_without_pages : ℕ → ℕ → List ℕ → Bool
 has_other_without_pages builds build held = list_any (is_other_without_pages build held) (range_with_len 0 builds)
 
--- a turn with this end and these page counts answers the question, in a plan of `builds` builds
+-- the answer to the question is yes for a turn with this step outcome and these page counts, in a plan of `builds`
+-- builds
 abbrev pub is_answer : ℕ → TurnQuestion → Option EndOfStep → List ℕ → Bool
 is_answer builds (Refused build step) end held = refuses_step build step end
 is_answer builds (Waiting build) end held = waits build end && has_other_without_pages builds build held
@@ -47,7 +48,7 @@ is_answer builds (Leased granules) end held = nat_le granules (sum held)
 
 -- ---- by a label
 
--- the end of that number, if there is one
+-- the step outcome with this number, if there is one
 abbrev pub end_numbered : List EndOfStep → Option ℕ → Option EndOfStep
 end_numbered ends None = None
 end_numbered ends (Some number) = slice_get ends number
@@ -56,7 +57,7 @@ abbrev pub is_answer_with : ℕ → TurnQuestion → Option EndOfStep → Option
 is_answer_with builds question end None = false
 is_answer_with builds question end (Some held) = is_answer builds question end held
 
--- the turn of the label answers the question
+-- the answer to the question is yes for the turn that the label describes
 abbrev pub is_answer_at : List EndOfStep → List (List ℕ) → ℕ → TurnQuestion → Label → Bool
 is_answer_at ends held builds question label =
     is_answer_with builds question (end_numbered ends label.end) (slice_get held label.held)

@@ -7,7 +7,7 @@ use Rattle.realm_program.specs.Replay.{opening_host}
 use Rattle.plan_states.specs.Turned.{Taken, end_of}
 use Rattle.plan_states.specs.declared.step_end.EndOfStep.{EndOfStep}
 
--- turns of these builds lead from boot to a position
+-- a run of the plan from boot, with this schedule, leads to the position
 pub record IsReached (plan : Plan) (schedule : List ℕ) (at : Position) : Type 0 where
   pub turns : List Turn
   pub are_turns : AreTurns plan schedule (start (opening_host plan)) turns at
@@ -19,7 +19,7 @@ pub record IsTurnAt (plan : Plan) (at : Position) (build : ℕ) (taken : Taken) 
   pub before : taken.before ≡ (place_of at.places build).done
   pub after : taken.after ≡ (place_of to.places build).done
 
--- in a run of the plan, a turn uses up a step with this end
+-- in a run of the plan, a turn ends a step with this outcome
 pub record IsEndOfRun (plan : Plan) (end : EndOfStep) : Type 0 where
   pub schedule : List ℕ
   pub at : Position

@@ -22,33 +22,33 @@ use Rattle.plan_states.specs.declared.step_end.EndOfStep.{EndOfStep}
 abbrev pub position_of : Running → Position
 position_of running = record { host = running.host; places = running.places }
 
--- a run of the plan leads from boot to a position of which this is a snapshot
+-- the snapshot shows the position, and a run of the plan leads from boot to that position
 pub record IsSnapshotOfRun (plan : Plan) (it : Snapshot) (at : Position) : Type 0 where
   pub schedule : List ℕ
   pub reached : IsReached plan schedule at
   pub of_host : IsOfHost at
   pub builds : AreBuildsAt at 8 it.builds.items
 
--- the snapshot with this number is of the position, which a run of the plan reaches from boot
+-- the snapshot with this number shows the position, which a run of the plan reaches from boot
 pub record IsShownBy (plan : Plan) (snapshots : List Snapshot) (number : ℕ) (at : Position) : Type 0 where
   pub it : Snapshot
   pub is_there : slice_get snapshots number ≡ Some it
   pub shown : IsSnapshotOfRun plan it at
 
--- the snapshot with this number is that of the position
+-- the snapshot with this number shows the position
 pub record IsAtSnapshot (snapshots : List Snapshot) (number : ℕ) (at : Position) : Type 0 where
   pub it : Snapshot
   pub is_there : slice_get snapshots number ≡ Some it
   pub of_host : IsOfHost at
   pub builds : AreBuildsAt at 8 it.builds.items
 
--- a snapshot with the same builds has this number
+-- the snapshot with this number agrees with the given one on all eight builds
 pub record IsSnapshotNumber (snapshots : List Snapshot) (number : ℕ) (snapshot : Snapshot) : Type 0 where
   pub it : Snapshot
   pub is_there : slice_get snapshots number ≡ Some it
   pub same : AreSameBuilds 8 it.builds.items snapshot.builds.items
 
--- a turn that fits the label leads from a position of snapshot `from` to one of snapshot `to`
+-- a turn that fits the logged label leads from a position with snapshot `from` to one with snapshot `to`
 pub record IsLogged (plan : Plan) (ends : List EndOfStep) (held : List (List ℕ)) (maps : List (String Global)) (snapshots : List Snapshot) (turn : LoggedTurn) : Type 0 where
   pub at : Position
   pub to : Position
@@ -56,7 +56,7 @@ pub record IsLogged (plan : Plan) (ends : List EndOfStep) (held : List (List ℕ
   pub labelled : IsLabelled plan ends held maps at turn.label to
   pub after : IsShownBy plan snapshots turn.to to
 
--- Snapshot 0 is that of boot, and each logged turn leads from its snapshot `from` to its `to`.
+-- Snapshot 0 shows the position at boot, and each logged turn leads from its snapshot `from` to its snapshot `to`.
 pub record IsLog (plan : Plan) (ends : List EndOfStep) (held : List (List ℕ)) (maps : List (String Global)) (log : RunLog) : Type 0 where
   pub boot : IsShownBy plan log.snapshots.items 0 (start (opening_host plan))
   pub turns : All (IsLogged plan ends held maps log.snapshots.items) log.turns.items
@@ -68,7 +68,7 @@ abbrev pub snapshot_at : List (Vec Visit Global) → ℕ → ℕ → Option ℕ
 snapshot_at visits depth state =
     option_and_then (λ (visit : Visit). visit.snapshot) (slice_get (slice_index_or (map vec_items visits) depth []) state)
 
--- a logged turn has the label, and leads from the one snapshot to the other
+-- a logged turn has the label, and leads from snapshot `from` to snapshot `to`
 pub record IsEdgeLogged (turns : List LoggedTurn) (from to : Option ℕ) (label : Label) : Type 0 where
   pub number : ℕ
   pub turn : LoggedTurn
@@ -77,7 +77,7 @@ pub record IsEdgeLogged (turns : List LoggedTurn) (from to : Option ℕ) (label 
   pub leaves : from ≡ Some turn.from
   pub leads : to ≡ Some turn.to
 
--- each edge of a state is logged as a turn between the snapshots of its two states
+-- each edge from a state is logged as a turn between the snapshots of the two states that it joins
 abbrev pub AreEdgesLogged : List LoggedTurn → List (Vec Visit Global) → ℕ → ℕ → List (Edge Label) → Type 0
 AreEdgesLogged turns visits depth state edges =
     All (λ edge. IsEdgeLogged turns (snapshot_at visits depth state) (snapshot_at visits (depth + 1) edge.to) edge.label) edges

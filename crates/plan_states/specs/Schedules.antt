@@ -1,5 +1,5 @@
--- The schedules that a rule for builds with a step left allows, and the condition that a rule agrees with a state
--- graph's paths.
+-- The schedules allowed by a rule that says which builds have a step left, and the condition that such a rule agrees
+-- with a state graph's paths.
 use Rattle.std.specs.Prelude.{◌≡◌, ◌<◌, ◌==◌, ◌&&◌, ◌+◌, ℕ, zero, suc, Bool, true, false, List, [], ◌∷◌, ◌++◌, map, filter, Contains, count_by, fold, Option, Some, None, is_some, option_to_list, slice_get, slice_index_or}
 use Rattle.std.specs.List.{find, flat_map, range_with_len}
 use Rattle.realm_plan.specs.Plan.{Plan}
@@ -12,18 +12,19 @@ use Rattle.plan_states.specs.declared.edges.Label.{Label}
 use Rattle.plan_states.specs.declared.graph.Graph.{Graph}
 use Rattle.plan_states.specs.declared.step_end.EndOfStep.{EndOfStep}
 
--- A schedule, by a rule `left` for the builds that have a step left after given turns. Each build that has a turn has a
--- step left, and no build has one in the end.
+-- The schedule is allowed after the turns `before` by the rule `left`, which says of each build whether it has a step
+-- left after given turns. Each turn is of a build that has a step left then, and no build has one in the end.
 abbrev pub IsSchedule : (List ℕ → ℕ → Bool) → List ℕ → List ℕ → Type 0
 IsSchedule left before [] = (build : ℕ) → build < 8 → left before build ≡ false
 IsSchedule left before (build ∷ schedule) = (build < 8) × (left before build ≡ true) × IsSchedule left (before ++ build ∷ []) schedule
 
--- schedules that begin with each of the builds and go on by `next`; without builds, the empty one
+-- the schedules that begin with one of the builds and continue as `next` says for that build; only the empty schedule
+-- if there are no builds
 abbrev pub by_builds : (ℕ → List (List ℕ)) → List ℕ → List (List ℕ)
 by_builds next [] = [] ∷ []
 by_builds next (build ∷ builds) = flat_map (λ b. map (λ schedule. b ∷ schedule) (next b)) (build ∷ builds)
 
--- all schedules under a rule after given turns, with at most `most` further turns; the lowest comes first
+-- all schedules that a rule allows after given turns, with at most `most` further turns, in ascending order
 abbrev pub schedules_after : (List ℕ → ℕ → Bool) → ℕ → List ℕ → List (List ℕ)
 schedules_after left zero before = by_builds (λ build. []) (filter (left before) (range_with_len 0 8))
 schedules_after left (suc most) before =
@@ -31,22 +32,22 @@ schedules_after left (suc most) before =
 
 -- ---- rules of a graph
 
--- the number of a build's steps that turns use up
+-- the number of a build's steps that end in the turns of a path
 abbrev pub used_by : Path Label → ℕ → ℕ
 used_by path build = count_by (λ edge. build == edge.label.build && is_some edge.label.end) path
 
--- The number of a build's next step after the turns of a path. In a plan that does not give up it is that of the steps
--- that they use up.
+-- The index of a build's next step after the turns of a path. In a plan whose builds do not give up, it is the number
+-- of the build's steps that end in these turns.
 abbrev pub done_by : Plan → Graph → Path Label → ℕ → ℕ
 done_by plan graph path build = fold (λ done edge. number_by plan graph.ends.items build done edge.label) 0 path
 
--- After each prefix of a path of the graph, the rule has the builds with a step left.
+-- After each initial part of a path of the graph, the rule says correctly which builds have a step left.
 abbrev pub IsRuleOf : Plan → Graph → (List ℕ → ℕ → Bool) → Type 0
 IsRuleOf plan graph left =
     (front rest : Path Label) → Contains (paths_of graph) (front ++ rest)
     → (build : ℕ) → build < 8 → left (builds_of_path front) build ≡ is_some (step_after plan build (done_by plan graph front build))
 
--- the path from a state by turns of these builds, up to the first without an edge
+-- the path that turns of the given builds take from a state, up to the first turn without an edge
 abbrev pub turns_from : List (Layer Label) → ℕ → ℕ → List ℕ → Path Label
 turns_from layers depth state [] = []
 turns_from layers depth state (build ∷ schedule) =
@@ -55,39 +56,41 @@ turns_from layers depth state (build ∷ schedule) =
       | None ↦ []
     ]
 
--- the graph's own rule: the build has a step left after the path of the given turns
+-- the graph's own rule: whether the build has a step left after the path that the given turns take
 abbrev pub own_rule : Plan → Graph → List ℕ → ℕ → Bool
 own_rule plan graph before build = is_some (step_after plan build (done_by plan graph (turns_from (layers_of graph) 0 0 before) build))
 
 -- ---- plans in which each step takes one turn
 
--- no step is an abort or a way back, and no build gives up
+-- each step takes one turn: none is `abort` or `back`, and no build gives up
 abbrev pub HasSingleTurns : Plan → Type 0
 HasSingleTurns plan = (build done : ℕ) → takes_many (step_after plan build done) ≡ false
 
--- the rule of such a plan: a build has used up one step in each of its turns
+-- the rule for a plan whose steps each take one turn: a build has done one step in each of its turns
 abbrev pub by_turns : Plan → List ℕ → ℕ → Bool
 by_turns plan before build = is_some (step_after plan build (count_by (λ turn. build == turn) before))
 
--- ---- the ends of a path
+-- ---- the step outcomes of a path
 
+-- the step outcome with this number as a list of one, or the empty list if there is none
 abbrev pub end_at : List EndOfStep → Option ℕ → List EndOfStep
 end_at ends None = []
 end_at ends (Some number) = option_to_list (slice_get ends number)
 
--- the ends of the steps that turns use up
+-- the outcomes of the steps that end in the turns of a path
 abbrev pub ends_of_path : List EndOfStep → Path Label → List EndOfStep
 ends_of_path ends path = flat_map (λ edge. end_at ends edge.label.end) path
 
--- the ends of a build's steps on a path; then, the numbers of these steps
+-- the outcomes of a build's steps that end in the turns of a path
 abbrev pub ends_of : List EndOfStep → ℕ → Path Label → List EndOfStep
 ends_of ends build path = filter (λ end. end.build == build) (ends_of_path ends path)
 
+-- the indices of a build's steps that end in the turns of a path, in sequence
 abbrev pub steps_ended : List EndOfStep → ℕ → Path Label → List ℕ
 steps_ended ends build path = map (λ end. end.step) (ends_of ends build path)
 
--- The ends are those of the build's steps in sequence from `number` on, and no step is left. After a refusal the next
--- step of a build that gives up is its abort.
+-- The outcomes belong to the build's steps in sequence, from step `number` on, until no step is left. After a refusal
+-- the next step of a build that gives up is its abort.
 abbrev pub AreInSequence : Plan → ℕ → ℕ → List EndOfStep → Type 0
 AreInSequence plan build number [] = is_some (step_after plan build number) ≡ false
 AreInSequence plan build number (end ∷ ends) =

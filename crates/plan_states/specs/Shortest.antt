@@ -23,13 +23,12 @@ use Rattle.plan_states.specs.declared.step_end.EndOfStep.{EndOfStep}
 
 -- ---- runs
 
--- The step of the build is used up, and refused.
+-- The outcome is a refusal of this step of the build.
 pub record IsRefusal (build step : ℕ) (end : Option EndOfStep) : Type 0 where
   pub refusal : Refusal
   pub is_end : end ≡ Some (record { build = build; step = step; refusal = Some refusal })
 
--- The build waits while another holds nothing. A step of it is refused for lack of a block or a VMID, and another build
--- of the plan leases no page.
+-- A step of the build is refused for lack of a block or a VMID, and another build of the plan leases no page.
 pub record IsWait (plan : Plan) (build : ℕ) (end : Option EndOfStep) (host : HostView) : Type 0 where
   pub step : ℕ
   pub refused : IsRefusal build step end
@@ -39,13 +38,13 @@ pub record IsWait (plan : Plan) (build : ℕ) (end : Option EndOfStep) (host : H
   pub differs : other ≢ build
   pub at_rest : pages_of_build host other ≡ []
 
--- A turn answers the question, by the end of its step and the host after the turn.
+-- The answer to the question is yes for a turn, given the outcome of its step and the host after the turn.
 abbrev pub Shows : Plan → TurnQuestion → Option EndOfStep → HostView → Type 0
 Shows plan (Refused build step) end host = IsRefusal build step end
 Shows plan (Waiting build) end host = IsWait plan build end host
 Shows plan (Leased granules) end host = granules ≤ sum (pages_of_builds host)
 
--- The last turn of the schedule answers the question.
+-- In a run of the plan with this schedule, the answer to the question is yes for the last turn.
 pub record EndsWithAnswer (plan : Plan) (question : TurnQuestion) (schedule : List ℕ) : Type 0 where
   pub before : List ℕ
   pub last : ℕ
@@ -57,14 +56,14 @@ pub record EndsWithAnswer (plan : Plan) (question : TurnQuestion) (schedule : Li
   pub is_taken : IsTurnAt plan at last taken to
   pub shown : Shows plan question (end_of taken) to.host
 
--- A turn of the build at a position does not answer the question.
+-- The answer to the question is no for a turn that the build takes at the position.
 pub record IsTurnWithoutAnswer (plan : Plan) (question : TurnQuestion) (at : Position) (build : ℕ) : Type 0 where
   pub taken : Taken
   pub to : Position
   pub is_taken : IsTurnAt plan at build taken to
   pub not_shown : ¬ (Shows plan question (end_of taken) to.host)
 
--- The last turn of the schedule does not answer the question, or is of a build that has no step left.
+-- The answer to the question is no for the last turn of the schedule, or the build of that turn has no step left.
 pub record EndsWithoutAnswer (plan : Plan) (question : TurnQuestion) (schedule : List ℕ) : Type 0 where
   pub before : List ℕ
   pub last : ℕ
@@ -73,42 +72,43 @@ pub record EndsWithoutAnswer (plan : Plan) (question : TurnQuestion) (schedule :
   pub reached : IsReached plan before at
   pub none : (is_left plan at.places last ≡ false) ⊎ IsTurnWithoutAnswer plan question at last
 
--- no turn, or one that does not answer the question, ends the schedule
+-- the schedule is empty, or the answer to the question is not yes for its last turn
 abbrev pub IsUnanswered : Plan → TurnQuestion → List ℕ → Type 0
 IsUnanswered plan question schedule = (schedule ≡ []) ⊎ EndsWithoutAnswer plan question schedule
 
 -- ---- the graph
 
--- an edge of the layer has such a label
+-- some edge of the layer has a label that satisfies `is`
 abbrev pub layer_shows : (Label → Bool) → List (Vec (Edge Label) Global) → Bool
 layer_shows is layer = list_any (λ edges. shows is (vec_items edges)) layer
 
--- the first layer of which an edge has such a label
+-- the index of the first layer with an edge whose label satisfies `is`, if there is one
 abbrev pub first_layer : (Label → Bool) → List (Vec (Vec (Edge Label) Global) Global) → Option ℕ
 first_layer is layers = position (λ layer. layer_shows is (vec_items layer)) layers
 
--- an edge of some layer has such a label
+-- some edge of some layer has a label that satisfies `is`
 abbrev pub any_layer_shows : (Label → Bool) → List (Vec (Vec (Edge Label) Global) Global) → Bool
 any_layer_shows is layers = list_any (λ layer. layer_shows is (vec_items layer)) layers
 
--- the layers up to `depth`, then the states of the next without edges, so that paths end there
+-- the layers up to `depth`, followed by the states of the next layer without edges, so that paths end there
 abbrev pub cut_after : ℕ → List (Layer Label) → List (Layer Label)
 cut_after depth layers = take (depth + 1) layers ++ map (λ edges. []) (slice_index_or layers (depth + 1) []) ∷ []
 
--- the paths, cut after a given layer, that show such a label: their number and the first
+-- the tally of the paths with a label that satisfies `is`, in a graph that is cut after a given layer; None if no layer
+-- is given
 abbrev pub tally_in : (Label → Bool) → TurnQuestion → List (Layer Label) → Option ℕ → Option (PathCount TurnQuestion)
 tally_in is question layers None = None
 tally_in is question layers (Some depth) = tally_of (shows is) question (paths (cut_after depth layers) 0)
 
--- the turn of the label answers the question, in a plan of `builds` builds
+-- the answer to the question is yes for the turn that the label describes, in a plan of `builds` builds
 abbrev pub is_answer_in : Graph → ℕ → TurnQuestion → Label → Bool
 is_answer_in graph builds question label = is_answer_at graph.ends.items graph.held.items builds question label
 
--- some turn of the graph answers the question
+-- the answer to the question is yes for some turn of the graph
 abbrev pub is_answered : Graph → ℕ → TurnQuestion → Bool
 is_answered graph builds question = any_layer_shows (is_answer_in graph builds question) graph.layers.items
 
--- the number of the shortest paths that answer the question, and the schedule of the first
+-- the tally of the graph's shortest paths to a turn for which the answer to the question is yes
 abbrev pub shortest_tally : Graph → ℕ → TurnQuestion → Option (PathCount TurnQuestion)
 shortest_tally graph builds question =
     let is = is_answer_in graph builds question in
@@ -116,14 +116,15 @@ shortest_tally graph builds question =
 
 -- ---- the witness
 
--- the schedule answers the question, and is the first of the graph's shortest schedules that do
+-- the answer is yes for the schedule's last turn, and the schedule is the first of the graph's shortest schedules with
+-- that answer
 pub record IsShortest (plan : Plan) (most : ℕ) (question : TurnQuestion) (schedule : List ℕ) : Type 0 where
   pub answers : EndsWithAnswer plan question schedule
   pub graph : Graph
   pub within : IsGraphWithin plan most graph
   pub is_first : option_map (λ (tally : PathCount TurnQuestion). tally.first) (shortest_tally graph (length plan.builds) question) ≡ Some schedule
 
--- no turn of the graph answers the question
+-- the answer to the question is no for every turn of the graph
 pub record IsNever (plan : Plan) (most : ℕ) (question : TurnQuestion) : Type 0 where
   pub graph : Graph
   pub within : IsGraphWithin plan most graph

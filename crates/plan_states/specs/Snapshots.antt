@@ -1,4 +1,5 @@
--- Snapshots of a run: each build's progress, marks, abort flag and events, and the equality of snapshots.
+-- Snapshots of a run, which show each build's progress, marks, abort flag and events, and the condition that two
+-- snapshots agree.
 use Rattle.std.specs.Prelude.{◌≡◌, ◌<◌, ◌≤◌, ℕ, Bool, false, List, length, Option, Some, None, option_map, slice_get}
 use Rattle.host_ledger.specs.Kept.{AreOfEach}
 use Rattle.host_ledger.specs.Marks.{is_same_mark}
@@ -11,11 +12,11 @@ use Rattle.schedule_graph.specs.State.{has_way_back}
 use Rattle.plan_states.specs.declared.snapshot.BuildPoint.{BuildPoint}
 use Rattle.plan_states.specs.declared.snapshot.BuildSnapshot.{BuildSnapshot}
 
--- the number of operations that were open at a mark, if there is one
+-- the number of operations that were open at a mark, if there is a mark
 abbrev pub length_of : Option Mark → Option ℕ
 length_of mark = option_map (λ (it : Mark). it.length) mark
 
--- there is a mark, and it is the one that is kept
+-- there is a mark, and the host keeps the same mark
 abbrev pub is_kept_mark : Option Mark → Option Mark → Bool
 is_kept_mark kept mark =
     elim mark [ Some one ↦ elim kept [ Some it ↦ is_same_mark it one | None ↦ false ] | None ↦ false ]
@@ -31,7 +32,7 @@ point_at at build = record {
   kept = length_of (mark_of at.host build);
 }
 
--- A build's point, and its events.
+-- What a snapshot shows of a build: its progress, marks and abort flag, and its events.
 pub record SeenBuild : Type 0 where
   pub point : BuildPoint
   pub events : List Event
@@ -42,11 +43,11 @@ shown_build it = record { point = it.point; events = it.events.items }
 abbrev pub seen_at : Position → ℕ → SeenBuild
 seen_at at build = record { point = point_at at build; events = events_of build at.host.history }
 
--- these are the builds below a number, as they are at a position
+-- the snapshots show each build below `count` as it is at the position
 abbrev pub AreBuildsAt : Position → ℕ → List BuildSnapshot → Type 0
 AreBuildsAt at count builds = (build : ℕ) → build < count → option_map shown_build (slice_get builds build) ≡ Some (seen_at at build)
 
--- the builds below a number have the same points and the same events
+-- in both snapshots, each build below `count` has the same progress, marks, abort flag and events
 abbrev pub AreSameBuilds : ℕ → List BuildSnapshot → List BuildSnapshot → Type 0
 AreSameBuilds count ones others =
     (build : ℕ) → build < count → option_map shown_build (slice_get ones build) ≡ option_map shown_build (slice_get others build)

@@ -1,4 +1,4 @@
--- The text of the outcomes of all schedules of a plan, as counted in its state graph.
+-- The text that reports the outcomes of a plan's schedules, as counted in its state graph.
 use Rattle.std.specs.Prelude.{◌≡◌, ◌⊎◌, ℕ, List, [], ◌∷◌, ◌++◌, codes, length}
 use Rattle.std.specs.Fmt.{decimal}
 use Rattle.realm_plan.specs.Plan.{Plan}
@@ -8,7 +8,7 @@ use Rattle.plan_states.specs.Tallies.{AreOutcomes}
 use Rattle.plan_states.specs.declared.graph.Graph.{Graph}
 use Rattle.plan_states.specs.declared.tally.Outcomes.{Outcomes}
 
--- the outcomes of a plan's graph
+-- the text reports the outcomes that are counted in a plan's graph
 pub record IsGraphText (plan : Plan) (graph : Graph) (text : List ℕ) : Type 0 where
   pub outcomes : Outcomes
   pub are_outcomes : AreOutcomes (length plan.builds) graph outcomes
@@ -18,6 +18,7 @@ pub record IsGraphText (plan : Plan) (graph : Graph) (text : List ℕ) : Type 0 
 abbrev pub too_many_line : ℕ → List ℕ
 too_many_line most = codes "states more than " ++ (decimal most ++ 10 ∷ [])
 
--- the outcomes of a graph with at most `most` states, or the line for more states
+-- the text reports the outcomes in the plan's graph, which has at most `most` states, or is the line that says that
+-- there are more states
 abbrev pub IsStatesText : ℕ → Plan → List ℕ → Type 0
 IsStatesText most plan text = ((graph : Graph) × IsGraphWithin plan most graph × IsGraphText plan graph text) ⊎ (text ≡ too_many_line most)

@@ -10,7 +10,7 @@ use Rattle.plan_states.specs.declared.step_end.EndOfStep.{EndOfStep}
 use Rattle.plan_states.specs.declared.tally.Outcomes.{Outcomes}
 use Rattle.plan_states.specs.declared.tally.PathTally.{PathTally}
 
--- The number of paths that show an outcome, and the schedule of the first of them.
+-- The number of paths with an outcome, and the schedule of the first of these paths.
 pub record PathCount (K : Type 0) : Type 0 where
   pub outcome : K
   pub count : ℕ
@@ -19,14 +19,15 @@ pub record PathCount (K : Type 0) : Type 0 where
 abbrev pub layers_of : Graph → List (Layer Label)
 layers_of graph = layers_in graph.layers.items
 
--- the builds of the turns
+-- the schedule of a path: the build of each turn
 abbrev pub builds_of_path : Path Label → List ℕ
 builds_of_path path = map (λ edge. edge.label.build) path
 
 abbrev pub count_of_tally : {K : Type 0} → PathTally K → PathCount K
 count_of_tally tally = record { outcome = tally.outcome; count = tally.count; first = tally.first.items }
 
--- the number of paths with a property, and the schedule of the first, if a path has it
+-- the tally of the paths with a property: their number and the schedule of the first one, or None if there are no such
+-- paths
 abbrev pub tally_of : {K : Type 0} → (Path Label → Bool) → K → List (Path Label) → Option (PathCount K)
 tally_of like outcome ps =
     option_map (λ path. record { outcome = outcome; count = length (filter like ps); first = builds_of_path path }) (find like ps)
@@ -39,23 +40,24 @@ is_before [] others = false
 is_before (one ∷ ones) [] = false
 is_before (one ∷ ones) (other ∷ others) = if one == other then is_before ones others else nat_lt one other
 
--- the place of a schedule among tallies that are sorted by their first schedules
+-- the index at which a tally with this first schedule belongs in a list sorted by first schedules
 abbrev pub place_for : {K : Type 0} → List ℕ → List (PathCount K) → ℕ
 place_for first [] = 0
 place_for first (t ∷ tallies) = if is_before first t.first then 0 else suc (place_for first tallies)
 
--- the tallies with a given one, if any, inserted at its place
+-- the tallies, which are sorted by their first schedules, with the given one, if any, inserted in that order
 abbrev pub with_tally : {K : Type 0} → Option (PathCount K) → List (PathCount K) → List (PathCount K)
 with_tally None tallies = tallies
 with_tally (Some tally) tallies = insert tallies (place_for tally.first tallies) tally
 
--- the tallies of all numbers below a bound, sorted by their first schedules
+-- the tallies of all outcomes whose indices are below a bound, sorted by their first schedules
 abbrev pub all_added : {K : Type 0} → (ℕ → Option (PathCount K)) → ℕ → List (PathCount K)
 all_added tally_at zero = []
 all_added tally_at (suc n) = with_tally (tally_at n) (all_added tally_at n)
 
 -- ---- the tallies of a graph
 
+-- the paths of a graph from its first state
 abbrev pub paths_of : Graph → List (Path Label)
 paths_of graph = paths (layers_of graph) 0
 
@@ -65,7 +67,8 @@ whole_tallies graph =
     with_tally (tally_of (shows (is_refusal_of graph.ends.items None)) true (paths_of graph))
     (with_tally (tally_of (shows_none (is_refusal_of graph.ends.items None)) false (paths_of graph)) [])
 
--- the tally of the paths that show the end with this number, if it exists
+-- the tally of the paths with the given step outcome, whose index is `number`; None if no outcome is given, or no path
+-- has it
 abbrev pub tally_of_end : Graph → ℕ → Option EndOfStep → Option (PathCount EndOfStep)
 tally_of_end graph number None = None
 tally_of_end graph number (Some end) = tally_of (shows (λ label. has_number number label.end)) end (paths_of graph)
@@ -80,14 +83,14 @@ never_refused_tally graph build = tally_of (shows_none (is_refusal_of graph.ends
 abbrev pub map_tally : Graph → ℕ → Option (PathCount ℕ)
 map_tally graph map = tally_of (shows (λ label. has_number map label.map)) map (paths_of graph)
 
--- the tallies of the final maps; a plan without steps has one map, by the empty schedule
+-- the tallies of the final maps; a plan without steps has one map, reached by the empty schedule
 abbrev pub map_tallies : Graph → List (PathCount ℕ)
 map_tallies graph =
     if length graph.layers.items == 1
     then record { outcome = 0; count = 1; first = [] } ∷ []
     else all_added (map_tally graph) (length graph.maps.items)
 
--- The outcomes are those of the graph's paths.
+-- The tallies in `outcomes` count all paths of the graph.
 pub record AreOutcomes (builds : ℕ) (graph : Graph) (outcomes : Outcomes) : Type 0 where
   pub schedule_count : outcomes.steps.schedule_count ≡ length (paths_of graph)
   pub by_refusal : map count_of_tally outcomes.steps.by_refusal.items ≡ whole_tallies graph

@@ -10,8 +10,9 @@ use Rattle.plan_states.specs.Reached.{IsReached, IsTurnAt}
 use Rattle.plan_states.specs.Turned.{turn_refusal, moved_after}
 use Rattle.plan_states.specs.declared.running.TurnTaken.{TurnTaken}
 
--- The turn leads from one position to the other. The record has its refusal and the block that it moved. The VMID of
--- the build's realm and the number of the build's pages are those after the turn.
+-- The record `it` describes a turn of the build that leads from one position to the other. The record has the turn's
+-- refusal, and the block that the turn moved. The VMID of the build's realm and the number of the build's pages are
+-- those after the turn.
 pub record IsTurnTaken (plan : Plan) (at : Position) (build : ℕ) (it : TurnTaken) (to : Position) : Type 0 where
   pub told : Option (PlanStep × TurnAnswer)
   pub is_taken : IsTurnAt plan at build (record { turn = record { build = build; told = told }; before = it.before; after = it.after }) to
@@ -20,7 +21,7 @@ pub record IsTurnTaken (plan : Plan) (at : Position) (build : ℕ) (it : TurnTak
   pub vmid : it.vmid ≡ option_map (λ realm. realm.1) (realm_at (world_of to.host) build)
   pub pages : it.pages ≡ length (pages_of_build to.host build)
 
--- in a run of the plan, this turn of the build follows turns of the builds in the schedule
+-- in a run of the plan, this turn of the build comes right after the turns of the schedule
 pub record IsTurnAfter (plan : Plan) (schedule : List ℕ) (build : ℕ) (it : TurnTaken) : Type 0 where
   pub at : Position
   pub reached : IsReached plan schedule at

@@ -26,18 +26,19 @@ abbrev pub turn_refusal : Option (PlanStep × TurnAnswer) → Option Refusal
 turn_refusal None = None
 turn_refusal (Some told) = told_refusal told.1
 
--- the end of a turn's step, if the turn uses it up
+-- the outcome of the step that a turn ends, if the turn ends one
 abbrev pub end_of : Taken → Option EndOfStep
 end_of taken =
     if taken.before == taken.after then None
     else Some (record { build = taken.turn.build; step = taken.before; refusal = turn_refusal taken.turn.told })
 
--- ---- the same by the code's record of a turn
+-- ---- a turn as the code records it
 
+-- the outcome of the step that a recorded turn of the build ends, if the turn ends one
 abbrev pub end_taken : ℕ → TurnTaken → Option EndOfStep
 end_taken build it = if it.before == it.after then None else Some (record { build = build; step = it.before; refusal = it.refusal })
 
--- the block that an operation leases or gives back
+-- the block that an operation leases or gives back, or None if it does neither
 abbrev pub moved_by : Act → Option Moved
 moved_by (Take order first) = Some (record { is_back = false; order = order; first = first })
 moved_by (UnTake order first) = Some (record { is_back = true; order = order; first = first })
@@ -47,7 +48,7 @@ moved_by _ = None
 abbrev pub moved_after : ℕ → List Event → Option Moved
 moved_after before history = option_and_then (λ (event : Event). moved_by event.act) (slice_get history before)
 
--- the new list is the old one, or has the given item added at its end
+-- the new list is the old one, or is the old one with the given item, if any, added at its end
 abbrev pub AreWith : {X : Type 0} → List X → Option X → List X → Type 0
 AreWith items None new = new ≡ items
 AreWith items (Some item) new = (new ≡ items) ⊎ (new ≡ items ++ item ∷ [])

@@ -14,8 +14,8 @@ use Rattle.plan_states.specs.declared.step_end.EndOfStep.{EndOfStep}
 
 -- ---- how far builds are
 
--- The number of steps that a build has done, from the list for all builds. The abort of giving up has a number beyond
--- the steps.
+-- The number of steps that a build has done, given the list of these numbers for all builds. The abort of giving up has
+-- a number beyond the steps.
 abbrev pub done_of : List ℕ → ℕ → ℕ
 done_of done build = slice_index_or done build 0
 
@@ -28,18 +28,18 @@ are_over plan done = list_all (λ build. not (has_step_left plan done build)) (r
 abbrev pub is_fresh : List ℕ → Bool
 is_fresh done = list_all (λ build. done_of done build == 0) (range_with_len 0 8)
 
--- one state, in which no step is done
+-- there is exactly one state, and no step is done in it
 abbrev pub is_at_start : List (List ℕ) → Bool
 is_at_start states = length states == 1 && is_fresh (slice_index_or states 0 [])
 
 -- ---- turns
 
--- the end is that of this step
+-- there is an outcome, and it belongs to this step of the build
 abbrev pub is_end_of : ℕ → ℕ → Option EndOfStep → Bool
 is_end_of build step None = false
 is_end_of build step (Some end) = end.build == build && end.step == step
 
--- the step may take more turns than one
+-- the step may take more than one turn
 abbrev pub takes_many : Option PlanStep → Bool
 takes_many None = false
 takes_many (Some step) = undoes_many step
@@ -53,12 +53,13 @@ abbrev pub is_end_refused : Option EndOfStep → Bool
 is_end_refused None = false
 is_end_refused (Some end) = is_some end.refusal
 
--- the number of a build's next step, after a turn of it with this end or none
+-- the index of a build's next step after a turn of the build, in which a step ends with the given outcome, or no step
+-- ends
 abbrev pub number_with : Plan → List EndOfStep → ℕ → Option ℕ → ℕ
 number_with plan ends done None = done
 number_with plan ends done (Some number) = number_after plan.gives_up (is_end_refused (slice_get ends number)) done
 
--- the number of a build's next step, after a turn of any build
+-- the index of a build's next step after a turn of any build
 abbrev pub number_by : Plan → List EndOfStep → ℕ → ℕ → Label → ℕ
 number_by plan ends build done label = if build == label.build then number_with plan ends done label.end else done
 
@@ -68,7 +69,7 @@ done_after plan ends done label build = number_by plan ends build (done_of done 
 abbrev pub are_done_after : Plan → List EndOfStep → List ℕ → Label → List ℕ → Bool
 are_done_after plan ends done label after = list_all (λ build. done_of after build == done_after plan ends done label build) (range_with_len 0 8)
 
--- a turn has a map, with a number below `maps`, exactly if no build has a step left
+-- a turn's label names a map, with an index below `maps`, exactly if no build has a step left after the turn
 abbrev pub has_map : ℕ → Bool → Option ℕ → Bool
 has_map maps over None = not over
 has_map maps over (Some number) = over && nat_lt number maps
@@ -83,7 +84,7 @@ abbrev pub leads_if_there : Plan → List EndOfStep → ℕ → List ℕ → Lab
 leads_if_there plan ends maps done label None = false
 leads_if_there plan ends maps done label (Some after) = leads_to_state plan ends maps done label after
 
--- an edge leads to a state of the next layer
+-- the edge leads to a state of the next layer that fits the edge's turn
 abbrev pub leads_on : Plan → List EndOfStep → ℕ → List ℕ → List (List ℕ) → Edge Label → Bool
 leads_on plan ends maps done next edge = leads_if_there plan ends maps done edge.label (slice_get next edge.to)
 
@@ -94,7 +95,8 @@ abbrev pub is_of_build : ℕ → Option (Edge Label) → Bool
 is_of_build build None = false
 is_of_build build (Some edge) = edge.label.build == build
 
--- The state has one turn of each build that has a step left, from the lowest build on, and each leads on.
+-- The state has one edge for each build with a step left, from the lowest build on, and each edge leads to a fitting
+-- state of the next layer.
 pub record IsStateWhole (plan : Plan) (ends : List EndOfStep) (maps : ℕ) (done : List ℕ) (next : List (List ℕ)) (edges : List (Edge Label)) : Type 0 where
   pub builds : map (λ edge. edge.label.build) edges ≡ filter (has_step_left plan done) (range_with_len 0 8)
   pub lead_on : list_all (leads_on plan ends maps done next) edges ≡ true
@@ -106,7 +108,7 @@ pub record IsLayerWhole (plan : Plan) (ends : List EndOfStep) (maps : ℕ) (stat
   pub each : (place : ℕ) → place < length states
       → IsStateWhole plan ends maps (slice_index_or states place []) next (slice_index_or (map vec_items layer) place [])
 
--- the states of a layer, by their progress
+-- the states of a layer, each given by the numbers of steps that the builds have done
 abbrev pub states_at : Graph → ℕ → List (List ℕ)
 states_at graph depth = slice_index_or (map vec_items graph.progress.items) depth []
 

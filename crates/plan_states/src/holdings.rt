@@ -39,7 +39,7 @@ impl Holdings {
         }
     }
 
-    /// Returns the index of the given page counts in the table, and adds them if they are missing.
+    /// Returns the index of the given page counts in the table, to which they are added if they are missing.
     pub(crate) fn number_of(&mut self, held: PagesHeld) -> Result<usize, AllocError>
         ensures number { IfOk result (λ number. slice_get self.new.all.items number ≡ Some held) }
         ensures all { OnOk result (AreWith self.old.all.items (Some held) self.new.all.items) }

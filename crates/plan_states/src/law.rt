@@ -1,5 +1,5 @@
-//! Theorems on plans' schedules and the paths of their state graphs. In a whole graph, each build with a step left in a
-//! state has exactly one edge from that state (`whole.rt`).
+//! Theorems about the schedules of plans and the paths of their state graphs. In a whole graph, each build with a step
+//! left in a state has exactly one edge from that state (`whole.rt`).
 ghost use Rattle.std.specs.Prelude.{◌≡◌, ◌+◌, ◌<◌, ◌≤◌, ℕ, Bool, true, false, List, [], All, AllPairs, Contains, length, map};
 ghost use Rattle.std.specs.List.{range_with_len};
 ghost use Rattle.realm_plan.specs.Plan.{Plan};
@@ -21,8 +21,8 @@ pub fn every_schedule_is_a_path()
         → All (IsSchedule left []) (map builds_of_path (paths_of graph)) }
 {}
 
-/// Proves that the paths of a whole state graph give the same list of schedules as each scheduling rule that agrees
-/// with the paths. The list has the rule's schedules of at most `most` turns. Any `most` that is at least the number of
+/// Proves that the paths of a whole state graph give the same list of schedules as any scheduling rule that agrees with
+/// the paths. The list has the rule's schedules of at most `most` turns. Any `most` that is at least the number of
 /// layers less one gives the same list. So a sum over the paths is the sum over all schedules.
 pub fn paths_are_all_schedules()
     ensures { (plan : Plan) (graph : Graph) (left : List ℕ → ℕ → Bool) → IsWholeGraph plan graph → IsRuleOf plan graph left
@@ -45,8 +45,8 @@ pub fn a_whole_graph_has_a_rule()
     ensures { (plan : Plan) (graph : Graph) → IsWholeGraph plan graph → IsRuleOf plan graph (own_rule plan graph) }
 {}
 
-/// Proves that, unless the plan's builds give up, a build's progress along a path is the number of its steps that the
-/// path ends.
+/// Proves that, unless the plan's builds give up, a build's progress along a path is the number of its steps that end
+/// on the path.
 pub fn steps_are_counted()
     ensures { (plan : Plan) (graph : Graph) (path : Path Label) (build : ℕ) → plan.gives_up ≡ false → done_by plan graph path build ≡ used_by path build }
 {}

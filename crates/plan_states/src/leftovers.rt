@@ -1,4 +1,4 @@
-//! Checks that builds whose reversible operations are all undone do not affect the page map. A theorem says that the
+//! The check that builds whose reversible operations are all undone do not affect the page map. A theorem says that the
 //! check always succeeds.
 ghost use Rattle.std.specs.Prelude.{◌≡◌, true, [], IfOk, string_bytes};
 ghost use Rattle.host_ledger.specs.View.{open_of};

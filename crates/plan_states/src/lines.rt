@@ -14,7 +14,7 @@ use schedule_graph::Count;
 use std::alloc::AllocError;
 use std::fmt;
 
-/// The outcome of a step as text: `ok`, or `no` and the refusal.
+/// The outcome of a step as text, which is `ok`, or `no` and the refusal.
 #[derive(Clone, Copy)]
 struct EndWords(Option<Refusal>);
 
@@ -139,8 +139,8 @@ fn push_give_up(
     push_shown(text, schedule_count, &tally.count, &tally.first)
 }
 
-/// Appends the outcomes of the abort that follows a build's refused step. There is a line for each outcome, and none if
-/// the plan's builds do not give up.
+/// Appends the outcomes of the abort of a build that gives up after a refusal. There is a line for each outcome, and
+/// none if the plan's builds do not give up.
 pub(crate) fn push_give_ups(
     text: &mut String,
     plan: &Plan,
@@ -173,7 +173,7 @@ fn push_never_refused(
     Ok(())
 }
 
-/// Appends a line that counts the schedules without a refused step of a build. The line begins with `never refused`.
+/// Appends a line with the number of schedules in which a build is never refused. The line begins with `never refused`.
 /// The count may be 0.
 pub(crate) fn push_never_refused_tallies(
     text: &mut String,

@@ -1,4 +1,4 @@
-//! Counts a plan's schedules by their outcomes. Schedules are counted as paths of the graph.
+//! The count of a plan's schedules by their outcomes. Schedules are counted as paths of the graph.
 ghost use Rattle.std.specs.Prelude.{◌≡◌, ◌≤◌, Bool, List, [], length, map, option_map, slice_index_or, OnOk, IfOk};
 ghost use Rattle.schedule_graph.specs.First.{any_path, layers_in, path_numbers_in, shows_none, ArePathNumbers};
 ghost use Rattle.schedule_graph.specs.Paths.{paths, shows, count_at};

@@ -1,4 +1,4 @@
-//! Takes and compares snapshots of the state of a plan's run. A snapshot has all that decides further turns, and
+//! Snapshots of the state of a plan's run, and their comparison. A snapshot has all that decides further turns, and
 //! nothing of the schedule.
 ghost use Rattle.std.specs.Prelude.{◌≡◌, ◌<◌, IfOk};
 ghost use Rattle.std.specs.Bool.{OnTrue};

@@ -102,10 +102,11 @@ fn push_maps(
     Ok(())
 }
 
-/// Appends the tallies of step outcomes. First come the schedules with and without a refused step. Next come each
-/// build's steps, and its abort if builds give up. Last comes a line for each build, with the schedules in which it was
-/// never refused. Each line has a count and the first such schedule, or else `in all` or `in 0`. The one error is that
-/// allocation failed; the text may then have a part of the lines.
+/// Appends the tallies of step outcomes as lines of text. First come the schedules with and without a refused step.
+/// Next come each build's steps, and its abort if builds give up. Last comes a line for each build, with the schedules
+/// in which it was never refused. Each line has a count and the first such schedule, or else `in all` or `in 0`.
+///
+/// The one error is that allocation failed; the text may then have a part of the lines.
 pub fn push_step_outcomes(
     text: &mut String,
     plan: &Plan,
@@ -148,7 +149,8 @@ fn graph_text(alloc: Global, plan: &Plan, graph: &Graph) -> Result<String, Alloc
     Ok(text)
 }
 
-/// Returns the line of text for a state graph with more than `most` states. The one error is that allocation failed.
+/// Returns the line of text that says that a state graph has more than `most` states. The one error is that allocation
+/// failed.
 pub fn too_many_text(alloc: Global, most: usize) -> Result<String, AllocError>
     ensures { IfOk result (λ text. string_bytes text ≡ too_many_line most) }
 {

@@ -110,7 +110,7 @@ fn lowest_vmid(plan: &Plan, state: &State) -> usize {
     0
 }
 
-/// Returns the inputs of a build's next turn. Returns `None` if the build has no step left.
+/// Returns the inputs of a build's next turn, or `None` if the build has no step left.
 pub(crate) fn before_turn(plan: &Plan, state: &State, build: usize) -> Option<TurnInputs>
     requires { build < 8 }
 {

@@ -1,4 +1,4 @@
--- Proofs that a recorded event with enough room is applied if and only if the event is legal next.
+-- Proofs that a recorded event whose build has enough room is applied if and only if the history with it is legal.
 use Rattle.std.proofs.Common.{◌≡◌, ℕ, ◌<◌, Bool, true, false, not, cond, List, [], ◌∷◌, ◌++◌, Option, Some, None, Result, Ok, Err, refl, sym, ap, ◌∙◌, subst}
 use Rattle.std.specs.Prelude.{map, slice_get, option_and_then, IsSome}
 use Rattle.std.specs.FinMap.{get, remove}

@@ -1,5 +1,5 @@
--- Proofs that a command which passes the host's checks has its operation performed, or is refused as the RMM refuses
--- it.
+-- Proofs that a command other than a Take that passes the host's checks is either performed or refused with the RMM's
+-- answer.
 use Rattle.std.proofs.Common.{◌≡◌, ℕ, ◌==◌, ◌<◌, Bool, true, false, List, [], ◌∷◌, ◌++◌, length, map, Option, Some, None, Ok, Err, refl, sym, ap, ◌∙◌, subst, arith}
 use Rattle.std.specs.Prelude.{IsTrue, IsSome, option_map, is_some, slice_get, slice_index}
 use Rattle.std.specs.List.{All}

@@ -1,4 +1,5 @@
--- Proofs that the reverse of a build's newest open operation can be performed and is not refused.
+-- Proofs that the reverse of a build's newest open operation is performed and not refused, unless that operation
+-- created a running REC.
 use Rattle.std.proofs.Common.{◌≡◌, ℕ, true, false, Some, None, Ok, Err, refl, sym, ap, ◌∙◌, subst, arith}
 use Rattle.std.specs.Prelude.{option_and_then, slice_get}
 use Rattle.std.specs.List.{All, last_or}

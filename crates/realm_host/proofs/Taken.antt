@@ -1,4 +1,4 @@
--- Proofs on a Take that has passed its checks: its block is leased, or the Take is refused since no block is free.
+-- Proofs that a Take that has passed its checks leases a block, or is refused since no block is free.
 use Rattle.std.proofs.Common.{◌≡◌, ℕ, ◌≤◌, true, false, cond, [], ◌∷◌, length, Option, Some, None, refl, sym, ap, ◌∙◌, subst, arith}
 use Rattle.std.specs.Prelude.{nat_lt, nat_le, if◌then◌else◌}
 use Rattle.std.proofs.lemmas.Bool.{ltb-false, le-leb}

@@ -1,5 +1,5 @@
--- Proofs that the answer to an undo is the refusal of the first check that holds, or else the reply for the undone
--- operation.
+-- Proofs that an undo gets the first refusal whose condition holds, or the reply for the undone operation if no
+-- condition holds.
 use Rattle.std.proofs.Common.{◌≡◌, ℕ, ◌-◌, ◌<◌, ◌≤◌, Bool, true, false, cond, List, [], ◌∷◌, length, Option, Some, None, refl, ap, ◌∙◌, arith}
 use Rattle.std.specs.Prelude.{nat_lt, nat_le, option_and_then, IsSome}
 use Rattle.std.specs.List.{last_or}

@@ -14,24 +14,26 @@ use Rattle.realm_host.specs.Call.{Undo}
 use Rattle.realm_host.specs.Refusals.{no_build, refusal_of}
 use Rattle.realm_host.specs.Served.{any_rec_running, IsServed}
 
--- ---- the begin
+-- ---- the beginning of an abort
 
+-- the checks before an abort begins: whether the build is missing, is already in abort, or has a running REC
 abbrev pub checks_of_begin : HostView → ℕ → List Check
 checks_of_begin host build = build_checks (summary_of host) build ++ any_rec_running host build ∷ []
 
--- The answer is the number of open operations. If there is any, the build is in abort from then on.
+-- A call that begins an abort returns the number of the build's open operations. If there is any, the build is in abort
+-- from then on.
 pub record IsBegunAs (host : HostView) (build count : ℕ) (new : HostView) : Type 0 where
   pub count_is : count ≡ length (open_of host build)
   pub new_is : new ≡ begun host build
   pub in_abort : is_aborting new build ≡ nat_lt 0 count
 
--- An abort begins.
+-- A call that begins an abort is refused and changes nothing, or is answered as `IsBegunAs` says.
 abbrev pub IsBegun : HostView → ℕ → Result ℕ Refusal → HostView → Type 0
 IsBegun host build result new =
     IsServed (checks_of_begin host build) host (IsBegunAs host build) result new
 
--- From here on, as long as the build does nothing but reverses, each undo is performed until nothing is open, whatever
--- others do.
+-- As long as all later events of a build are reverses, the host refuses no undo of the build until nothing is open,
+-- whatever other builds do.
 abbrev pub GoesOn : HostView → ℕ → Type 0
 GoesOn host build =
     (later : List Event) (then : HostView) → then.limits ≡ host.limits → then.history ≡ host.history ++ later
@@ -48,8 +50,8 @@ pub record LeavesNothing (host : HostView) (build : ℕ) (new : HostView) : Type
   pub legal : IsLegal new.limits (erase build new.history)
   pub no_trace : replay new.limits (erase build new.history) ≡ Some (world_of new)
 
--- All that the build has open above the first `count` operations is undone, the newest first. The build leaves abort if
--- nothing is left open, and its mark is dropped if it is above what is left.
+-- The host after all but the oldest `count` of a build's open operations are undone, the newest first. The build leaves
+-- abort if nothing is left open, and its mark is dropped if it is above what is left.
 abbrev pub undone_to : HostView → ℕ → ℕ → HostView
 undone_to host build count = record host {
   history = host.history ++ map (by build) (reverses (reverse (drop count (open_of host build))));
@@ -57,7 +59,7 @@ undone_to host build count = record host {
   marks = slice_set host.marks build (mark_while count (mark_of host build));
 }
 
--- the build has gone down to `count` open operations
+-- all but the oldest `count` of the build's open operations were undone
 pub record IsDown (host : HostView) (build count : ℕ) (new : HostView) : Type 0 where
   pub new_is : new ≡ undone_to host build count
   pub legal : IsLegal new.limits new.history
@@ -66,7 +68,7 @@ pub record IsDown (host : HostView) (build count : ℕ) (new : HostView) : Type 
 abbrev pub checks_of_abort : HostView → ℕ → List Check
 checks_of_abort host build = no_build host build ∷ any_rec_running host build ∷ []
 
--- the reverses of all that is open are recorded, and the build is out of abort
+-- the reverses of all operations that were open are recorded, and the build is no longer in abort
 pub record IsAborted (host : HostView) (build count : ℕ) (new : HostView) : Type 0 where
   pub count_is : count ≡ length (open_of host build)
   pub new_is : new ≡ undone_to host build 0

@@ -21,7 +21,8 @@ pub record HasRoomFor (host : HostView) (build : ℕ) (act : Act) : Type 0 where
   pub room : 0 < room_taken act → used host build + room_taken act ≤ host.capacity
   pub few_open : is_paired act ≡ true → length (open_of host build) < 512
 
--- the operation is asked for, in turn, and the build has capacity for it
+-- the operation may be asked of the RMM, its build has the room that it takes, and if it is a reverse, it reverses the
+-- newest open operation
 pub record CanAct (host : HostView) (build : ℕ) (act : Act) : Type 0 where
   pub asked : IsAsked host.limits (world_of host) build act
   pub turn : IsInTurn host.history (by build act)
@@ -32,12 +33,12 @@ pub record IsRecorded (host : HostView) (build : ℕ) (act : Act) (new : HostVie
   pub legal : IsLegal host.limits (host.history ++ by build act ∷ [])
   pub grows : new ≡ with_event host build act
 
--- The operation is recorded; or it is refused with its outcome, and nothing changes.
+-- The operation is recorded; or it is refused with the RMM's error, and nothing changes.
 abbrev pub IsActed : HostView → ℕ → Act → Result (Unit {0}) Rmi → HostView → Type 0
 IsActed host build act (Ok done) new = IsRecorded host build act new
 IsActed host build act (Err rmi) new = (outcome_in host.limits (world_of host) (by build act) ≡ Err rmi) × (new ≡ host)
 
--- A free block is leased; or there is none, and nothing changes.
+-- A free block of the given order is leased to the build; or there is none, and nothing changes.
 abbrev pub IsBlockTaken : HostView → ℕ → ℕ → Option ℕ → HostView → Type 0
 IsBlockTaken host build order (Some first) new = ((no_block host order).0 ≡ false) × IsRecorded host build (Take order first) new
 IsBlockTaken host build order None new = ((no_block host order).0 ≡ true) × (new ≡ host)
@@ -47,11 +48,11 @@ abbrev pub IsApplied : HostView → ℕ → Act → Bool → HostView → Type 0
 IsApplied host build act true new = IsRecorded host build act new
 IsApplied host build act false new = (IsLegal host.limits (host.history ++ by build act ∷ []) → ⊥) × (new ≡ host)
 
--- An operation cannot be a step of the world.
+-- An operation is not possible in the host's world: it leads to no next world.
 abbrev pub IsNoStep : HostView → ℕ → Act → Type 0
 IsNoStep host build act = (next : World) → step host.limits (world_of host) (by build act) ≡ Some next → ⊥
 
--- the operation is the reverse of the newest operation that the build has open, which created no REC that runs
+-- the operation reverses the build's newest open operation, which created no REC that runs
 pub record IsBack (host : HostView) (build : ℕ) (back : Act) : Type 0 where
   pub newest : Act
   pub newest_is : last_or None (open_of host build) ≡ Some newest

@@ -27,8 +27,8 @@ abbrev pub byte_read : HostView → Cmd → List ℕ → ℕ
 byte_read host (Peek page offset) (granule ∷ others) = slice_index (cell_at (world_of host).machine granule).bytes offset
 byte_read host _ _ = 0
 
--- The lowest free VMID, the next REC number in the build's realm, and the byte that a Peek reads. A value that does
--- not exist is replaced by a number that does not matter.
+-- The values that are allocated for a command: the lowest free VMID, the realm's next REC number, and the byte that a
+-- Peek reads. A value that does not exist is replaced by a number that does not matter.
 abbrev pub allocated_for : HostView → ℕ → Cmd → List ℕ → Allocated
 allocated_for host build cmd granules = record {
   vmid = unwrap_or (lowest_vmid host) 1;
@@ -36,18 +36,18 @@ allocated_for host build cmd granules = record {
   byte = byte_read host cmd granules;
 }
 
--- the operation of a command other than a Take, with its page numbers turned into the build's granules
+-- the operation, if any, that a command other than a Take asks for, with page numbers turned into the build's granules
 abbrev pub act_asked : HostView → ℕ → Cmd → Option Act
 act_asked host build cmd =
     act_of cmd (granules_named host build cmd) (allocated_for host build cmd (granules_named host build cmd))
 
--- the outcome of that operation in the world
+-- the outcome of the operation of a command other than a Take, in the host's world
 abbrev pub outcome_asked : HostView → ℕ → Cmd → Outcome
 outcome_asked host build cmd =
     outcome_of_act host.limits (used_vmids (world_of host).machine) (act_asked host build cmd) (realm_of build (world_of host))
     (map (seen (world_of host).machine) (granules_named host build cmd))
 
--- the RMM refuses to read the byte of a Peek
+-- the command is a Peek, and the RMM refuses to read its byte with the given error
 abbrev pub IsPeekRefused : HostView → Cmd → List ℕ → Rmi → Type 0
 IsPeekRefused host (Peek page offset) (granule ∷ others) rmi = host_peek (seen (world_of host).machine granule) ≡ Err rmi
 IsPeekRefused host _ _ rmi = ⊥

@@ -20,8 +20,9 @@ use Rattle.realm_host.specs.Call.{Call, Ask, Undo}
 use Rattle.realm_host.specs.Allocation.{act_asked}
 use Rattle.realm_host.specs.Refusals.{refusal_of}
 
--- The operation is that of the call, its page numbers turned into granules by the build's pages. The block of a Take
--- may be any; all other allocations are fixed. An undo is the reverse of the newest operation that the build has open.
+-- The operation is what the call asks for, with page numbers turned into the build's granules. The block of a Take may
+-- be any; all other allocations are fixed. An undo asks for the reverse of the newest operation that the build has
+-- open.
 abbrev pub IsActOf : HostView → ℕ → Call → Act → Type 0
 IsActOf host build (Ask (Take order)) act = (first : ℕ) × (act ≡ acts.Take order first)
 IsActOf host build (Ask cmd) act = act_asked host build cmd ≡ Some act
@@ -34,7 +35,7 @@ pub record IsAccepted (host : HostView) (build : ℕ) (call : Call) (act : Act) 
   pub legal : IsLegal host.limits (host.history ++ by build act ∷ [])
   pub grows : new ≡ with_event host build act
 
--- The command is accepted, and the reply is the one for its operation.
+-- The command is accepted, and gets the reply for its operation.
 pub record IsReplied (host : HostView) (build : ℕ) (cmd : Cmd) (reply : Reply) (new : HostView) : Type 0 where
   pub act : Act
   pub accepted : IsAccepted host build (Ask cmd) act new
@@ -47,18 +48,19 @@ pub record IsUndone (host : HostView) (build : ℕ) (undone : Undone) (new : Hos
   pub kind : option_and_then act_kind (last_or None (open_of host build)) ≡ Some undone.kind
   pub left : undone.left ≡ length (open_of host build) - 1
 
--- A call gets the refusal that holds, and nothing changes; or the reply, and its one event is recorded.
+-- A call gets the refusal that applies, and nothing changes; or it gets the reply, and its one event is recorded.
 abbrev pub IsAnswer : HostView → ℕ → Call → HostAnswer → HostView → Type 0
 IsAnswer host build call (Refused refusal) new = (refusal_of host build call ≡ Some refusal) × (new ≡ host)
 IsAnswer host build (Ask cmd) (Replied reply) new = IsReplied host build cmd reply new
 IsAnswer host build Undo (WasUndone undone) new = IsUndone host build undone new
 IsAnswer host build _ _ new = ⊥
 
--- the result of `command` and `undo`, as an answer
+-- the result of `command`, as an answer
 abbrev pub replied : Result Reply Refusal → HostAnswer
 replied (Ok reply) = Replied reply
 replied (Err refusal) = Refused refusal
 
+-- the result of `undo`, as an answer
 abbrev pub undone : Result Undone Refusal → HostAnswer
 undone (Ok done) = WasUndone done
 undone (Err refusal) = Refused refusal

@@ -8,11 +8,11 @@ use Rattle.host_ledger.specs.Booted.{booted}
 use Rattle.realm_host.specs.Settings.{AreSettings}
 use Rattle.realm_host.specs.declared.settings.Settings.{Settings}
 
--- a host that has just been booted over `pages` pages
+-- a host that has just been booted with the given settings and `pages` pages
 abbrev pub booted_by : Settings → ℕ → HostView
 booted_by settings pages = booted pages settings.vmids settings.aux settings.builds settings.history
 
--- The numbers of a host are in their ranges: those of its settings, and that of its pages.
+-- The numbers in a host's settings and its number of pages are in their ranges.
 pub record IsInRange (limits : Limits) (capacity : ℕ) : Type 0 where
   pub settings : AreSettings limits.vmids limits.aux capacity limits.builds
   pub few_vmids : limits.vmids ≤ 255

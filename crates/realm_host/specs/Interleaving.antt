@@ -11,25 +11,26 @@ use Rattle.realm_host.specs.Answer.{IsAnswer}
 use Rattle.realm_host.specs.Call.{Call}
 use Rattle.realm_host.specs.declared.command.HostAnswer.{HostAnswer}
 
--- the number of open operations at the mark of each build
+-- for each build, the number of open operations at its mark, if it has a mark
 abbrev pub depths_of : HostView → List (Option ℕ)
 depths_of host = map (λ mark. option_map (λ (m : Mark). m.length) mark) host.marks
 
--- Both are legal, of the same machine, and have the same events of each build, each build's in the same sequence.
+-- The two hosts have the same limits, and legal histories with the same events of each build in the same sequence.
 pub record DidTheSame (host twin : HostView) : Type 0 where
   pub legal : IsLegal host.limits host.history
   pub twin_legal : IsLegal twin.limits twin.history
   pub limits : twin.limits ≡ host.limits
   pub events : HasSameEvents host.history twin.history
 
--- They have the same world, and for each build the same open operations, the same pages, and as much of its room used.
+-- The two hosts have the same world, and for each build the same open operations, pages and used room.
 pub record AreIndistinguishable (host twin : HostView) : Type 0 where
   pub world : world_of twin ≡ world_of host
   pub opened : (build : ℕ) → open_of twin build ≡ open_of host build
   pub pages : (build : ℕ) → pages_of_build twin build ≡ pages_of_build host build
   pub room : (build : ℕ) → used twin build ≡ used host build
 
--- The hosts did the same, with equal room for builds, the same builds in abort, and equally deep marks.
+-- The hosts differ only in the schedule of their builds: each build's events, its room, its abort flag and the number
+-- of operations open at its mark are the same.
 pub record DifferInInterleaving (host twin : HostView) : Type 0 where
   pub same : DidTheSame host twin
   pub capacity : twin.capacity ≡ host.capacity
@@ -42,7 +43,7 @@ pub record IsAlsoAnswered (IsAnswered : HostView → Type 0) (new : HostView) : 
   pub answered : IsAnswered then
   pub differ : DifferInInterleaving new then
 
--- If one host can give an answer to a command or an undo, so can the other. The same holds of the begin of an abort and
+-- If one host can give an answer to a command or an undo, so can the other. The same holds of the start of an abort and
 -- of a whole abort.
 abbrev pub CallRevealsNothing : HostView → HostView → ℕ → Call → HostAnswer → HostView → Type 0
 CallRevealsNothing host twin build call answer new = IsAnswer host build call answer new → IsAlsoAnswered (IsAnswer twin build call answer) new

@@ -17,24 +17,24 @@ use Rattle.realm_host.specs.Served.{IsServed}
 
 -- ---- the mark
 
--- the mark is the build's present point, and is kept from then on
+-- the mark is the build's current point in the history, and the host keeps it
 pub record IsMarkedAs (host : HostView) (build : ℕ) (mark : Mark) (new : HostView) : Type 0 where
   pub mark_is : mark ≡ mark_now host build
   pub new_is : new ≡ with_mark host build mark
   pub kept : mark_of new build ≡ Some mark
 
--- The call is refused, or returns the build's present point, which is kept in place of an older mark.
+-- The call is refused, or returns a mark at the build's current point, which is kept in place of an older mark.
 abbrev pub IsMarked : HostView → ℕ → Result Mark Refusal → HostView → Type 0
 IsMarked host build result new =
     IsServed (build_checks (summary_of host) build) host (IsMarkedAs host build) result new
 
 -- ---- the way back
 
--- this is the mark that is kept for the build
+-- the host keeps this mark for the build
 abbrev pub is_kept : HostView → ℕ → Mark → Bool
 is_kept host build mark = elim (mark_of host build) [ Some kept ↦ is_same_mark kept mark | None ↦ false ]
 
--- refusal 7: the mark is not the one that is kept for the build
+-- refusal 7: the host does not keep this mark for the build
 abbrev pub not_kept : HostView → ℕ → Mark → Check
 not_kept host build mark = (not (is_kept host build mark), NothingToUndo)
 
@@ -47,14 +47,14 @@ abbrev pub checks_of_back : HostView → ℕ → Mark → List Check
 checks_of_back host build mark =
     build_checks (summary_of host) build ++ (not_kept host build mark ∷ rec_running_above host build mark ∷ [])
 
--- The number of operations above the mark, or the reason why the build cannot go back to it.
+-- The number of open operations above the mark, or the refusal if the build cannot go back to the mark.
 abbrev pub way_back : HostView → ℕ → Mark → Result ℕ Refusal
 way_back host build mark = elim (first_that_holds (checks_of_back host build mark)) [
   | Some refusal ↦ Err refusal
   | None ↦ Ok (length (above (point_of mark) host.history))
 ]
 
--- All that the build opened above the mark was reversed, the newest first. The mark stays.
+-- All that the build had open above the mark was reversed, the newest first. The mark stays.
 pub record IsBackAt (host : HostView) (build : ℕ) (mark : Mark) (count : ℕ) (new : HostView) : Type 0 where
   pub count_is : count ≡ length (above (point_of mark) host.history)
   pub new_is : new ≡ undone_to host build mark.length

@@ -8,8 +8,8 @@ use Rattle.realm_model.specs.Ownership.{OwnsSame}
 use Rattle.realm_model.specs.Undoing.{by}
 use Rattle.host_ledger.specs.View.{HostView, world_of}
 
--- If the history ends with an operation of the build that has a reverse, this operation is undone. The new world owns
--- the same as the world before that event.
+-- If the history ends with an operation of the build, and the operation has a reverse, ownership is the same in the new
+-- world as before the operation.
 abbrev pub LeadsBack : HostView → ℕ → HostView → Type 0
 LeadsBack host build new =
     (before : List Event) (act : Act) → host.history ≡ before ++ by build act ∷ [] → is_paired act ≡ true

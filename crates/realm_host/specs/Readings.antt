@@ -25,19 +25,19 @@ granule_at world granule = if nat_lt granule (length world.machine) then Some (r
 
 -- ---- realms
 
--- the realm of a build
+-- the row of a build's realm, if it has one: all that the world keeps of the realm
 abbrev pub row_of : World → ℕ → Option RealmRow
 row_of world build = option_and_then (λ (rd : Seen). rd.cell.descriptor) (realm_of build world)
 
--- the state and the VMID of a build's realm
+-- the state and the VMID of a build's realm, if the build has one
 abbrev pub realm_at : World → ℕ → Option (RealmState × ℕ)
 realm_at world build = option_map (λ (realm : RealmRow). (realm.state, realm.vmid)) (row_of world build)
 
--- the measurement of a build's realm
+-- the measurement of a build's realm, if the build has one
 abbrev pub measurement_at : World → ℕ → Option (List ℕ)
 measurement_at world build = option_map (λ (realm : RealmRow). realm.measurement) (row_of world build)
 
--- the REC of that number in a build's realm: the granule, and the REC's own attributes
+-- the granule and the attributes of the REC with a given number in a build's realm, if there is one
 abbrev pub rec_at : World → ℕ → ℕ → Option (ℕ × RecAttributes)
 rec_at world build number =
     option_map (λ (rec : RecRow). (rec.granule, rec_attributes_of number rec))
@@ -49,6 +49,7 @@ rec_at world build number =
 abbrev pub row_view : ℕ → Walk → RowView
 row_view ipa end = record { level = end.level; first = first_covered end.level ipa; entry = end.row }
 
--- the row at which the walk ends in the realm of a build, if the realm has the IPA granule
+-- the row at which the walk of an IPA granule, down to the given level at most, ends in a build's realm, if the realm
+-- has that IPA granule
 abbrev pub row_at : World → ℕ → ℕ → ℕ → Option RowView
 row_at world build ipa level = option_map (row_view ipa) (option_and_then (λ (realm : RealmRow). walk_of realm ipa level) (row_of world build))

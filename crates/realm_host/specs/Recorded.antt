@@ -15,19 +15,19 @@ pub record CanApply (host : HostView) (event : Event) : Type 0 where
   pub legal : IsLegal host.limits (host.history ++ event ∷ [])
   pub room : HasRoomFor host event.build event.act
 
--- The first reason why an event cannot be applied. With room for it, a reverse is refused only if it is not in turn, or
--- its REC runs. Any other operation is refused only if it is no step.
+-- The first reason why an event that cannot be applied is refused. With room for it, a reverse is refused only if it is
+-- not in turn, or its REC runs. Any other operation is refused only if it is no step.
 abbrev pub IsWhyNot : HostView → Event → WhyNot → Type 0
 IsWhyNot host event NoRoom = (event.build < host.limits.builds) × ¬ (HasRoomFor host event.build event.act)
 IsWhyNot host event NotNewest = (event.build < host.limits.builds) × HasRoomFor host event.build event.act × (is_reverse event.act ≡ true)
 IsWhyNot host event NoStep = (host.limits.builds ≤ event.build) ⊎ (HasRoomFor host event.build event.act × (is_reverse event.act ≡ false))
 
--- a host that has just been booted, with the same settings and as many pages
+-- a host that has just been booted, with the same settings and the same number of pages as a given host
 abbrev pub fresh_like : HostView → HostView
 fresh_like host = booted host.limits.pages host.limits.vmids host.limits.aux host.limits.builds host.capacity
 
--- The new host is freshly booted, with the old history without the build's events. Its world is the old world without
--- that build.
+-- The new host is like a freshly booted one, but has the old history without the build's events. Its world is the old
+-- world without that build.
 pub record IsWithout (host : HostView) (build : ℕ) (new : HostView) : Type 0 where
   pub new_is : new ≡ record (fresh_like host) { history = erase build host.history }
   pub world : world_of new ≡ without (world_of host) build

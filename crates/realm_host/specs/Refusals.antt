@@ -18,7 +18,7 @@ use Rattle.realm_host.specs.Allocation.{outcome_asked}
 
 -- ---- by number; those of a command but 11 and 13 are its checks by its needs
 
--- refusal 1
+-- refusal 1: there is no such build
 abbrev pub no_build : HostView → ℕ → Check
 no_build host build = (nat_le host.limits.builds build, NoBuild)
 
@@ -37,33 +37,33 @@ is_newest_running host build = elim (last_or None (open_of host build)) [
 abbrev pub rec_running : HostView → ℕ → Check
 rec_running host build = (is_newest_running host build, RecRunning)
 
--- an aligned block of the order begins there, and nobody leases a granule of it
+-- an aligned block of the given order begins at granule `first`, and no build leases a granule of it
 abbrev pub is_free_block : World → ℕ → ℕ → Bool
 is_free_block world order first = is_block_start order first && list_all (is_leased_to None world.leases) (block order first)
 
--- refusal 11
+-- refusal 11: no block of the given order is free
 abbrev pub no_block : HostView → ℕ → Check
 no_block host order =
     (not (list_any (is_free_block (world_of host) order) (range_with_len 0 (length (world_of host).leases))), NoBlock order)
 
--- refusal 13: the RMM refuses, with the first check that fails
+-- refusal 13: the RMM refuses the operation, with the error of the first check that fails
 abbrev pub refused_by : Outcome → List Check
 refused_by (Ok updates) = []
 refused_by (Err rmi) = (true, Rmi rmi) ∷ []
 
--- refusal 11 of a Take, and 13 of any other command
+-- the last check of a command: for refusal 11 if it is a Take, and for refusal 13 if it is any other command
 abbrev pub last_checks : HostView → ℕ → Cmd → List Check
 last_checks host build (Take order) = no_block host order ∷ []
 last_checks host build cmd = refused_by (outcome_asked host build cmd)
 
 -- ---- the checks of a call
 
--- The checks of a call, in the order of their numbers. A reverse has kept its room, and the RMM refuses only the
--- reverse of a REC that runs.
+-- The checks of a call, in the order of the refusals' numbers. A reverse has kept its room, and the RMM refuses only
+-- the reverse of a REC that runs.
 abbrev pub checks_of_call : HostView → ℕ → Call → List Check
 checks_of_call host build (Ask cmd) = checks_of (summary_of host) build cmd ++ last_checks host build cmd
 checks_of_call host build Undo = no_build host build ∷ nothing_to_undo host build ∷ rec_running host build ∷ []
 
--- The refusal of a call: of those that apply to it and hold, the one with the lowest number.
+-- The refusal of a call, if there is one: the refusal with the lowest number whose condition holds.
 unfoldable pub refusal_of : HostView → ℕ → Call → Option Refusal
 refusal_of host build call = first_that_holds (checks_of_call host build call)

@@ -20,15 +20,14 @@ use Rattle.realm_model.specs.declared.act.Event.{Event}
 
 -- ---- calls
 
--- An operation of a build that is applied as recorded: it is applied exactly when it can be, and nothing changes
--- elsewhere.
+-- A recorded operation of a build is applied if and only if it can be; otherwise nothing changes.
 pub record IsApplyAnswer (host : HostView) (build : ℕ) (act : Act) (result : Bool) (new : HostView) : Type 0 where
   pub answer : (result ≡ true) ↔ CanApply host (by build act)
   pub applied : OnTrue result (new ≡ with_event host build act)
   pub unchanged : OnFalse result (new ≡ host)
 
--- A question of a build to a host, with its answer. It is a command or an undo, the begin of an abort, a whole abort, a
--- mark, the way back to one, or a recorded operation.
+-- A call that a build makes to a host, with the answer. It is a command or an undo, the start of an abort, a whole
+-- abort, a mark, the way back to one, or a recorded operation.
 pub data AnsweredCall : Type 0 where
   Calls : Call → HostAnswer → AnsweredCall
   Begins : Result ℕ Refusal → AnsweredCall
@@ -46,14 +45,14 @@ IsAnsweredSo host build (Marks result) new = IsMarked host build result new
 IsAnsweredSo host build (GoesBack mark result) new = IsBackAnswer host build mark result new
 IsAnsweredSo host build (Applies act result) new = IsApplyAnswer host build act result new
 
--- A recorded operation is applied even to a build in abort. So it is one of other builds alone; any other question may
--- be of any build.
+-- While a build is in abort, any build may make any call, except that recorded operations may be applied for other
+-- builds only. The host would apply one even for the build in abort.
 abbrev pub MayBeAsked : ℕ → ℕ → AnsweredCall → Type 0
 MayBeAsked build other (Applies act result) = other ≢ build
 MayBeAsked build other _ = Unit {0}
 
--- Calls of any builds, one after another. The build is in abort before each of them, so at most the last one ends the
--- abort.
+-- Calls of any builds, one after another, lead from `host` to `new` during the abort of a build. The build is in abort
+-- before each of them, so at most the last one ends the abort.
 abbrev pub AreWhileAborting : ℕ → HostView → List (ℕ × AnsweredCall) → HostView → Type 0
 AreWhileAborting build host [] new = new ≡ host
 AreWhileAborting build host ((other, call) ∷ calls) new =
@@ -62,7 +61,7 @@ AreWhileAborting build host ((other, call) ∷ calls) new =
 
 -- ---- their outcome
 
--- An abort of the build began at the host `old`, and all calls since have led to `host`:
+-- What holds of `host` if an abort of the build began at the host `old`, and all calls since then have led to `host`:
 pub record IsInAbortSince (old : HostView) (build : ℕ) (host : HostView) : Type 0 where
   -- its history is legal, and longer by what others did, and by reverses of the build;
   pub limits : host.limits ≡ old.limits

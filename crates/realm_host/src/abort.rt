@@ -1,4 +1,5 @@
-//! Aborts a build: undoes all its open operations. They are those that have a reverse and are not undone yet.
+//! The abort of a build, which undoes all its open operations. They are those that have a reverse and are not undone
+//! yet.
 ghost use Rattle.std.specs.Prelude.{◌≡◌, ◌<◌, ◌≤◌, drop, false, length};
 ghost use Rattle.std.specs.List.{list_any};
 ghost use Rattle.std.specs.Result.{OnOk};

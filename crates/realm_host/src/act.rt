@@ -1,4 +1,4 @@
-//! Performs and records the operations of builds, except Take and its reverse.
+//! The function that performs and records an operation of a build, other than a Take and its reverse.
 ghost use Rattle.realm_host.specs.Acting.{CanAct, IsActed};
 
 use crate::Host;

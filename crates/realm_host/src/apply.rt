@@ -1,4 +1,5 @@
-//! Applies recorded events to a host. Each is applied with the block, the VMID or the REC number that it records.
+//! The application of recorded events to a host. Each is applied with the block, the VMID or the REC number that it
+//! records.
 ghost use Rattle.std.specs.Prelude.{◌≡◌, ◌↔◌, ◌<◌, Some, true, false};
 ghost use Rattle.std.specs.Bool.{OnTrue, OnFalse};
 ghost use Rattle.std.specs.List.{list_all};

@@ -181,7 +181,7 @@ impl<S: PageStore> Host<S> {
         }
     }
 
-    /// Returns the description of a build's realm. Returns `None` if the build has no realm. The result has the realm's
+    /// Returns the descriptor of a build's realm. Returns `None` if the build has no realm. The result has the realm's
     /// state, its VMID, its starting tables with the width of its IPAs, the number of its next REC, and its
     /// measurement. A walk of its tables begins at level 1.
     pub fn realm(&self, build: BuildId) -> Option<&RealmDesc>

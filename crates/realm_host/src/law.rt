@@ -1,4 +1,4 @@
-//! Theorems on the schedules of a host's builds, and on aborts.
+//! Theorems about the schedules of a host's builds, and about aborts.
 ghost use Rattle.std.specs.Prelude.{ℕ, List, Result, Ok};
 ghost use Rattle.host_ledger.specs.View.{HostView};
 ghost use Rattle.host_commands.specs.declared.refusal.Refusal.{Refusal};

@@ -1,5 +1,5 @@
-//! Sets rollback points (marks) of builds, and rolls builds back to them. A mark is a point among a build's open
-//! operations.
+//! The rollback points (marks) of builds, and the rollback of a build to its mark. A mark is a point among a build's
+//! open operations.
 ghost use Rattle.std.specs.Prelude.{◌≡◌, ◌<◌};
 ghost use Rattle.std.specs.Bool.{OnTrue};
 ghost use Rattle.std.specs.List.{list_any};

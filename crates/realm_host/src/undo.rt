@@ -1,4 +1,4 @@
-//! Undoes a build's newest open operation: the newest one that has a reverse and is not undone yet.
+//! The undo of a build's newest open operation: the newest one that has a reverse and is not undone yet.
 ghost use Rattle.std.specs.Prelude.{◌≡◌, ◌<◌, IfOk};
 ghost use Rattle.std.specs.Result.{OnOk};
 ghost use Rattle.realm_model.specs.History.{IsLegal};

@@ -9,8 +9,8 @@ use thiserror::Error;
 /// The reason why a recorded event cannot be applied.
 #[derive(Clone, Copy, Debug, Error)]
 pub enum WhyNot {
-    /// An event for which its build has too little capacity left. The build has too little room left in the history, or
-    /// the event has a reverse and the build already has 512 open operations.
+    /// An event for which its build has too little room. The build has too little room left in the history, or the
+    /// event has a reverse and the build already has 512 open operations.
     #[error("its build has not the room that it takes")]
     NoRoom,
     /// An event that would undo an operation which cannot be undone now. The operation is not the build's newest open

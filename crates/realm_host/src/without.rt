@@ -1,4 +1,4 @@
-//! Applies a history to a new host, leaving out the events of one build.
+//! The application of a history to a new host, without the events of one build.
 ghost use Rattle.std.specs.Prelude.{◌≡◌};
 ghost use Rattle.realm_host.specs.Recorded.{fresh_like, IsWithout};
 

@@ -1,5 +1,5 @@
--- The proof that a history without one build's events is still accepted, and that the other builds use the same
--- capacity.
+-- The proof that a history is still accepted if one build's events are left out, and that the other builds use as much
+-- capacity as before.
 use Rattle.std.proofs.Common.{◌≡◌, ◌≢◌, ℕ, zero, suc, ◌+◌, ◌<◌, ◌≤◌, ⊎_elim, true, false, not, cond, List, [], ◌∷◌, ◌++◌, length, take, Some, refl, sym, ap, ◌∙◌, subst, arith}
 use Rattle.std.specs.Prelude.{◌==◌, option_map}
 use Rattle.std.specs.List.{sum_by}

@@ -1,5 +1,5 @@
--- Proofs that worlds with the same ownership still have it after similar updates: updates of the same granules, to
--- cells with the same ownership.
+-- Proofs that two worlds keep the same ownership if the same granules in both are updated to cells with the same
+-- ownership.
 use Rattle.std.proofs.Common.{◌≡◌, ℕ, Bool, true, false, cond, List, [], ◌∷◌, ◌++◌, map, set, Some, Ok, Err, refl, sym, ap, ◌∙◌, subst}
 use Rattle.std.specs.Prelude.{◌==◌}
 use Rattle.std.specs.FinMap.{get}

@@ -1,5 +1,5 @@
--- Proofs on steps of the model: taking a free block leases its granules, and giving a block back makes its granules
--- blank and free.
+-- Proofs that taking a free block leases the block's granules, and that giving a block back makes its granules blank
+-- and free.
 use Rattle.std.proofs.Common.{◌≡◌, ℕ, ◌<◌, true, false, List, [], ◌∷◌, map, set, Some, None, Ok, refl, sym, ap, ◌∙◌}
 use Rattle.std.specs.Prelude.{slice_get}
 use Rattle.std.specs.List.{All, list_all}

@@ -1,5 +1,5 @@
--- The proof that a build owns what its open operations led to, whatever happened since, derived from theorems on single
--- steps.
+-- The proof, from theorems about single steps, that what a build owns results from its open operations alone, whatever
+-- other events the history has.
 use Rattle.std.proofs.Common.{◌≡◌, ◌≢◌, ℕ, suc, ◌+◌, ◌≤◌, true, false, List, [], ◌∷◌, ◌++◌, length, take, reverse, Some, None, arith, refl, sym, ap, ◌∙◌, subst}
 use Rattle.std.specs.Prelude.{◌==◌, option_and_then}
 use Rattle.std.specs.List.{last_or}

@@ -1,4 +1,5 @@
--- Lemmas on a range as a list: all its elements have a property if and only if each number of the range has it.
+-- Proofs that a property holds of all elements of a list of consecutive numbers exactly if it holds of each number from
+-- the first to the last.
 use Rattle.std.proofs.Common.{◌≡◌, ℕ, ◌+◌, ◌-◌, ◌<◌, ◌≤◌, sym, ◌∙◌, subst, arith}
 use Rattle.std.specs.List.{All, range_with_len}
 use Rattle.std.proofs.lemmas.List.FromFn.{length-range_with_len, get_or-range_with_len}

@@ -1,4 +1,4 @@
--- Examples of small histories, whose worlds are computed.
+-- Examples of small histories, and of the worlds that they lead to.
 -- First, the functions that build the histories.
 pub mod Worlds
 -- pages of two builds

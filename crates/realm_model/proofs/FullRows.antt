@@ -1,4 +1,4 @@
--- Proofs that the commands keep a row for each entry of a realm's tables, and that each RTT walk ends at a row.
+-- Proofs that no row of a realm's tables is missing after any command, so that each RTT walk ends at a row.
 use Rattle.std.proofs.Common.{◌/◌, ◌≡◌, ◌≢◌, ℕ, zero, suc, ◌+◌, ◌-◌, ◌*◌, ◌<◌, ◌≤◌, Bool, true, false, cond, not, inl, inr, Some, None, refl, sym, ap, ◌∙◌, subst, arith}
 use Rattle.std.specs.Prelude.{option_map, is_some, ◌==◌}
 use Rattle.std.specs.FinMap.{get, insert, empty, get-empty}

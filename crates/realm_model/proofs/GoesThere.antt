@@ -1,5 +1,5 @@
--- The proof that an accepted event is also accepted where another build's part of the world differs, unless it takes
--- from that part.
+-- The proof that an accepted event is also accepted in a world that differs only in another build's part, unless the
+-- event takes a granule or a VMID of that part.
 use Rattle.std.proofs.Common.{◌≡◌, ◌≢◌, ℕ, true, false, cond, ◌||◌, not, List, [], ◌∷◌, map, Option, Some, None, Ok, refl, sym, ap, ◌∙◌}
 use Rattle.std.specs.Prelude.{◌==◌, slice_get, option_map}
 use Rattle.std.specs.List.{list_all}

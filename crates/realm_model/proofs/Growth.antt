@@ -1,5 +1,5 @@
--- Proofs on a legal history with one more event: the history is legal, and the event changes only its own build's open
--- operations.
+-- Proofs that a legal history stays legal with one more event if the event is a step and in turn, and that only its
+-- build's open operations change.
 use Rattle.std.proofs.Common.{◌≡◌, ◌≢◌, ℕ, true, false, cond, List, [], ◌∷◌, ◌++◌, map, Option, Some, None, refl, sym, ap, ◌∙◌, subst}
 use Rattle.std.specs.Prelude.{◌==◌, option_and_then, is_some, filter}
 use Rattle.std.specs.List.{last_or}

@@ -1,5 +1,5 @@
--- Proofs that a step of the model is also a step in a world without another build, and in a world with its own build
--- alone.
+-- Proofs that a build's step is also a step in the world without another build and in the build's own part, and changes
+-- no other build's part.
 use Rattle.std.proofs.Common.{◌≡◌, ◌≢◌, ℕ, suc, Bool, true, false, cond, ◌&&◌, not, List, [], ◌∷◌, map, Option, Some, None, Ok, Err, refl, sym, ap, ◌∙◌}
 use Rattle.std.specs.Option.{option_eq}
 use Rattle.std.specs.Prelude.{◌==◌, slice_get, option_map, is_some}

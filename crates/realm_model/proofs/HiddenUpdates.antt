@@ -1,5 +1,5 @@
--- Proofs that a command's updates are the same if other builds are hidden, and change nothing visible if its own build
--- is hidden.
+-- Proofs that a command's updates have the same effect if other builds are hidden, and change nothing visible if the
+-- command's own build is hidden.
 use Rattle.std.proofs.Common.{◌≡◌, ℕ, Bool, true, false, cond, List, [], ◌∷◌, map, set, Option, Some, None, refl, sym, ap, ◌∙◌}
 use Rattle.std.specs.Prelude.{slice_get, option_map}
 use Rattle.std.proofs.lemmas.List.{map-set}

@@ -1,4 +1,4 @@
--- Proofs on the realm model, by topic. The first topic: lemmas on tests, lists and maps.
+-- Proofs about the realm model, by topic. The first topic: lemmas on tests, lists and maps.
 pub mod Booleans
 pub mod Lists
 pub mod SetEach

@@ -1,5 +1,5 @@
--- Lemmas on the roles of a REC's auxiliaries and of starting tables: a granule has such a role if and only if it is
--- listed.
+-- Lemmas about the roles of listed granules (starting tables, or a REC's auxiliary granules): a granule has such a role
+-- if and only if it is in the list.
 use Rattle.std.proofs.Common.{◌≡◌, ℕ, zero, suc, ◌+◌, true, false, cond, ◌||◌, List, [], ◌∷◌, Option, Some, None, refl, sym, ap, ◌∙◌, arith}
 use Rattle.std.specs.Prelude.{◌==◌, option_map, slice_get}
 use Rattle.std.proofs.lemmas.Bool.{eq-eqb, ne_eqb}

@@ -1,4 +1,5 @@
--- Lemmas on lists: the last element and the rest, look-ups after a write, membership, and lists with no element twice.
+-- Lemmas on lists: the last element and the rest, look-ups after a write, membership, ranges of numbers, and lists
+-- without duplicates.
 use Rattle.std.proofs.Common.{◌≡◌, ◌≢◌, ℕ, zero, suc, ◌+◌, ◌-◌, ◌<◌, ◌≤◌, Bool, true, false, cond, ◌||◌, List, [], ◌∷◌}
 use Rattle.std.proofs.Common.{◌++◌, length, set, take, drop, reverse, Option, Some, None, refl, sym, ap, ◌∙◌, arith}
 use Rattle.std.specs.Prelude.{slice_get, ◌==◌}

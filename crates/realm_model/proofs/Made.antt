@@ -1,5 +1,5 @@
--- Lemmas on lists computed from a build's open operations: each operation adds a part, and its reverse removes that
--- part.
+-- Lemmas about lists computed from a build's open operations: an operation appends elements, and its reverse removes
+-- them.
 use Rattle.std.proofs.Common.{◌≡◌, ℕ, true, false, List, [], ◌∷◌, ◌++◌, Some, sym, ap, ◌∙◌}
 use Rattle.std.specs.List.{flat_map}
 use Rattle.std.proofs.lemmas.List.{append-nil}

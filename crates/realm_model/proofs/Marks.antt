@@ -1,4 +1,5 @@
--- The proof that a mark is valid from when it is set until its build has fewer operations open.
+-- The proof that a mark is valid from the moment it is set until its build has fewer open operations than at that
+-- moment.
 use Rattle.std.proofs.Common.{◌≡◌, ℕ, ◌+◌, ◌<◌, ◌≤◌, true, false, List, [], ◌∷◌, ◌++◌, length, take, refl, sym, ap, ◌∙◌, subst, arith}
 use Rattle.std.specs.Prelude.{nat_lt, ◌↔◌}
 use Rattle.std.proofs.lemmas.Bool.{ltb-true, ltb-false}

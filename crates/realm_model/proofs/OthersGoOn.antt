@@ -1,5 +1,5 @@
--- The proof that other builds' events are accepted without one build's later events, if the build has kept its earlier
--- granules and VMID.
+-- The proof that other builds' events are accepted if one build's part of the world is put back to an earlier state
+-- whose granules and VMID the build still has.
 use Rattle.std.proofs.Common.{◌≡◌, ◌≢◌, ℕ, zero, suc, true, false, cond, ◌⊎◌, inl, inr, not, List, [], ◌∷◌, length, Option, Some, None, sym, ap, ◌∙◌, arith, pred}
 use Rattle.std.specs.Prelude.{◌==◌, slice_get}
 use Rattle.std.proofs.lemmas.Option.{same_Some}

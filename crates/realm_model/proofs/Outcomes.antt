@@ -1,4 +1,5 @@
--- Lemmas that derive a property of a command's updates from the command's checks, one check at a time.
+-- Lemmas on the checks of a command, one at a time: which outcome each leads to, and how a property of the updates
+-- follows from them.
 use Rattle.std.proofs.Common.{◌≡◌, ℕ, Bool, true, false, cond, List, Some, None, Ok, Err, refl, ap, subst}
 use Rattle.std.specs.FinMap.{get}
 use Rattle.realm_model.specs.declared.rmi.Rmi.{Rmi}

@@ -1,4 +1,4 @@
--- The proof of the theorems on single steps that an undo requires, for the part of a world that one build owns.
+-- Proofs of the theorems about single steps that `Chain` requires, for the part of a world that one build owns.
 use Rattle.std.proofs.Common.{ℕ, refl, sym, subst}
 use Rattle.realm_model.specs.Machine.{Limits}
 use Rattle.realm_model.specs.World.{World, part_of}

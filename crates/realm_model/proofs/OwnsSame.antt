@@ -1,5 +1,5 @@
--- Proofs that sameness of ownership is an equivalence relation on worlds, and that some updates leave ownership
--- unchanged.
+-- Proofs that sameness of ownership is an equivalence relation on worlds, and that an update leaves ownership unchanged
+-- if the new cell has the ownership of the old one.
 use Rattle.std.proofs.Common.{◌≡◌, ℕ, zero, suc, true, false, cond, not, List, [], ◌∷◌, map, set, Option, Some, None, refl, sym, ap, ◌∙◌, subst, arith, length, pred}
 use Rattle.std.specs.Prelude.{slice_get, ◌==◌}
 use Rattle.realm_model.specs.Machine.{RealmRow, Cell, Machine, blank, cell_at}

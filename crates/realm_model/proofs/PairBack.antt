@@ -1,4 +1,4 @@
--- The proof that a reverse operation restores what the build owned before the reversed operation.
+-- The proof that a reverse operation restores what its build owned before the reversed operation.
 use Rattle.std.proofs.Common.{◌≡◌, ℕ, ◌^◌, Bool, true, false, cond, List, Some, None, Ok, refl, sym, ap, ◌∙◌, subst}
 use Rattle.std.specs.Prelude.{is_some, slice_get}
 use Rattle.std.specs.List.{list_all, range_with_len}

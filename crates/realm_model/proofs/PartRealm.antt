@@ -1,5 +1,5 @@
--- Proofs that a build's realm in a reached world is the one in the build's part, and that the build's running RECs are
--- that realm's.
+-- Proofs that a build's realm in a reached world is the realm in the build's part, and that the build's count of
+-- running RECs is the count in that realm.
 use Rattle.std.proofs.Common.{◌≡◌, ℕ, suc, true, false, cond, ◌&&◌, ◌⊎◌, inl, inr, List, [], ◌∷◌, length, Option, Some, None, refl, sym, ap, ◌∙◌}
 use Rattle.std.specs.Prelude.{is_some, filter}
 use Rattle.std.specs.FinMap.{get}

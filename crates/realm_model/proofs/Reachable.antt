@@ -1,4 +1,5 @@
--- The proof that every world that a history leads to satisfies `IsReachable`, from the invariants of each build's part.
+-- The proof, from the invariants of each build's part, that every world that a history leads to satisfies
+-- `IsReachable`.
 use Rattle.std.proofs.Common.{◌≡◌, ℕ, true, false, cond, not, List, Option, Some, None, refl, sym, ap, ◌∙◌, subst}
 use Rattle.std.specs.Prelude.{is_some, slice_get}
 use Rattle.std.proofs.lemmas.Bool.{eq-eqb}

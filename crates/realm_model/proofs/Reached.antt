@@ -1,4 +1,5 @@
--- The proof by induction that a property of the opening world that each step preserves holds in every reached world.
+-- The proof by induction that a property holds in every reached world if it holds in the opening world and each step
+-- preserves it.
 use Rattle.std.proofs.Common.{◌≡◌, ℕ, List, [], ◌∷◌, length, Option, Some, None, Ok, Err, refl, sym, ◌∙◌, subst, ◌++◌}
 use Rattle.std.proofs.lemmas.Option.{same_Some, option_and_then_some}
 use Rattle.std.proofs.lemmas.List.{length-set, length-replicate, append_assoc, append-nil}

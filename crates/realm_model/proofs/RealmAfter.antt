@@ -1,5 +1,5 @@
--- Proofs on a build's realm after one of the build's operations: it exists unless it is destroyed, and changes as the
--- operation allows.
+-- Proofs that a build's realm still exists after each operation of the build except RMI_REALM_DESTROY, and changes only
+-- as the operation allows.
 use Rattle.std.proofs.Common.{◌≡◌, ℕ, ◌+◌, Bool, true, false, cond, not, List, [], ◌∷◌, ◌++◌, map, Option, Some, None, refl, sym, ap, ◌∙◌, subst}
 use Rattle.std.specs.Prelude.{◌==◌}
 use Rattle.std.specs.FinMap.{get, insert, remove, len, empty_of_len, get-empty}

@@ -1,5 +1,5 @@
--- Lemmas on lists of RECs by number: look-ups and rising numbers after a REC is added at the end, or the last REC is
--- removed.
+-- Lemmas about lists of numbered RECs, after a REC is added at the end or the last one is removed: which RECs are
+-- found, and when the numbers rise.
 use Rattle.std.proofs.Common.{◌≡◌, ℕ, zero, suc, ◌+◌, ◌<◌, ◌==◌, true, false, cond, List, [], ◌∷◌, ◌++◌, length, Option, Some, None, refl, sym, ap, ◌∙◌, subst, arith, ⊎_elim}
 use Rattle.std.specs.Prelude.{is_some}
 use Rattle.std.proofs.lemmas.Bool.{cases_eq, eq-eqb, ne_eqb}

@@ -1,4 +1,4 @@
--- The proof that the RECs of a build's realm are those of the build's open Rec operations.
+-- The proof that the RECs of a build's realm are those that the build's open Rec operations created.
 use Rattle.std.proofs.Common.{◌≡◌, ℕ, true, false, cond, List, [], ◌∷◌, ◌++◌, Option, Some, None, refl, sym, ap, ◌∙◌, subst, arith, ⊎_elim}
 use Rattle.std.specs.Prelude.{is_some}
 use Rattle.std.specs.List.{flat_map}

@@ -1,5 +1,6 @@
--- Proofs that the command of a reverse operation restores what the build owned, and is refused only if a REC that it
--- destroys runs. The ownership of the build is assumed to be unchanged since the reversed operation.
+-- Proofs that the command of a reverse operation restores what its build owned before the reversed operation, and is
+-- refused only if it would destroy a running REC. The ownership of the build is assumed to be unchanged since the
+-- reversed operation.
 use Rattle.std.proofs.Common.{◌≡◌, ℕ, ◌+◌, ◌-◌, ◌*◌, ◌<◌, ◌≤◌, Bool, true, false, cond, ◌&&◌, ◌||◌, not, List, [], ◌∷◌, ◌++◌, map, Option, Some, None, Ok, refl, sym, ap, ◌∙◌, subst, arith, lit≤}
 use Rattle.std.specs.Prelude.{option_map, ◌==◌, nat_eq}
 use Rattle.std.specs.List.{list_all}

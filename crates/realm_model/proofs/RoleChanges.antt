@@ -1,5 +1,5 @@
--- Proofs that updates of host granules, or of one realm, preserve the invariant that links realms to the granules that
--- they name.
+-- Proofs that updates of UNDELEGATED and DELEGATED granules, or of one realm, preserve the invariant that links realms
+-- to the granules that they name.
 use Rattle.std.proofs.Common.{◌≡◌, ℕ, Bool, true, false, cond, ◌||◌, ◌⊎◌, inl, inr, List, [], ◌∷◌, ◌++◌, map, Option, Some, None, refl, sym, ap, ◌∙◌, subst}
 use Rattle.std.specs.Prelude.{is_some, ◌==◌, option_map}
 use Rattle.std.specs.List.{list_all}

@@ -1,5 +1,5 @@
--- Proofs that an event takes history capacity of its own build only, and that a build's used capacity is a sum over its
--- operations.
+-- Proofs that an event takes history capacity of its own build only, and that a build's used capacity is the sum of
+-- what its operations took.
 use Rattle.std.proofs.Common.{◌≡◌, ℕ, ◌+◌, Bool, true, false, cond, inl, inr, ⊎_elim, List, [], ◌∷◌, ◌++◌, length, Some, None, Ok, Err, refl, sym, ap, ◌∙◌, subst, arith}
 use Rattle.std.specs.List.{sum_by}
 use Rattle.std.proofs.lemmas.Bool.{cases_eq}

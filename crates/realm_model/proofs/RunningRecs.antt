@@ -1,4 +1,4 @@
--- Proofs that a realm's number of running RECs changes when a REC starts or stops, and not when a READY REC is created
+-- Proofs that a realm's number of running RECs changes when a REC starts or stops, but not when a READY REC is created
 -- or destroyed.
 use Rattle.std.proofs.Common.{◌≡◌, ◌≢◌, ℕ, zero, suc, ◌+◌, ◌<◌, ◌≤◌, Bool, true, false, cond, ⊎_elim, List, [], ◌∷◌, ◌++◌, length, Some, None, refl, sym, ap, ◌∙◌, arith}
 use Rattle.std.specs.Prelude.{filter, ◌==◌}

@@ -1,4 +1,5 @@
--- Lemmas on a list after one element is written at several indexes: its length, and its element at each index.
+-- Lemmas about a list after the same element is written at several indexes: the length of the list, and its element at
+-- each index.
 use Rattle.std.proofs.Common.{◌≡◌, ℕ, zero, suc, ◌<◌, true, false, cond, List, [], ◌∷◌, length, set, get_or, Some, refl, sym, ap, ◌∙◌, subst}
 use Rattle.std.specs.Prelude.{slice_get, ◌==◌}
 use Rattle.std.proofs.lemmas.Bool.{eqb-true, eqb-false}

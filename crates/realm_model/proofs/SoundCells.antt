@@ -1,4 +1,4 @@
--- The proof that commands preserve the invariant of each granule of a build.
+-- The proof that commands preserve the invariant `IsSoundCell` of each granule of a build.
 use Rattle.std.proofs.Common.{◌≡◌, ℕ, ◌+◌, ◌-◌, ◌%◌, ◌<◌, true, false, cond, inl, inr, List, [], ◌∷◌, map, set, Option, Some, None, refl, sym, ap, ◌∙◌, subst, arith}
 use Rattle.std.specs.Prelude.{option_map, is_some}
 use Rattle.std.specs.Ordering.{nat_cmp, eq_by_cmp}

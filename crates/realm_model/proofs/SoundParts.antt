@@ -1,4 +1,4 @@
--- The proof that in every reached world each build's part satisfies its invariants.
+-- The proof that in every reached world the invariants of a build's part hold for each build.
 use Rattle.std.proofs.Common.{◌≡◌, ℕ, zero, suc, Bool, true, false, cond, List, [], ◌∷◌, map, length, pred, Option, Some, None, Ok, Err, refl, sym, ap, ◌∙◌, subst, arith}
 use Rattle.std.specs.Prelude.{is_some, ◌==◌, replicate}
 use Rattle.std.proofs.lemmas.Bool.{and_parts, eqb-true, eqb-false}

@@ -1,4 +1,4 @@
--- The proof that commands preserve the invariant of the rows of a realm's translation tables.
+-- The proof that commands preserve the invariant `IsSoundRows` of the rows of a realm's translation tables.
 use Rattle.std.proofs.Common.{lit≤, ◌/◌, ◌≡◌, ◌≢◌, ℕ, ◌+◌, ◌-◌, ◌*◌, ◌<◌, ◌≤◌, Bool, true, false, cond, ◌&&◌, ◌||◌, not, ◌⊎◌, inl, inr, Option, Some, None, refl, sym, ap, ◌∙◌, subst, arith}
 use Rattle.std.specs.Prelude.{option_map, is_some, ◌==◌, nat_le, nat_lt}
 use Rattle.std.specs.FinMap.{get, insert, empty, get-empty}

@@ -1,4 +1,4 @@
--- The proof that the unmatched operations are a stack: an operation with a reverse is pushed, and a reverse operation
+-- The proof that the unmatched operations form a stack: an operation with a reverse is pushed, and a reverse operation
 -- pops the top.
 use Rattle.std.proofs.Common.{◌≡◌, ℕ, zero, suc, pred, ◌+◌, ◌-◌, ◌≤◌, Bool, true, false, cond, not, ◌&&◌, ◌||◌, List, [], ◌∷◌, ◌++◌, length, take, refl, sym, ap, ◌∙◌, arith}
 use Rattle.std.specs.Prelude.{filter, fold, ◌==◌}

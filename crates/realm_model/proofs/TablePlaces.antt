@@ -1,4 +1,4 @@
--- Proofs that the places of a table's 512 rows are exactly those that the row above the table covers.
+-- Proofs that the 512 rows of a table cover exactly the IPA granules that the row leading to the table covers.
 use Rattle.std.proofs.Common.{◌≡◌, ℕ, ◌+◌, ◌-◌, ◌*◌, ◌/◌, ◌%◌, ◌<◌, ◌≤◌, true, false, ◌||◌, refl, sym, subst, arith, lit≤}
 use Rattle.std.specs.Prelude.{◌==◌}
 use Rattle.std.proofs.lemmas.Bool.{and_parts, and_from, eqb-true, eq-eqb, lt-ltb, le-leb, ltb-true, leb-true}

@@ -1,4 +1,4 @@
--- The proof that an operation changes no ownership if it has no reverse and is no reverse.
+-- The proof that an operation changes no ownership if it neither has a reverse nor is one.
 use Rattle.std.proofs.Common.{◌≡◌, ℕ, false, List, [], ◌∷◌, map, Option, Some, None, Ok, Err, refl, sym, ap, ◌∙◌, subst}
 use Rattle.std.specs.Cmp.{nat_cmp_total}
 use Rattle.std.specs.FinMap.{get, insert}

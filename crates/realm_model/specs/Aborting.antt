@@ -1,4 +1,5 @@
--- The conditions that hold during a build's abort while other builds go on, from its start until nothing is open.
+-- The conditions that hold during a build's abort while other builds go on, from the start of the abort until the build
+-- has nothing open.
 use Rattle.std.specs.Prelude.{◌≡◌, ℕ, List, [], ◌++◌, reverse, IsTrue, None, Some}
 use Rattle.std.specs.List.{last_or, All}
 use Rattle.realm_model.specs.declared.act.Act.{Act}
@@ -11,7 +12,7 @@ use Rattle.realm_model.specs.Running.{IsAtRest}
 use Rattle.realm_model.specs.History.{erase, acts_of, open_entries, replay}
 use Rattle.realm_model.specs.Undoing.{reverses, IsUndoneNext}
 
--- an event of another build, or a reverse: the events that may come while a build is undone
+-- the event may come while the build is undone: it is an event of another build, or a reverse
 abbrev pub IsOthersOrReverse : ℕ → Event → Type 0
 IsOthersOrReverse build event = event.build ≡ build → IsTrue (is_reverse event.act)
 
@@ -20,7 +21,7 @@ abbrev pub StaysAtRest : Limits → World → ℕ → Event → World → Type 0
 StaysAtRest limits world build event next =
     IsAtRest (realm_of build world) → IsOthersOrReverse build event → step limits world event ≡ Some next → IsAtRest (realm_of build next)
 
--- An abort of the build began after `history`, and the events `later` have come since:
+-- What holds of a build whose abort began after `history`, once the events `later` have come:
 pub record IsAborting (limits : Limits) (history later : List Event) (build : ℕ) (world : World) : Type 0 where
   -- the build is at rest;
   pub rest : IsAtRest (realm_of build world)

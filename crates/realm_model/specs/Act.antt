@@ -33,20 +33,20 @@ named (Enter number) = []
 named (Exit number) = []
 named (Poke number ipa offset value) = []
 
--- the operation is a command of the RMM: it leases no block, and gives none back
+-- the operation is a command: it neither leases a block nor gives one back
 abbrev pub is_command : Act → Bool
 is_command (Take order first) = false
 is_command (UnTake order first) = false
 is_command _ = true
 
--- the lease that an operation requires on its granules: none for a Take, else that of its build
+-- the lease that an operation's granules must have before it: none for a Take, and otherwise a lease to its build
 abbrev pub holder : ℕ → Act → Option ℕ
 holder build (Take order first) = None
 holder build _ = Some build
 
 -- ---- pairs
 
--- The reverse of an operation that has one. Data and Unknown have the same reverse.
+-- The reverse of an operation, or None if it has none. Data and Unknown have the same reverse.
 unfoldable pub reverse_of : Act → Option Act
 reverse_of (Take order first) = Some (UnTake order first)
 reverse_of (Delegate granule) = Some (Undelegate granule)

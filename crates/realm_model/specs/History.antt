@@ -9,7 +9,7 @@ use Rattle.realm_model.specs.Act.{block, reverse_of, is_paired, is_reverse}
 use Rattle.realm_model.specs.World.{World, opening, without}
 use Rattle.realm_model.specs.Step.{step}
 
--- The history without the events of a build, the others in sequence.
+-- The history without the events of a build; the other events stay in sequence.
 abbrev pub erase : ℕ → List Event → List Event
 erase build history = filter (λ event. not (event.build == build)) history
 
@@ -24,48 +24,49 @@ acts_of build history = map (λ event. event.act) (events_of build history)
 -- ---- what is open: a reverse operation matches the latest paired one before it such that between the two there are
 -- ---- as many paired as reverse operations
 
--- as many paired as reverse operations
+-- the list has as many paired as reverse operations
 abbrev pub is_balanced : List Act → Bool
 is_balanced acts = length (filter is_paired acts) == length (filter is_reverse acts)
 
--- the list has a paired operation, with as many paired as reverse operations after it
+-- some paired operation in the list is followed by as many paired as reverse operations
 abbrev pub has_nearer : List Act → Bool
 has_nearer [] = false
 has_nearer (act ∷ acts) = (is_paired act && is_balanced acts) || has_nearer acts
 
--- An operation before `between` is matched by a reverse operation in the rest. Between the two there are as many paired
--- as reverse operations, and this holds of no later paired one.
+-- A reverse operation in the second list matches the operation that comes just before the first list, `between`.
+-- Between the two there are as many paired as reverse operations, and this holds of no later paired one.
 abbrev pub is_matched : List Act → List Act → Bool
 is_matched between [] = false
 is_matched between (act ∷ rest) =
     (is_reverse act && is_balanced between && not (has_nearer between)) || is_matched (between ++ act ∷ []) rest
 
--- the paired operations that nothing matches, in sequence
+-- the paired operations that no reverse operation matches, in sequence
 abbrev pub unmatched : List Act → List Act
 unmatched [] = []
 unmatched (act ∷ acts) = cond (is_paired act && not (is_matched [] acts)) (act ∷ unmatched acts) (unmatched acts)
 
--- The operations that a build has open: its paired ones that nothing has reversed.
+-- The operations that a build has open: its paired operations that are not reversed yet.
 unfoldable pub open_entries : ℕ → List Event → List Act
 open_entries build history = unmatched (acts_of build history)
 
--- the pages that an open operation holds: those of a block that was taken
+-- the pages that an open operation holds: the granules of the block for a Take, and none for any other
 abbrev pub pages_held : Act → List ℕ
 pages_held (Take order first) = block order first
 pages_held _ = []
 
--- The pages of a build: the blocks that it has open, in the order of taking. Its page k is the k-th, from 0.
+-- The pages of a build: the granules of the blocks that it has taken and not given back, in the order in which it took
+-- them. Its page k is the k-th, from 0.
 abbrev pub pages_of : ℕ → List Event → List ℕ
 pages_of build history = flat_map pages_held (open_entries build history)
 
 -- ---- replay
 
--- the world after the events, one step for each, or None if one of them is no step
+-- the world after the events, one step for each, or None if one of them is not a step
 unfoldable pub after : Limits → List Event → World → Option World
 after limits [] world = Some world
 after limits (event ∷ events) world = option_and_then (after limits events) (step limits world event)
 
--- The world that a history leads to from the opening one.
+-- The world to which a history leads from the opening world, or None if one of its events is not a step.
 abbrev pub replay : Limits → List Event → Option World
 replay limits history = after limits history (opening limits)
 
@@ -81,7 +82,7 @@ abbrev pub AllInTurn : List Event → List Event → Type 0
 AllInTurn before [] = Unit {0}
 AllInTurn before (event ∷ events) = IsInTurn before event × AllInTurn (before ++ event ∷ []) events
 
--- A legal history: each event is a step, and each reverse is that of its build's newest open operation.
+-- A legal history: each event is a step, and each reverse undoes its build's newest open operation.
 pub record IsLegal (limits : Limits) (history : List Event) : Type 0 where
   pub steps : IsSome (replay limits history)
   pub in_turn : AllInTurn [] history

@@ -21,25 +21,27 @@ HasSameEvents history other = (build : ℕ) → events_of build history ≡ even
 
 -- ---- two events of different builds
 
--- the granules that an operation takes, and those that it gives back
+-- the granules that an operation takes
 abbrev pub granules_taken : Act → List ℕ
 granules_taken (Take order first) = block order first
 granules_taken _ = []
 
+-- the granules that an operation gives back
 abbrev pub granules_given_back : Act → List ℕ
 granules_given_back (UnTake order first) = block order first
 granules_given_back _ = []
 
--- the VMID that an operation takes, and the one that it gives back
+-- the VMID that an operation takes, alone in a list; the empty list if it takes none
 abbrev pub vmids_taken : Act → List ℕ
 vmids_taken (Realm rd root vmid) = vmid ∷ []
 vmids_taken _ = []
 
+-- the VMID that an operation gives back, alone in a list; the empty list if it gives none back
 abbrev pub vmids_given_back : Act → List ℕ
 vmids_given_back (UnRealm rd root vmid) = vmid ∷ []
 vmids_given_back _ = []
 
--- a number is in both lists
+-- some number is in both lists
 abbrev pub Meet : List ℕ → List ℕ → Type 0
 Meet xs ys = (x : ℕ) × Contains xs x × Contains ys x
 
@@ -54,7 +56,7 @@ pub record Commute (limits : Limits) (history : List Event) (one other : Event) 
   pub other_first : IsLegal limits (history ++ other ∷ one ∷ []) ↔ ¬ GivesTo one.act other.act
   pub same_world : IsLegal limits (history ++ other ∷ one ∷ []) → replay limits (history ++ other ∷ one ∷ []) ≡ replay limits (history ++ one ∷ other ∷ [])
 
--- two events of different builds commute if they are legal in the sequence given
+-- two events of different builds satisfy `Commute` if they are legal in the given sequence
 abbrev pub EventsCommute : Limits → List Event → Event → Event → Type 0
 EventsCommute limits history one other =
     one.build ≢ other.build → IsLegal limits (history ++ one ∷ other ∷ []) → Commute limits history one other

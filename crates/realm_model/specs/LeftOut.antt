@@ -1,5 +1,5 @@
--- The conditions that leaving out a build keeps the other builds' used capacity, and that each remaining event is
--- accepted.
+-- The conditions that leaving out a build does not change the capacity used by the others, and that each remaining
+-- event is accepted.
 use Rattle.std.specs.Prelude.{◌≡◌, ◌≢◌, ℕ, ◌+◌, ◌<◌, ◌≤◌, true, List, [], ◌∷◌, ◌++◌, length, take, Some}
 use Rattle.realm_model.specs.declared.act.Event.{Event}
 use Rattle.realm_model.specs.Machine.{Limits}
@@ -18,9 +18,9 @@ pub record KeepsItsRoom (history : List Event) (world : World) (build other : �
 abbrev pub OthersKeepTheirRoom : List Event → World → ℕ → ℕ → Type 0
 OthersKeepTheirRoom history world build other = build ≢ other → KeepsItsRoom history world build other
 
--- An event is accepted after a history, with `capacity` entries and `most` open operations allowed to each build. It is
--- in turn and a step, and its build has the capacity that it takes. If its operation has a reverse, the build has fewer
--- than `most` operations open before.
+-- An event is accepted after a history, with `capacity` entries and `most` open operations allowed for each build. It
+-- is in turn and a step, and its build has the capacity that it takes. If its operation has a reverse, the build has
+-- fewer than `most` operations open before.
 pub record IsAccepted (limits : Limits) (capacity most : ℕ) (before : List Event) (event : Event) : Type 0 where
   pub world : World
   pub world_is : replay limits before ≡ Some world
@@ -36,12 +36,12 @@ AllAccepted limits capacity most before [] = Unit {0}
 AllAccepted limits capacity most before (event ∷ events) =
     IsAccepted limits capacity most before event × AllAccepted limits capacity most (before ++ event ∷ []) events
 
--- Each other build has used at most `capacity` entries and has never had more than `most` operations open.
+-- Each build other than `build` has used at most `capacity` entries and has never had more than `most` operations open.
 pub record OthersHaveRoom (capacity most : ℕ) (history : List Event) (world : World) (build : ℕ) : Type 0 where
   pub used : (other : ℕ) → build ≢ other → used_room other history world ≤ capacity
   pub few_open : (other n : ℕ) → build ≢ other → length (open_entries other (take n history)) ≤ most
 
--- If the other builds have enough capacity, each event of the history without the build is accepted in sequence.
+-- If the other builds have enough capacity, each event of the history without `build` is accepted in sequence.
 abbrev pub WhatIsLeftIsAccepted : Limits → ℕ → ℕ → List Event → World → ℕ → Type 0
 WhatIsLeftIsAccepted limits capacity most history world build =
     OthersHaveRoom capacity most history world build → AllAccepted limits capacity most [] (erase build history)

@@ -1,4 +1,5 @@
--- The attributes of granules, realms and RECs. RMM 1.0, Granule, Realm and REC attributes.
+-- The limits of a machine, and the attributes of its granules, realms and RECs. RMM 1.0, Granule, Realm and REC
+-- attributes.
 use Rattle.std.specs.Prelude.{ℕ, List, map, Option, Some, None, slice_index_or}
 use Rattle.std.specs.FinMap.{FinMap}
 use Rattle.std.specs.Ordering.{nat_cmp}
@@ -10,7 +11,7 @@ use Rattle.realm_model.specs.declared.states.RealmState.{RealmState}
 use Rattle.realm_model.specs.declared.states.RecState.{RecState}
 use Rattle.realm_model.specs.Rows.{Rows}
 
--- A machine's numbers of pages, of VMIDs, of auxiliary granules for each REC, and of builds.
+-- The limits of a machine: its numbers of pages, VMIDs, auxiliary granules for each REC, and builds.
 pub record Limits : Type 0 where
   pub pages : ℕ
   pub vmids : ℕ
@@ -23,7 +24,7 @@ pub record RecRow : Type 0 where
   pub auxiliaries : List ℕ
   pub state : RecState
 
--- A realm: state, VMID, starting tables and IPA width, the number of its next REC, measurement, RECs by number,
+-- A realm: its state, VMID, starting tables with IPA width, next REC number, measurement, RECs by number, and
 -- translation. RMM 1.0, Realm attributes.
 pub record RealmRow : Type 0 where
   pub state : RealmState
@@ -42,11 +43,11 @@ pub record Cell : Type 0 where
   pub bytes : List ℕ
   pub descriptor : Option RealmRow
 
--- an UNDELEGATED granule of no realm, zero
+-- an UNDELEGATED granule that belongs to no realm; its page is zero
 abbrev pub blank : Cell
 blank = record { state = Undelegated; realm = None; bytes = zero_page; descriptor = None }
 
--- a granule as it leaves a realm, or as it is delegated: DELEGATED, of no realm, and zero
+-- a granule that has just left a realm or been delegated: DELEGATED, of no realm, and zero
 abbrev pub left : Cell
 left = record { state = Delegated; realm = None; bytes = zero_page; descriptor = None }
 

@@ -10,7 +10,7 @@ use Rattle.realm_model.specs.Ownership.{OwnsSame}
 use Rattle.realm_model.specs.Running.{is_running}
 use Rattle.realm_model.specs.Undoing.{by, reverses}
 
--- a point of a build: the number of operations it had open, and the place in the history
+-- a mark: its build, and, when the mark was set, the number of the build's open operations and the history's length
 pub record Mark : Type 0 where
   pub build : ℕ
   pub depth : ℕ
@@ -19,7 +19,8 @@ pub record Mark : Type 0 where
 abbrev pub mark_at : ℕ → List Event → Mark
 mark_at build history = record { build = build; depth = length (open_entries build history); place = length history }
 
--- The mark is a point of this history, and the build never had less open since.
+-- The mark is a point of this history at which its build had `depth` operations open, and the build has never had fewer
+-- since.
 pub record IsValidMark (mark : Mark) (history : List Event) : Type 0 where
   pub place : mark.place ≤ length history
   pub depth : length (open_entries mark.build (take mark.place history)) ≡ mark.depth
@@ -31,11 +32,11 @@ abbrev pub StaysValid : Mark → List Event → Event → Type 0
 StaysValid mark history event =
     mark.place ≤ length history → IsValidMark mark (history ++ event ∷ []) ↔ (IsValidMark mark history × (mark.depth ≤ length (open_entries mark.build (history ++ event ∷ []))))
 
--- The history without the events of a build at a place or later.
+-- The history without those events of a build that are at position `place` or later.
 abbrev pub erase_after : ℕ → ℕ → List Event → List Event
 erase_after build place history = take place history ++ erase build (drop place history)
 
--- the operations that the build has open above the mark
+-- the operations above the mark: those that its build has open, without the `depth` oldest
 abbrev pub above : Mark → List Event → List Act
 above mark history = drop mark.depth (open_entries mark.build history)
 
@@ -58,7 +59,7 @@ pub record IsRolledBack (limits : Limits) (mark : Mark) (history : List Event) :
   pub rest : without world mark.build ≡ without other mark.build
   pub left_open : open_entries mark.build (history ++ rolling_back mark history) ≡ open_entries mark.build (take mark.place history)
 
--- if the mark is valid and no REC above it runs, the build can be rolled back to it
+-- if the mark is valid and no REC created after it runs, the build can be rolled back to it
 abbrev pub CanRollBack : Limits → List Event → Mark → World → Type 0
 CanRollBack limits history mark world =
     IsValidMark mark history → list_any (is_running (realm_of mark.build world)) (above mark history) ≡ false → IsRolledBack limits mark history

@@ -1,4 +1,4 @@
--- The conditions that a build's realm, and the VMIDs in use, are those of the Realm operations that builds have open.
+-- The conditions that a build's realm and the VMIDs in use come from open Realm operations, and a bound on REC numbers.
 use Rattle.std.specs.Prelude.{◌≡◌, ◌≤◌, ◌↔◌, ◌==◌, ℕ, List, [], ◌∷◌, filter, length, Bool, true, false, IsTrue, Option, Some, None}
 use Rattle.std.specs.List.{list_any, Contains}
 use Rattle.realm_model.specs.declared.act.Act.{Act}
@@ -23,8 +23,8 @@ abbrev pub makers : Option Seen → List Act
 makers None = []
 makers (Some rd) = elim rd.cell.descriptor [ Some realm ↦ maker rd.number realm ∷ [] | None ↦ [] ]
 
--- A build has a realm exactly when it has a Realm operation open, one at most. The realm's RD, starting tables and VMID
--- are those of the operation.
+-- A build has a realm exactly when it has a Realm operation open, and it has at most one open. The realm's RD, starting
+-- tables and VMID are those of the operation.
 abbrev pub RealmIsOpen : List Event → World → ℕ → Type 0
 RealmIsOpen history world build = filter makes_realm (open_entries build history) ≡ makers (realm_of build world)
 
@@ -33,7 +33,7 @@ abbrev pub uses_vmid : ℕ → Act → Bool
 uses_vmid vmid (Realm rd root v) = v == vmid
 uses_vmid vmid _ = false
 
--- A VMID is in use exactly when some build has open a Realm operation with that VMID.
+-- A VMID is in use exactly when some build has a Realm operation with that VMID open.
 abbrev pub VmidIsOpen : List Event → World → ℕ → Type 0
 VmidIsOpen history world vmid =
     Contains (used_vmids world.machine) vmid ↔ ((build : ℕ) × IsTrue (list_any (uses_vmid vmid) (open_entries build history)))

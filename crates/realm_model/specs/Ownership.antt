@@ -11,7 +11,7 @@ use Rattle.realm_model.specs.World.{World}
 abbrev pub granules_of_rec : RecRow → ℕ × List ℕ
 granules_of_rec rec = (rec.granule, rec.auxiliaries)
 
--- A row but for its RIPAS: the state of the entry, and the granule that it leads to.
+-- A row without its RIPAS: the state of the entry, and the granule that it leads to.
 pub record Mapping : Type 0 where
   pub state : EntryState
   pub granule : Option ℕ
@@ -22,7 +22,7 @@ mapping state granule = record { state = state; granule = granule }
 abbrev pub mapping_of_row : Row → Mapping
 mapping_of_row row = mapping row.state row.granule
 
--- Two realms have the same VMID, root and mappings, and RECs with the same numbers and granules.
+-- Two realms have the same VMID, starting tables, IPA width and mappings, and RECs with the same numbers and granules.
 pub record SameRealm (r s : RealmRow) : Type 0 where
   pub vmid : r.vmid ≡ s.vmid
   pub root : r.root ≡ s.root
@@ -40,7 +40,8 @@ pub record SameCell (c d : Cell) : Type 0 where
   pub realm : c.realm ≡ d.realm
   pub descriptor : SameDescriptor c.descriptor d.descriptor
 
--- Two worlds own the same: each granule has the same lease, state and realm in both, and each realm is the same.
+-- Ownership is the same in two worlds: each granule has the same lease, state and realm, and each realm is the same by
+-- `SameRealm`.
 pub record OwnsSame (w v : World) : Type 0 where
   pub leases : w.leases ≡ v.leases
   pub cells : (granule : ℕ) → SameCell (cell_at w.machine granule) (cell_at v.machine granule)

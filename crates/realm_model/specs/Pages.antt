@@ -1,4 +1,4 @@
--- The pages of a build as the granules of its leases.
+-- The condition that a build's pages are the granules that it leases.
 use Rattle.std.specs.Prelude.{◌≡◌, ◌<◌, ◌≤◌, ◌≢◌, ◌↔◌, ℕ, List, Some, length, slice_get}
 use Rattle.std.specs.List.{All, AllPairs, Contains}
 use Rattle.realm_model.specs.declared.act.Event.{Event}

@@ -8,7 +8,7 @@ use Rattle.realm_model.specs.World.{World, realm_of}
 use Rattle.realm_model.specs.History.{open_entries}
 use Rattle.realm_model.specs.Places.{rec_granule}
 
--- the number and the granule of the REC that an operation created
+-- the number and the granule of the REC that an operation created, alone in a list; the empty list if it created none
 abbrev pub rec_made : Act → List (ℕ × ℕ)
 rec_made (Rec granule auxiliaries number) = (number, granule) ∷ []
 rec_made _ = []
@@ -17,7 +17,7 @@ rec_made _ = []
 abbrev pub recs_open : ℕ → List Event → List (ℕ × ℕ)
 recs_open build history = flat_map rec_made (open_entries build history)
 
--- the granule of the first REC with that number
+-- the granule of the first REC in the list that has the number, or None if no REC has it
 abbrev pub granule_in : List (ℕ × ℕ) → ℕ → Option ℕ
 granule_in [] number = None
 granule_in (rec ∷ recs) number = cond (rec.0 == number) (Some rec.1) (granule_in recs number)
@@ -25,7 +25,7 @@ granule_in (rec ∷ recs) number = cond (rec.0 == number) (Some rec.1) (granule_
 abbrev pub number_at : List (ℕ × ℕ) → ℕ → ℕ
 number_at recs place = (get_or recs place (0, 0)).0
 
--- each number is greater than those before it
+-- each REC number in the list is greater than those before it
 abbrev pub IsRising : List (ℕ × ℕ) → Type 0
 IsRising recs = (i j : ℕ) → i < j → j < length recs → number_at recs i < number_at recs j
 

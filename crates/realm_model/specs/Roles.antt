@@ -11,7 +11,8 @@ use Rattle.realm_model.specs.Machine.{RealmRow, Cell}
 use Rattle.realm_model.specs.Ownership.{Mapping, granules_of_rec}
 use Rattle.realm_model.specs.Sound.{mapping_at}
 
--- A role that a granule can have in a realm: a starting table, the target of a row, a REC, or an auxiliary of a REC.
+-- A role that a granule can have in a realm: a starting table, the target of a row, a REC, or an auxiliary granule of a
+-- REC.
 pub data Role : Type 0 where
   AsStart : (index : ℕ) → Role
   AtRow : (place : ℕ × ℕ) → Role
@@ -34,7 +35,7 @@ abbrev pub aux_target : Option (ℕ × List ℕ) → ℕ → Option (ℕ × Gran
 aux_target None index = None
 aux_target (Some rec) index = option_map (λ g. (g, RecAux)) (slice_get rec.1 index)
 
--- the granule that a realm has in a role, and the state that goes with the role
+-- the granule that has a role in a realm, and the state that goes with the role; None if no granule has it
 abbrev pub target : RealmRow → Role → Option (ℕ × GranuleState)
 target realm (AsStart index) = start_target realm.root index
 target realm (AtRow place) = row_target (mapping_at realm.rows place)
@@ -48,7 +49,7 @@ is_role_state Delegated = false
 is_role_state Rd = false
 is_role_state _ = true
 
--- the granule has a role in a realm
+-- the granule has a role in a realm, and is in the state that goes with the role
 pub record HasRole (cells : ℕ → Cell) (granule : ℕ) : Type 0 where
   pub rd : ℕ
   pub realm : RealmRow

@@ -11,8 +11,8 @@ use Rattle.realm_model.specs.Step.{step}
 use Rattle.realm_model.specs.History.{acts_of, open_entries, IsInTurn}
 use Rattle.realm_model.specs.Running.{running_count}
 
--- The capacity that a build has used. It is an entry for each of its events, one for the reverse of each operation that
--- it has open, and one for the exit of each REC that runs.
+-- The capacity that a build has used: an entry for each of its events, for each open operation's reverse, and for each
+-- running REC's exit.
 abbrev pub used_room : ℕ → List Event → World → ℕ
 used_room build history world =
     length (acts_of build history) + length (open_entries build history) + running_count (realm_of build world)
@@ -29,7 +29,7 @@ pub record TakesRoom (history : List Event) (world : World) (event : Event) (nex
   pub own : used_room event.build (history ++ event ∷ []) next ≡ used_room event.build history world + room_taken event.act
   pub others : (build : ℕ) → event.build ≢ build → used_room build (history ++ event ∷ []) next ≡ used_room build history world
 
--- each event that is in turn and a step takes its capacity
+-- an event that is in turn and is a step takes the capacity of its operation
 abbrev pub RoomIsTaken : Limits → List Event → World → Event → World → Type 0
 RoomIsTaken limits history world event next = IsInTurn history event → step limits world event ≡ Some next → TakesRoom history world event next
 

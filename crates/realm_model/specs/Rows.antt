@@ -18,7 +18,7 @@ pub record Row : Type 0 where
   pub ripas : Ripas
   pub granule : Option ℕ
 
--- A place is a level and a first IPA granule. Places are sorted by level, and then by granule.
+-- The order of places: by level, and then by first IPA granule.
 abbrev pub place_cmp : ℕ × ℕ → ℕ × ℕ → Ordering
 place_cmp = then_cmp (on (λ p. p.0) nat_cmp) (on (λ p. p.1) nat_cmp)
 
@@ -26,18 +26,19 @@ place_cmp = then_cmp (on (λ p. p.0) nat_cmp) (on (λ p. p.1) nat_cmp)
 abbrev pub Rows : Type 0
 Rows = FinMap place_cmp Row
 
--- the row of the level that covers the IPA granule
+-- the row at a level that covers an IPA granule, or None if there is none
 abbrev pub row_at : Rows → ℕ → ℕ → Option Row
 row_at rows level ipa = get rows (level, first_covered level ipa)
 
 -- ---- walks. RMM 1.0, RTT walk
 
--- the end of a walk
+-- the end of a walk: its level, and the row there
 pub record Walk : Type 0 where
   pub level : ℕ
   pub row : Row
 
--- A walk ends at the deepest row that covers the IPA granule, at the given level or above.
+-- The end of a walk: the deepest row that covers the IPA granule, at the given level or above; None if no row covers it
+-- there.
 unfoldable pub walk : Rows → ℕ → ℕ → Option Walk
 walk rows ipa zero = None
 walk rows ipa (suc level) = elim (row_at rows (suc level) ipa) [
@@ -47,12 +48,15 @@ walk rows ipa (suc level) = elim (row_at rows (suc level) ipa) [
 
 -- ---- rows by the state of the entry. RMM 1.0, RTT entry state
 
+-- an UNASSIGNED row with the given RIPAS
 abbrev pub unassigned : Ripas → Row
 unassigned ripas = record { state = Unassigned; ripas = ripas; granule = None }
 
+-- an ASSIGNED row that has the given RIPAS and leads to the given page
 abbrev pub assigned : Ripas → ℕ → Row
 assigned ripas granule = record { state = Assigned; ripas = ripas; granule = Some granule }
 
+-- a TABLE row that leads to the given table
 abbrev pub table : ℕ → Row
 table granule = record { state = Table; ripas = Empty; granule = Some granule }
 
@@ -74,10 +78,11 @@ is_assigned row = is_assigned_state row.state
 abbrev pub is_table : Row → Bool
 is_table row = is_table_state row.state
 
--- the table that a TABLE row leads to; for `data_of`, the page that an ASSIGNED row leads to
+-- the table that a row leads to, or None if the row is not TABLE
 abbrev pub table_of : Row → Option ℕ
 table_of row = if is_table row then row.granule else None
 
+-- the page that a row leads to, or None if the row is not ASSIGNED
 abbrev pub data_of : Row → Option ℕ
 data_of row = if is_assigned row then row.granule else None
 
@@ -104,7 +109,7 @@ put_rows change rows level first (suc n) =
     let place : ℕ × ℕ = (level, first + n * covered_count level) in
     insert (put_rows change rows level first n) place (change (get rows place))
 
--- the rows without those of a level that are at `count` IPA granules from `first` on
+-- the rows without those of a level that begin at one of the `count` IPA granules from `first` on
 unfoldable pub drop_rows : Rows → ℕ → ℕ → ℕ → Rows
 drop_rows rows level first count =
     retain_keys rows (λ place. not (place.0 == level && nat_le first place.1 && nat_lt place.1 (first + count)))
@@ -114,7 +119,7 @@ put_row rows level ipa row = insert rows (level, first_covered level ipa) row
 
 -- ---- the rows after commands
 
--- The rows of a new realm of a width: 512 for each of its starting tables. RMM 1.0, RMI_REALM_CREATE.
+-- The rows of a new realm with a given IPA width: 512 for each of its starting tables. RMM 1.0, RMI_REALM_CREATE.
 -- Rows of unprotected IPAs are like the others, which is this profile's own.
 unfoldable pub root_rows : ℕ → Rows
 root_rows width = put_rows (λ _. unassigned Empty) empty 1 0 (512 * start_count width)
@@ -125,13 +130,13 @@ unfoldable pub with_table : Rows → ℕ → ℕ → ℕ → Ripas → Rows
 with_table rows level ipa granule ripas =
     put_rows (λ _. unassigned ripas) (put_row rows (level - 1) ipa (table granule)) level ipa 512
 
--- The rows without a table: its own are removed, and the row above becomes UNASSIGNED and DESTROYED. RMM 1.0,
+-- The rows after a table is removed: its own rows are gone, and the row above is UNASSIGNED and DESTROYED. RMM 1.0,
 -- RMI_RTT_DESTROY.
 unfoldable pub without_table : Rows → ℕ → ℕ → Rows
 without_table rows level ipa =
     put_row (drop_rows rows level ipa (512 * covered_count level)) (level - 1) ipa (unassigned Destroyed)
 
--- all rows of the table of a level at an IPA granule are UNASSIGNED
+-- all rows of a table, given by its level and its first IPA granule, are UNASSIGNED
 unfoldable pub is_table_unused : Rows → ℕ → ℕ → Bool
 is_table_unused rows level ipa = all_rows is_unassigned rows level ipa 512
 
@@ -140,7 +145,7 @@ abbrev pub as_ram : Option Row → Row
 as_ram None = unassigned Ram
 as_ram (Some row) = record row { ripas = Ram }
 
--- The rows with RAM at `count` pages. RMM 1.0, RMI_RTT_INIT_RIPAS.
+-- The rows after the `count` pages from an IPA granule on become RAM. RMM 1.0, RMI_RTT_INIT_RIPAS.
 unfoldable pub with_ram : Rows → ℕ → ℕ → Rows
 with_ram rows ipa count = put_rows as_ram rows 3 ipa count
 
@@ -150,12 +155,12 @@ has_root_table width rows = not (all_rows (λ row. not (is_table row)) rows 1 0 
 
 -- ---- the places of tables. RMM 1.0, RMI_RTT_CREATE, input conditions
 
--- a level below the root, and the first IPA granule of a table of that level
+-- the level is 2 or 3, and the IPA granule is the first one of a table of that level
 abbrev pub is_table_place : ℕ → ℕ → Bool
 is_table_place ipa level = (level == 2 || level == 3) && ipa % covered_count (level - 1) == 0
 
 -- ---- the pages that one call makes RAM. RMM 1.0, RMI_RTT_INIT_RIPAS, input conditions
 
--- 1 to 512 pages from an IPA granule on, of one table of level 3
+-- the `count` pages from an IPA granule on are 1 to 512 pages of one table of level 3
 abbrev pub is_page_run : ℕ → ℕ → Bool
 is_page_run ipa count = nat_le 1 count && nat_le count 512 && ipa / 512 == (ipa + count - 1) / 512

@@ -23,12 +23,12 @@ abbrev pub is_running : Option Seen → Act → Bool
 is_running realm (Rec granule auxiliaries number) = rec_runs realm number
 is_running realm _ = false
 
--- the number of a realm's next REC
+-- the number of a realm's next REC, or 0 if there is no realm
 abbrev pub next_number : Option Seen → ℕ
 next_number None = 0
 next_number (Some rd) = elim rd.cell.descriptor [ Some realm ↦ realm.next | None ↦ 0 ]
 
--- the count of RUNNING RECs in a build's realm, among the numbers below the next
+-- the number of RUNNING RECs in a realm; only REC numbers below the next one are counted
 unfoldable pub running_count : Option Seen → ℕ
 running_count realm = length (filter (rec_runs realm) (range_with_len 0 (next_number realm)))
 
@@ -36,7 +36,7 @@ running_count realm = length (filter (rec_runs realm) (range_with_len 0 (next_nu
 abbrev pub IsAtRest : Option Seen → Type 0
 IsAtRest realm = running_count realm ≡ 0
 
--- a build's realm is at rest exactly when no number is that of a RUNNING REC
+-- a build's realm is at rest exactly when no REC of the realm, whatever its number, is RUNNING
 abbrev pub RestIsOfAll : World → ℕ → Type 0
 RestIsOfAll world build =
     IsAtRest (realm_of build world) ↔ ((number : ℕ) → rec_runs (realm_of build world) number ≡ false)

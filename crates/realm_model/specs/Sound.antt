@@ -13,7 +13,7 @@ use Rattle.granule_addr.specs.Page.{zero_page}
 use Rattle.realm_model.specs.Machine.{Cell}
 use Rattle.realm_model.specs.Ownership.{Mapping, mapping_of_row}
 
--- the mapping at a place
+-- the mapping of the row at a place, or None if there is no row
 abbrev pub mapping_at : Rows → ℕ × ℕ → Option Mapping
 mapping_at rows place = option_map mapping_of_row (get rows place)
 
@@ -34,27 +34,28 @@ is_table_kind (Some row) = is_table_state row.state
 abbrev pub has_table : (ℕ × ℕ → Option Mapping) → ℕ × ℕ → Bool
 has_table rows place = place.0 == 1 || is_table_kind (rows (place.0 - 1, first_covered (place.0 - 1) place.1))
 
--- the place of a row: of level 1 to 3, at the first IPA granule that it covers, inside an address space of that width
+-- a row can have this place: its level is 1 to 3, and its IPA granule is the first that the row covers, within an
+-- address space of the width
 pub record IsPlace (width : ℕ) (place : ℕ × ℕ) : Type 0 where
   pub least : 1 ≤ place.0
   pub most : place.0 ≤ 3
   pub first : first_covered place.0 place.1 ≡ place.1
   pub inside : place.1 < served_space width
 
--- Each row has a place, the shape of its state and, below level 1, a TABLE row above. An UNASSIGNED row has no granule.
--- An ASSIGNED row, of level 3, and a TABLE row, of level 1 or 2, have one.
+-- Each row has a valid place and, below level 1, a TABLE row above it, and leads to a granule as its state requires. An
+-- UNASSIGNED row has no granule. An ASSIGNED row, of level 3, and a TABLE row, of level 1 or 2, have one.
 pub record IsSoundRows (width : ℕ) (rows : ℕ × ℕ → Option Mapping) : Type 0 where
   pub placed : (place : ℕ × ℕ) → is_some (rows place) ≡ true → IsPlace width place
   pub shaped : (place : ℕ × ℕ) → IsShaped place.0 (rows place)
   pub below : (place : ℕ × ℕ) → is_some (rows place) ≡ true → has_table rows place ≡ true
 
--- the starting tables have a row for each of their places, and so has each table: at every place below a TABLE row
--- there is a row
+-- every place of a starting table has a row, and so has every place directly below a TABLE row
 pub record IsFull (width : ℕ) (rows : ℕ × ℕ → Option Mapping) : Type 0 where
   pub root : (ipa : ℕ) → ipa < served_space width → is_some (rows (1, first_covered 1 ipa)) ≡ true
   pub tables : (level ipa : ℕ) → is_table_kind (rows (level, first_covered level ipa)) ≡ true → is_some (rows (level + 1, first_covered (level + 1) ipa)) ≡ true
 
--- in a realm of that width, rows of unprotected IPA granules are UNASSIGNED and EMPTY, and TABLE rows count as EMPTY
+-- in a realm of the given width, rows of unprotected IPA granules are UNASSIGNED and EMPTY, and TABLE rows count as
+-- EMPTY
 pub record HasEmptyRows (width : ℕ) (rows : Rows) : Type 0 where
   pub unprotected : (level ipa : ℕ) (row : Row) → is_protected_at ipa width ≡ false → row_at rows level ipa ≡ Some row → row ≡ unassigned Empty
   pub tables : (place : ℕ × ℕ) (row : Row) → get rows place ≡ Some row → is_table row ≡ true → row.ripas ≡ Empty
@@ -68,7 +69,7 @@ abbrev pub is_rd_state : GranuleState → Bool
 is_rd_state Rd = true
 is_rd_state _ = false
 
--- a granule in this state has a zero page: any state but UNDELEGATED and DATA
+-- a granule in this state has a page of zeros; only in UNDELEGATED and DATA may it have other bytes
 abbrev pub is_zero_state : GranuleState → Bool
 is_zero_state Undelegated = false
 is_zero_state Data = false

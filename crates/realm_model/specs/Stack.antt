@@ -4,11 +4,12 @@ use Rattle.realm_model.specs.declared.act.Act.{Act}
 use Rattle.realm_model.specs.Act.{is_paired, is_reverse}
 use Rattle.realm_model.specs.History.{unmatched}
 
--- A paired operation goes on top, which is at the end. A reverse removes the top. No other operation changes the stack.
+-- The stack after an operation: a paired one goes on top, which is at the end of the list. A reverse removes the top.
+-- No other operation changes the stack.
 unfoldable pub pushed : List Act → Act → List Act
 pushed stack act =
     cond (is_paired act) (stack ++ act ∷ []) (cond (is_reverse act) (take (length stack - 1) stack) stack)
 
--- the operations that nothing matches are those that are left on the stack
+-- the unmatched paired operations are those that are left on the stack
 abbrev pub MatchingIsAStack : List Act → Type 0
 MatchingIsAStack acts = unmatched acts ≡ fold pushed [] acts

@@ -35,7 +35,7 @@ abbrev pub after_outcome : ℕ → Outcome → World → Option World
 after_outcome build (Ok updates) world = updated_all build updates world
 after_outcome build (Err rmi) world = None
 
--- The world after an event, if it is allowed and its command is not refused.
+-- The world after an event, or None if the event is not allowed or its command is refused.
 unfoldable pub step : Limits → World → Event → Option World
 step limits world event =
     cond (is_allowed limits world event) (after_outcome event.build (outcome_in limits world event) world) None

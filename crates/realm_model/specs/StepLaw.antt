@@ -11,13 +11,13 @@ use Rattle.realm_model.specs.Outcome.{is_in_range, fits}
 use Rattle.realm_model.specs.World.{World, realm_of}
 use Rattle.realm_model.specs.Step.{step, named_cells, outcome_in}
 
--- the list after the same element is put at each of the places
+-- the list after the same element is written at each of the indexes
 unfoldable pub set_each : {X : Type 0} → X → List ℕ → List X → List X
 set_each x [] xs = xs
 set_each x (place ∷ places) xs = set_each x places (slice_set xs place x)
 
--- The leases after an operation of a build: a Take leases its block, an UnTake gives it back, no other operation
--- changes a lease.
+-- The leases after an operation of a build: a Take leases its block, an UnTake gives its block back, and no other
+-- operation changes a lease.
 abbrev pub leases_after : ℕ → Act → List (Option ℕ) → List (Option ℕ)
 leases_after build (Take order first) leases = set_each (Some build) (block order first) leases
 leases_after build (UnTake order first) leases = set_each None (block order first) leases

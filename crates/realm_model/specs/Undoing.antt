@@ -1,4 +1,5 @@
--- The effect of undoing one operation, and of undoing all operations that a build has open.
+-- The effect of undoing one or all operations that a build has open, and the ownership after an operation or its
+-- reverse.
 use Rattle.std.specs.Prelude.{◌≡◌, ◌≢◌, ◌↔◌, ◌⊎◌, ℕ, List, [], ◌∷◌, ◌++◌, length, map, reverse, false, Some, None}
 use Rattle.std.specs.List.{last_or, Contains}
 use Rattle.realm_model.specs.declared.act.Act.{Act}
@@ -14,7 +15,7 @@ use Rattle.realm_model.specs.History.{erase, open_entries, pages_of, replay, IsL
 abbrev pub by : ℕ → Act → Event
 by build act = record { build = build; act = act }
 
--- the reverses of paired operations
+-- the reverses of the paired operations in a list, in the same sequence
 abbrev pub reverses : List Act → List Act
 reverses [] = []
 reverses (act ∷ acts) = elim (reverse_of act) [ Some r ↦ r ∷ reverses acts | None ↦ reverses acts ]
@@ -23,7 +24,8 @@ reverses (act ∷ acts) = elim (reverse_of act) [ Some r ↦ r ∷ reverses acts
 abbrev pub undoing : ℕ → List Event → List Event
 undoing build history = map (by build) (reverses (reverse (open_entries build history)))
 
--- the reverse of the build's newest open operation is legal next, and leaves the other operations open
+-- the history stays legal with the reverse of the build's newest open operation, and the build's other operations stay
+-- open
 pub record IsUndoneNext (limits : Limits) (history : List Event) (build : ℕ) (act : Act) : Type 0 where
   pub back : Act
   pub reverse_is : reverse_of act ≡ Some back
@@ -47,36 +49,36 @@ pub record IsUndone (limits : Limits) (history : List Event) (build : ℕ) (worl
 
 -- ---- theorems, for every legal history and the world that it leads to
 
--- the newest open operation of a build can be undone, whatever came between, unless it created a REC that runs
+-- the newest open operation of a build can be undone, whatever came after it, unless it created a REC that runs
 abbrev pub NewestCanBeUndone : Limits → List Event → ℕ → World → Act → Type 0
 NewestCanBeUndone limits history build world act =
     last_or None (open_entries build history) ≡ Some act → is_running (realm_of build world) act ≡ false → IsUndoneNext limits history build act
 
--- if no REC of a build runs, all that it has open can be undone, and it leaves nothing behind
+-- if no REC of a build runs, all that the build has open can be undone, and the build leaves nothing behind
 abbrev pub AllCanBeUndone : Limits → List Event → ℕ → World → Type 0
 AllCanBeUndone limits history build world = IsAtRest (realm_of build world) → IsUndone limits history build world
 
--- if nothing of a build is open, the world is that of the history without it
+-- if a build has nothing open, the history without the build leads to the same world
 abbrev pub NothingOpenIsNoninterference : Limits → List Event → ℕ → World → Type 0
 NothingOpenIsNoninterference limits history build world = open_entries build history ≡ [] → replay limits (erase build history) ≡ Some world
 
--- a reverse operation is accepted, and leads back to a world that owns the same
+-- a reverse operation is accepted, and leads back to a world with the same ownership
 pub record LeadsBack (limits : Limits) (build : ℕ) (world middle : World) (back : Act) : Type 0 where
   pub end : World
   pub stepped : step limits middle (by build back) ≡ Some end
   pub owns : OwnsSame world end
 
--- a paired operation that is accepted can be reversed right after it
+-- if a paired operation is accepted, its reverse is accepted right after it, and leads back to the same ownership
 abbrev pub PairLeadsBack : Limits → ℕ → World → Act → Act → World → Type 0
 PairLeadsBack limits build world act back middle =
     reverse_of act ≡ Some back → step limits world (by build act) ≡ Some middle → LeadsBack limits build world middle back
 
--- an operation that has no reverse, and is no reverse, leads to a world that owns the same
+-- an operation that neither has a reverse nor is one leads to a world with the same ownership
 abbrev pub OtherActOwnsSame : Limits → ℕ → World → Act → World → Type 0
 OtherActOwnsSame limits build world act next =
     is_paired act ≡ false → is_reverse act ≡ false → step limits world (by build act) ≡ Some next → OwnsSame world next
 
--- the ownership after an operation depends only on the ownership before it
+-- the ownership after a given operation depends only on the ownership before it
 abbrev pub OwnershipFollows : Limits → ℕ → Act → World → World → World → World → Type 0
 OwnershipFollows limits build act w v next other =
     OwnsSame w v → step limits w (by build act) ≡ Some next → step limits v (by build act) ≡ Some other → OwnsSame next other

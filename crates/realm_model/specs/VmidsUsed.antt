@@ -14,12 +14,13 @@ use Rattle.realm_model.specs.Undoing.{by}
 abbrev pub is_vmid_used : Machine → ℕ → Bool
 is_vmid_used machine vmid = is_in vmid (used_vmids machine)
 
--- in the new machine the VMID is in use or not, as `used` says; the others are unchanged
+-- in the new machine the VMID is in use or not, as `used` says, and nothing changes for other VMIDs
 pub record IsUsedNow (old new : Machine) (vmid : ℕ) (used : Bool) : Type 0 where
   pub one : is_vmid_used new vmid ≡ used
   pub others : (other : ℕ) → other ≢ vmid → is_vmid_used new other ≡ is_vmid_used old other
 
--- An operation that creates a realm uses its VMID from then on, until its reverse. No other operation changes a VMID.
+-- The creation of a realm puts the realm's VMID into use, and the destruction of the realm frees it. No other operation
+-- changes which VMIDs are in use.
 abbrev pub VmidsFollow : Act → Machine → Machine → Type 0
 VmidsFollow (Realm rd root vmid) old new = IsUsedNow old new vmid true
 VmidsFollow (UnRealm rd root vmid) old new = IsUsedNow old new vmid false

@@ -1,4 +1,4 @@
--- The world: the machine, and the lease of each granule.
+-- The world (the machine, and the lease of each granule): a build's realm, its updates, and its part of the world.
 use Rattle.std.specs.Prelude.{ℕ, suc, List, [], ◌∷◌, Bool, false, ◌&&◌, not, ◌==◌, nat_eq, cond, Option, Some, None, is_some, slice_get, slice_set, map, filter, length, replicate}
 use Rattle.std.specs.List.{range_with_len}
 use Rattle.std.specs.Option.{option_eq}
@@ -15,7 +15,7 @@ opening limits = record { machine = replicate limits.pages blank; leases = repli
 
 -- ---- leases
 
--- leased to the same build, or both free
+-- two leases are the same: both to the same build, or both none
 abbrev pub same_lease : Option ℕ → Option ℕ → Bool
 same_lease a b = option_eq nat_eq a b
 
@@ -29,27 +29,28 @@ free_set world = filter (is_leased_to None world.leases) (range_with_len 0 (leng
 
 -- ---- the realm of a build
 
--- from granule n on, the first RD granule that the build leases
+-- the first RD granule from granule n on that the build leases, or None if there is none
 unfoldable pub realm_from : ℕ → ℕ → List (Option ℕ) → Machine → Option Seen
 realm_from build n [] cells = None
 realm_from build n (lease ∷ leases) [] = None
 realm_from build n (lease ∷ leases) (cell ∷ cells) =
     cond (same_lease lease (Some build) && is_some cell.descriptor) (Some (record { number = n; cell = cell })) (realm_from build (suc n) leases cells)
 
--- The realm of a build is the one whose RD granule it leases.
+-- The realm of a build: the RD granule that the build leases, or None if it leases none.
 abbrev pub realm_of : ℕ → World → Option Seen
 realm_of build world = realm_from build 0 world.leases world.machine
 
 -- ---- updates by a build
 
+-- the world after one update by a build
 abbrev pub updated : ℕ → Update → World → World
 updated build update world = record {
   machine = machine_after update world.machine;
   leases = slice_set world.leases (granule_of update) (lease_after build update);
 }
 
--- The world after a build's updates in sequence, if each granule has the lease that its update requires. To be leased,
--- a granule must be free; for any other update the build must lease it.
+-- The world after a build's updates in sequence, or None if a granule does not have the lease that its update requires.
+-- To be leased, a granule must be free; for any other update the build must lease it.
 unfoldable pub updated_all : ℕ → List Update → World → Option World
 updated_all build [] world = Some world
 updated_all build (update ∷ updates) world =
@@ -57,18 +58,22 @@ updated_all build (update ∷ updates) world =
 
 -- ---- the part of a build
 
+-- the list of what `f` gives for each lease and its cell
 abbrev pub each : {L C X : Type 0} → (L → C → X) → List L → List C → List X
 each f [] cells = []
 each f (lease ∷ leases) [] = []
 each f (lease ∷ leases) (cell ∷ cells) = f lease cell ∷ each f leases cells
 
--- a granule whose lease `hides` selects becomes free and blank, so the realms of hidden builds are removed
+-- a granule's lease, or none if `hides` selects that lease
 abbrev pub unleased : (Option ℕ → Bool) → Option ℕ → Option ℕ
 unleased hides lease = cond (hides lease) None lease
 
+-- a granule's cell, or a blank cell if `hides` selects the granule's lease
 abbrev pub hidden : (Option ℕ → Bool) → Option ℕ → Cell → Cell
 hidden hides lease cell = cond (hides lease) blank cell
 
+-- the world with some builds hidden: each granule whose lease `hides` selects is free and blank, so the realms of these
+-- builds are gone
 abbrev pub masked : (Option ℕ → Bool) → World → World
 masked hides world = record {
   machine = each (hidden hides) world.leases world.machine;

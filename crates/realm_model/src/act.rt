@@ -133,7 +133,7 @@ impl Event {
     }
 }
 
-/// Copies a list of granules. No memory is allocated.
+/// Returns a copy of a list of granules. No memory is allocated.
 pub fn clone_granules(granules: &ArrayVec<Gran, 16>) -> ArrayVec<Gran, 16>
     ensures { result ≡ granules.now }
 {

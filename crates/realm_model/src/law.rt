@@ -61,7 +61,7 @@ pub fn pages_are_leased()
     ensures { (limits : Limits) (history : List Event) (world : World) (build : ℕ) → IsLegal limits history → replay limits history ≡ Some world → PagesAreLeased limits history build world }
 {}
 
-/// The invariant `IsReachable` holds in every world of the model that a history reaches.
+/// The invariant `IsReachable` holds in every world that a history of the model leads to.
 pub fn reached_worlds_are_sound()
     ensures { (limits : Limits) (history : List Event) (world : World) → replay limits history ≡ Some world → IsReachable limits world }
 {}
@@ -111,7 +111,7 @@ pub fn vmids_are_of_open_acts()
     ensures { (limits : Limits) (history : List Event) (world : World) (vmid : ℕ) → IsLegal limits history → replay limits history ≡ Some world → VmidIsOpen history world vmid }
 {}
 
-/// An operation and its reverse right after it leave the ownership of granules as it was. The reverse is accepted.
+/// An operation followed directly by its reverse leaves the ownership of granules as it was. The reverse is accepted.
 pub fn pairs_lead_back()
     ensures { (limits : Limits) (history : List Event) (world : World) (build : ℕ) (act back : Act) (middle : World)
         → replay limits history ≡ Some world → PairLeadsBack limits build world act back middle }

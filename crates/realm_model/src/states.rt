@@ -28,7 +28,7 @@ pub enum RecState {
 
 /// The state of an RTT entry. The entry leads to nothing, to a page or to a table. RMM 1.0, RTT entry state.
 ///
-/// UNASSIGNED and ASSIGNED are also the HIPAS of what the entry maps; TABLE is no HIPAS.
+/// UNASSIGNED and ASSIGNED are also the HIPAS of what the entry maps; TABLE is not a HIPAS.
 #[derive(Clone, Copy, PartialEq, Eq)]
 pub enum EntryState {
     Unassigned,

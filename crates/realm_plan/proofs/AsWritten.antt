@@ -1,4 +1,4 @@
--- Proof that the steps of a plan are spelled as in the document from which the plan is read.
+-- A proof that the steps of a plan are spelled as in the document from which the plan is read.
 use Rattle.std.proofs.Common.{◌≡◌, ℕ, ◌+◌, List, [], ◌∷◌, length, map, Option, Some, None, Result, Ok, Err, option_map, refl, sym, ap, inl, inr}
 use Rattle.std.specs.Prelude.{nat_lt, IfOk}
 use Rattle.std.proofs.lemmas.Bool.{cases_Bool}

@@ -1,4 +1,4 @@
--- Proof that a `rec` step with at most 16 auxiliary pages has at most 17 numbers.
+-- A proof that a `rec` step with at most 16 auxiliary pages has at most 17 numbers.
 use Rattle.std.proofs.Common.{ℕ, ◌≤◌, List, ◌∷◌, length, replicate, arith}
 use Rattle.decimal_text.specs.Numbers.{AreNumbers}
 use Rattle.decimal_text.specs.Ranges.{AreAtMost}

@@ -1,4 +1,4 @@
--- Proof that bytes spell a TOML document if and only if they are UTF-8 and the TOML parser accepts them.
+-- A proof that bytes spell a TOML document if and only if they are UTF-8 and the TOML parser accepts them.
 use Rattle.std.proofs.Common.{◌≡◌, List, ℕ, Some, None, inl, inr}
 use Rattle.std.specs.Str.{IsUtf8, is_utf8}
 use Rattle.std.proofs.lemmas.Bool.{cases_Bool}

@@ -1,5 +1,5 @@
--- Lemmas on loops that read a list up to its first unreadable item: the items found and the reading of the rest give
--- the whole result.
+-- Lemmas about loops that read a list up to its first unreadable item: the items read so far and the result for the
+-- rest make up the whole result. The last lemma is about the keys of a table.
 use Rattle.std.proofs.Common.{◌≡◌, ℕ, ◌+◌, ◌<◌, ◌≤◌, List, [], ◌∷◌, ◌++◌, length, get_or, drop, Bool, true, ◌&&◌}
 use Rattle.std.proofs.Common.{Option, Some, None, String, Global, string_bytes, Result, Ok, Err, option_map, refl, sym, ap, ◌∙◌, append_assoc}
 use Rattle.std.specs.Prelude.{option_and_then}

@@ -1,4 +1,5 @@
--- Proof that a step's word and numbers mean the step, if each number is in its range.
+-- Proofs that a step's word and numbers mean the step if the numbers are in range, that the word has no space, and that
+-- there are at most 17 numbers.
 use Rattle.std.proofs.Common.{◌≡◌, [], ◌∷◌, true, eqb, not, Some, refl}
 use Rattle.std.specs.List.{list_all}
 use Rattle.std.proofs.lemmas.Bool.{le-leb}

@@ -1,4 +1,4 @@
--- Proof that a text means a step if and only if the text is the step's spelling and each number of the step is in its
+-- A proof that a text means a step if and only if the text is the step's spelling and each number of the step is in its
 -- range.
 use Rattle.std.proofs.Common.{◌≡◌, ℕ, List, Option, Some, None, sym, ◌∙◌}
 use Rattle.std.specs.Prelude.{IfSome, IfNone}

@@ -1,4 +1,4 @@
--- The printed texts of a host's replies and refusals.
+-- The printed texts of a host's replies and refusals, and of the kinds of undone operations.
 use Rattle.std.specs.Prelude.{ℕ, List, [], ◌∷◌, ◌++◌, codes}
 use Rattle.std.specs.Fmt.{decimal}
 use Rattle.decimal_text.specs.Numbers.{spelled_numbers}
@@ -10,7 +10,7 @@ use Rattle.host_commands.specs.declared.reply.Reply.TheVariants as reply
 use Rattle.realm_model.specs.declared.act.Kind.{Kind}
 use Rattle.realm_model.specs.declared.act.Kind.TheVariants as kind
 
--- a space, and the number
+-- a number in decimal, after a space
 abbrev pub then_number : ℕ → List ℕ
 then_number n = 32 ∷ decimal n
 
@@ -23,7 +23,7 @@ kind_word kind.Data = codes "data"
 kind_word kind.Unknown = codes "unknown"
 kind_word kind.Rec = codes "rec"
 
--- the number and the name of a refusal
+-- the number and the name of a refusal, as text
 abbrev pub refusal_name : Refusal → List ℕ
 refusal_name refusal.NoBuild = codes "1 NoBuild"
 refusal_name refusal.Aborting = codes "2 Aborting"
@@ -39,7 +39,7 @@ refusal_name (refusal.NoBlock order) = codes "11 NoBlock"
 refusal_name refusal.NoVmid = codes "12 NoVmid"
 refusal_name (refusal.Rmi rmi) = codes "13 Rmi"
 
--- the numbers that it names: the page, the order, or the status and the index
+-- the numbers that a refusal carries, if any: a page, an order, or a status with its index
 abbrev pub refusal_numbers : Refusal → List ℕ
 refusal_numbers (refusal.NotLeased page) = page ∷ []
 refusal_numbers (refusal.NoBlock order) = order ∷ []
@@ -49,7 +49,8 @@ refusal_numbers _ = []
 abbrev pub refusal_text : Refusal → List ℕ
 refusal_text refusal = refusal_name refusal ++ spelled_numbers (refusal_numbers refusal)
 
--- the numbers of a reply: the build's number of the first page, the byte, the VMID or the REC's number
+-- the number that a reply carries, if any: a block's first page by its number in the build, a byte, a VMID or a REC's
+-- number
 abbrev pub reply_numbers : Reply → List ℕ
 reply_numbers reply.Done = []
 reply_numbers (reply.FirstPage page) = page ∷ []

@@ -5,7 +5,7 @@ use Rattle.host_commands.specs.declared.cmd.Step.TheVariants.{Ask}
 use Rattle.realm_plan.specs.declared.step.PlanStep.{PlanStep}
 use Rattle.realm_plan.specs.declared.step.PlanStep.TheVariants.{Whole, WidthLeftOut}
 
--- a width that is left out is 39
+-- the request that a step makes of the host; an IPA width that is left out is 39
 abbrev pub asked : PlanStep → Step
 asked (Whole step) = step
 asked (WidthLeftOut rd root) = Ask (Realm rd root 39)

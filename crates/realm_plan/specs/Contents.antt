@@ -9,17 +9,17 @@ infixl 10 ◌>>=◌
 abbrev pub ◌>>=◌ : {A B : Type 0} → Option A → (A → Option B) → Option B
 o >>= f = option_and_then f o
 
--- the members have no key but these
+-- the members of a TOML table have no keys but the given ones
 abbrev pub has_only : List (List ℕ) → Members → Bool
 has_only names no_members = true
 has_only names (member key value more) = list_any (bytes_eq key) names && has_only names more
 
--- the whole number, or the default if there is no value
+-- the value as a whole number, if it is one; the default if there is no value
 abbrev pub whole_of : Option ℤ → Option Data → Option ℤ
 whole_of default None = default
 whole_of default (Some value) = as_integer value
 
--- the whole numbers; all but `pages` have a default
+-- the four whole numbers of a plan; all but `pages` have a default
 unfoldable pub integers_at : Members → Option PlanIntegers
 integers_at ms =
     whole_of None (get_member (codes "pages") ms) >>= (λ pages.
@@ -28,12 +28,12 @@ integers_at ms =
     whole_of (Some (pos 1024)) (get_member (codes "history") ms) >>= (λ history.
     Some (record { pages = pages; vmids = vmids; aux = aux; history = history })))))
 
--- whole numbers and no other items
+-- the items of an array as whole numbers, if all of them are whole numbers
 abbrev pub integers_of : Items → Option (List ℤ)
 integers_of no_items = Some []
 integers_of (item value more) = as_integer value >>= (λ z. option_map (λ zs. z ∷ zs) (integers_of more))
 
--- texts and no other items
+-- the items of an array as texts, if all of them are texts
 abbrev pub texts_of : Items → Option (List (List ℕ))
 texts_of no_items = Some []
 texts_of (item value more) = as_str value >>= (λ t. option_map (λ ts. t ∷ ts) (texts_of more))
@@ -44,7 +44,7 @@ plan_keys = codes "pages" ∷ codes "vmids" ∷ codes "aux" ∷ codes "history" 
 abbrev pub build_keys : List (List ℕ)
 build_keys = codes "steps" ∷ []
 
--- the texts of the steps of a build, which is a table with the one key `steps`, an array of texts
+-- the texts of a build's steps, if the build is a table with the single key `steps` and an array of texts
 abbrev pub step_texts_of : Data → Option (List (List ℕ))
 step_texts_of value = as_table value >>= (λ ms. if has_only build_keys ms then get_member (codes "steps") ms >>= as_array >>= texts_of else None)
 
@@ -55,7 +55,7 @@ build_texts_of (item value more) = step_texts_of value >>= (λ b. option_map (λ
 abbrev pub builds_at : Members → Option (List (List (List ℕ)))
 builds_at ms = get_member (codes "build") ms >>= as_array >>= build_texts_of
 
--- if there is no schedule, it is the empty one
+-- the numbers of a plan's schedule; without a value for the key `order`, the schedule is empty
 abbrev pub order_numbers_of : Option Data → Option (List ℤ)
 order_numbers_of None = Some []
 order_numbers_of (Some value) = as_array value >>= integers_of
@@ -68,7 +68,7 @@ pub record Contents : Type 0 where
   pub order : List ℤ
   pub builds : List (List (List ℕ))
 
--- The contents of a document: nothing if a key is missing, unknown or of the wrong kind.
+-- The contents of a document; none if a required key is missing, if a key is unknown, or if a value has the wrong type.
 unfoldable pub contents_of : Members → Option Contents
 contents_of ms =
     if has_only plan_keys ms then

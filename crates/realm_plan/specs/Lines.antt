@@ -8,7 +8,7 @@ use Rattle.realm_model.specs.declared.states.RealmState.{RealmState}
 use Rattle.realm_model.specs.declared.states.RealmState.TheVariants as realm
 use Rattle.realm_plan.specs.Answers.{then_number}
 
--- a turn of a build that has no step left
+-- the line of a turn for which the build has no step left
 abbrev pub idle_line : ℕ → List ℕ
 idle_line build = decimal build ++ codes " - idle\n"
 
@@ -21,13 +21,14 @@ state_word RecAux = codes "REC_AUX"
 state_word Data = codes "DATA"
 state_word Rtt = codes "RTT"
 
--- the sum of a page's bytes, which the line has only if the page is UNDELEGATED or DATA
+-- the sum of a page's bytes if the page is UNDELEGATED or DATA, and otherwise no number
 abbrev pub sum_numbers : GranuleState → ℕ → List ℕ
 sum_numbers Undelegated sum = sum ∷ []
 sum_numbers Data sum = sum ∷ []
 sum_numbers _ sum = []
 
--- the build, its number for the page, the state, and the sum of bytes if one is shown
+-- the line of a page: its build, its number in the build, its state, and the sum of its bytes if it is UNDELEGATED or
+-- DATA
 abbrev pub page_line : ℕ → ℕ → GranuleState → ℕ → List ℕ
 page_line build page state sum =
     decimal build ++ (codes " page" ++ (then_number page ++ (32 ∷ state_word state ++ (spelled_numbers (sum_numbers state sum) ++ 10 ∷ []))))
@@ -36,10 +37,10 @@ abbrev pub realm_word : RealmState → List ℕ
 realm_word realm.New = codes "NEW"
 realm_word realm.Active = codes "ACTIVE"
 
--- the build, and the state and the VMID of its realm
+-- the line of a build's realm: the build, and the realm's state and VMID
 abbrev pub realm_line : ℕ → RealmState → ℕ → List ℕ
 realm_line build state vmid = decimal build ++ (codes " realm " ++ (realm_word state ++ (codes " vmid" ++ (then_number vmid ++ 10 ∷ []))))
 
--- the number of granules that no build leases
+-- the line with the number of granules that no build leases
 abbrev pub free_line : ℕ → List ℕ
 free_line count = codes "free" ++ (then_number count ++ 10 ∷ [])

@@ -9,7 +9,7 @@ abbrev pub ◌>>=◌ : {A B : Type 0} → Result A PlanFault → (A → Result B
 (Ok x) >>= f = f x
 (Err e) >>= f = Err e
 
--- the value, or this fault if there is none
+-- the value, or the given fault if there is no value
 abbrev pub or_fault : {A : Type 0} → PlanFault → Option A → Result A PlanFault
 or_fault fault None = Err fault
 or_fault fault (Some x) = Ok x
@@ -18,7 +18,8 @@ abbrev pub Fails : {Y : Type 0} → PlanError → Result Y PlanFault → Type 0
 Fails errors.Memory read = Unit {0}
 Fails (errors.Fault fault) read = read ≡ Err fault
 
--- A call returned the value, as `view` sees it, or the fault. If its error is `Memory`, nothing is stated.
+-- The result of a call is the specified value, as `view` sees it, or the specified fault. If its error is `Memory`,
+-- nothing is stated.
 abbrev pub Gives : {X Y : Type 0} → (X → Y) → Result X PlanError → Result Y PlanFault → Type 0
 Gives view (Ok x) read = read ≡ Ok (view x)
 Gives view (Err e) read = Fails e read

@@ -14,29 +14,29 @@ use Rattle.realm_plan.specs.declared.limits.Numbers.{Numbers}
 
 -- ---- steps and turns
 
--- the steps of build b from its k-th text on, or the first text that is no step
+-- the steps of build b from its k-th text on, or the fault of the first text that is not a step
 abbrev pub steps_of : ℕ → ℕ → List (List ℕ) → Result (List PlanStep) PlanFault
 steps_of b k [] = Ok []
 steps_of b k (text ∷ texts) = or_fault (fault.Step b k) (step_of text) >>= (λ s. steps_of b (k + 1) texts >>= (λ ss. Ok (s ∷ ss)))
 
--- the builds from the b-th on
+-- the steps of each build from the b-th on, or the first fault
 abbrev pub builds_of : ℕ → List (List (List ℕ)) → Result (List (List PlanStep)) PlanFault
 builds_of b [] = Ok []
 builds_of b (texts ∷ more) = steps_of b 0 texts >>= (λ ss. builds_of (b + 1) more >>= (λ bs. Ok (ss ∷ bs)))
 
--- the build that an entry of the schedule names, among `count` builds
+-- the build that an entry of the schedule names, if it is one of `count` builds
 abbrev pub build_named : ℕ → ℤ → Option ℕ
 build_named count (pos n) = if nat_lt n count then Some n else None
 build_named count (negsuc n) = None
 
--- the builds of the turns from index k on
+-- the builds that the schedule names from index k on, or the fault of the first entry that names none
 abbrev pub order_of : ℕ → ℕ → List ℤ → Result (List ℕ) PlanFault
 order_of count k [] = Ok []
 order_of count k (entry ∷ entries) = or_fault (fault.Order k) (build_named count entry) >>= (λ b. order_of count (k + 1) entries >>= (λ bs. Ok (b ∷ bs)))
 
 -- ---- limits
 
--- the number, if it is one from `low` to `high`
+-- the number, if it is from `low` to `high`, and otherwise the fault `Limit`
 abbrev pub between : ℕ → ℕ → ℤ → Result ℕ PlanFault
 between low high (pos n) = if nat_le low n && nat_le n high then Ok n else Err fault.Limit
 between low high (negsuc n) = Err fault.Limit
@@ -44,7 +44,7 @@ between low high (negsuc n) = Err fault.Limit
 abbrev pub within : Bool → Result (Unit {0}) PlanFault
 within holds = if holds then Ok tt else Err fault.Limit
 
--- the four numbers, each within its limits
+-- the four numbers of a plan, if each is within its limits, and otherwise the fault `Limit`
 unfoldable pub plan_numbers_of : Contents → Result Numbers PlanFault
 plan_numbers_of c =
     between 1 4096 c.pages >>= (λ pages.
@@ -53,7 +53,7 @@ plan_numbers_of c =
     between 16 16384 c.history >>= (λ history.
     Ok (record { pages = pages; vmids = vmids; aux = aux; history = history })))))
 
--- 1 to 8 builds, each of up to 1024 steps, and up to 16384 turns
+-- success if a plan has 1 to 8 builds, each of up to 1024 steps, and up to 16384 turns; otherwise the fault `Limit`
 unfoldable pub check_lengths : List (List PlanStep) → List ℕ → Result (Unit {0}) PlanFault
 check_lengths builds order =
     within (nat_le 1 (length builds) && nat_le (length builds) 8) >>= (λ _.
@@ -62,8 +62,8 @@ check_lengths builds order =
 
 -- ---- the plan
 
--- A plan has four settings, the steps of each build, and a schedule. If the plan gives up, a build whose step is
--- refused leaves out its other steps, and aborts.
+-- A plan: four settings, the steps of each build, and a schedule. If the plan gives up, a build whose step is refused
+-- leaves out its other steps, and aborts.
 pub record Plan : Type 0 where
   pub pages : ℕ
   pub vmids : ℕ
@@ -73,8 +73,8 @@ pub record Plan : Type 0 where
   pub order : List ℕ
   pub gives_up : Bool
 
--- The plan of the contents, or the first fault: of steps, then of turns, then of limits. No document says that a plan
--- gives up.
+-- The plan that the contents make, or their first fault: in the steps, then in the schedule, then in the limits. No
+-- document says that a plan gives up.
 unfoldable pub plan_of_contents : Contents → Result Plan PlanFault
 plan_of_contents c =
     builds_of 0 c.builds >>= (λ builds.
@@ -87,8 +87,8 @@ plan_of_contents c =
 unfoldable pub document_of : List ℕ → Option Members
 document_of bytes = if is_utf8 bytes then parse_document bytes else None
 
--- The plan that the bytes spell, or the one fault. Of several faults it is the first in the order of their numbers,
--- but too many bytes, a fault of limits, come before all others.
+-- The plan that the bytes spell, or the fault for which they spell none. Of several faults it is the first in the order
+-- of their numbers, but too many bytes, a fault of limits, come before all others.
 unfoldable pub plan_of : List ℕ → Result Plan PlanFault
 plan_of bytes =
     if nat_lt 1048576 (length bytes) then Err fault.Limit

@@ -1,4 +1,4 @@
--- The plan step that a word and its numbers mean, by a table with a row for each word.
+-- Tables of the words of plan steps: for each word, the step that it means with its numbers.
 use Rattle.std.specs.Prelude.{ℕ, nat_le, List, [], ◌∷◌, codes, if◌then◌else◌, Option, None, option_map}
 use Rattle.std.specs.Option.{option_or}
 use Rattle.std.specs.Str.{bytes_eq}
@@ -23,7 +23,7 @@ page_step_at word ns =
     else if bytes_eq word (codes "delegate") then one page (λ p. whole (Delegate p)) ns
     else None
 
--- the step `realm` has two numbers without a width, and three with one
+-- the `realm` step that leaves out the IPA width, if the numbers are two pages
 abbrev pub short_realm_at : List ℕ → Option PlanStep
 short_realm_at ns = two page page (λ rd root. WidthLeftOut rd root) ns
 
@@ -59,7 +59,7 @@ rec_step_at word ns =
     else if bytes_eq word (codes "poke") then four u16 u32 page_offset u8 (λ number ipa o value. whole (Poke number ipa o value)) ns
     else None
 
--- the four words by which a build goes back over its own steps
+-- the step of the word `undo`, `abort`, `mark` or `back`, if no numbers follow it; none for any other word
 abbrev pub way_back_step_at : List ℕ → List ℕ → Option PlanStep
 way_back_step_at word ns =
     if bytes_eq word (codes "undo") then none (Whole Undo) ns
@@ -73,6 +73,6 @@ step_at word ns =
     option_or (page_step_at word ns) (option_or (realm_step_at word ns)
     (option_or (table_step_at word ns) (option_or (rec_step_at word ns) (way_back_step_at word ns))))
 
--- the step of a text: the word before the first space, and a number after each
+-- the step that a text spells as a word and its numbers, with one space before each number; none if it spells no step
 abbrev pub step_of : List ℕ → Option PlanStep
 step_of text = meaning_of_text step_at text

@@ -131,7 +131,8 @@ fn steps_of<'a>(alloc: Global, value: &'a Value) -> Result<Option<Vec<&'a str>>,
     texts_of(alloc, array)
 }
 
-/// Returns the texts of each build's steps from a plan's array of builds.
+/// Returns the texts of each build's steps from a plan's array of builds. Returns `None` if an element is not a build
+/// as in `steps_of`.
 fn builds_of<'a>(alloc: Global, array: &'a Array) -> Result<Option<Vec<Vec<&'a str>>>, AllocError>
     ensures { IfOk result (λ r. option_map (λ v. map (λ b. map (λ t. t.now) b.items) v.items) r
         ≡ build_texts_of (array_view array.now)) }
@@ -187,8 +188,8 @@ impl<'a> Contents<'a> {
     ghost use Rattle.realm_plan.specs.Contents.{contents_of};
     ghost use Rattle.realm_plan.specs.ContentsView.{contents_view};
 
-    /// Reads the values of all keys from the TOML document of a plan. `None` means that a key is missing, unknown or of
-    /// the wrong kind.
+    /// Reads the values of a plan's keys from the plan's TOML document. Returns `None` if a required key is missing, if
+    /// a key is unknown, or if a value has the wrong type.
     #[tactic(auto, unfolding(crate::specs::Contents::contents_of))]
     pub fn of(alloc: Global, table: &'a Table) -> Result<Option<Contents<'a>>, AllocError>
         ensures { IfOk result (λ r. option_map contents_view r ≡ contents_of (table_view table.now)) }

@@ -12,7 +12,7 @@ pub enum PlanFault {
     /// A plan whose bytes are not UTF-8, or are not a TOML document.
     #[error("plan 20 syntax")]
     Syntax,
-    /// A key that a plan lacks, an unknown key, or a key whose value has the wrong type.
+    /// A required key that a plan lacks, an unknown key, or a key whose value has the wrong type.
     #[error("plan 21 key")]
     Key,
     /// The first step whose text cannot be parsed, in the sequence of a plan's builds and their steps. The fields are

@@ -36,7 +36,7 @@ fn sum_numbers(state: GranuleState, sum: u32) -> ArrayVec<u32, MOST_NUMBERS>
     }
 }
 
-/// Returns the RMM 1.0 name of a realm's state: `NEW` or `ACTIVE`. RMM 1.0, Realm state.
+/// Returns the RMM 1.0 name of a realm's state, `NEW` or `ACTIVE`. RMM 1.0, Realm state.
 pub fn realm_word(state: RealmState) -> &'static str
     ensures { result.now ≡ realm_word state }
 {

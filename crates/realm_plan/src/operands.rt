@@ -5,7 +5,7 @@ use arrayvec::ArrayVec;
 use decimal_text::Operand;
 use granule_addr::PageOff;
 
-/// The highest page number of a build. Numbers begin at 0, and the largest machine has 4096 pages.
+/// The highest number that a build's page can have. Numbers begin at 0, and the largest machine has 4096 pages.
 pub const MOST_PAGE: u16 = 4095;
 
 /// The greatest offset of a byte in a page of 4 KiB.

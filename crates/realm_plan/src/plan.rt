@@ -20,7 +20,7 @@ pub const MOST_BYTES: usize = 1_048_576;
 pub struct Plan {
     pub pages: u16,
     pub vmids: u8,
-    /// The number of auxiliary granules of a REC.
+    /// The number of auxiliary granules that each REC needs.
     pub aux: u8,
     /// The number of events that the history can hold for each build.
     pub history: u16,
@@ -30,7 +30,7 @@ pub struct Plan {
     pub order: Vec<BuildId>,
     /// Whether a build skips its remaining steps and aborts after one of its steps is refused.
     pub gives_up: bool,
-    /// The abort step, which a build performs after one of its steps is refused, if `gives_up` is set.
+    /// The abort step: if `gives_up` is set, a build performs it after one of its steps is refused.
     pub abort: PlanStep,
     pub ghost pages_in_limits: { (1 ≤ pages) × (pages ≤ 4096) },
     pub ghost vmids_in_limits: { 1 ≤ vmids },

@@ -35,7 +35,7 @@ pub(crate) fn builds_of(alloc: Global, texts: &[Vec<&str>]) -> Result<Vec<Vec<Pl
     Ok(found)
 }
 
-/// Returns the build that an entry of the schedule names. There are `count` builds.
+/// Returns the build that an entry of the schedule names, if it names one. There are `count` builds.
 fn build_named(count: usize, entry: i64) -> Option<usize>
     ensures value { result ≡ build_named_at count entry }
     ensures below { IfSome result (λ build. build < count) }

@@ -1,5 +1,5 @@
--- Proofs that a recorded operation passes the check if and only if it is that of the given command, and lemmas on
--- matching undos.
+-- Proofs that a command can ask for an operation if and only if `act_of` returns that operation, given the VMID, REC
+-- number or byte that the operation holds. Lemmas about undos are here too.
 use Rattle.std.proofs.Common.{◌≡◌, ℕ, ◌-◌, ◌↔◌, Bool, true, false, List, length, drop, Option, Some, None, sym, ap, ◌∙◌}
 use Rattle.std.specs.Prelude.{IsTrue, slice_get, option_map, option_and_then}
 use Rattle.std.specs.List.{last_or}

@@ -1,5 +1,4 @@
--- Proofs that a run by workers has the specified output text if all checks succeed, and otherwise a correct reason why
--- there is none.
+-- Proofs that a run by workers either has the specified output text or fails with a correct reason.
 use Rattle.std.proofs.Common.{◌≡◌, inl, inr, ℕ, ◌∷◌, [], ◌++◌, List, length, sym, subst, ◌∙◌, ap, ap₂}
 use Rattle.std.specs.Global.{Vec}
 use Rattle.std.specs.List.{AllZip, flat_map}

@@ -1,4 +1,4 @@
--- Proofs that printing a plan's text writes all of it, a prefix, or nothing, according to the outcome.
+-- Proofs that printing a text made from a plan writes all of the text, a prefix, or nothing, according to the outcome.
 use Rattle.std.proofs.Common.{◌≡◌, ◌↔◌, ℕ, List, Option, IfSome, Ok, Err, Bool, true, false, refl}
 use Rattle.std.specs.Io.KnownBytes.{Appends}
 use Rattle.realm_plan.specs.Outcome.{Fails}

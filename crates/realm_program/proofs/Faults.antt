@@ -1,4 +1,4 @@
--- Proof that the reason why a run in threads has no text is never a faulty plan, a failed read or a failed write.
+-- A proof that the reason why a run in threads has no text is never a faulty plan, a failed read or a failed write.
 use Rattle.std.proofs.Common.{ℕ}
 use Rattle.realm_plan.specs.Plan.{Plan}
 use Rattle.realm_program.specs.Printed.{IsFaultOfText}

@@ -1,4 +1,4 @@
--- Proofs that the bytes read from an input are the ones to keep: the whole input, or its first 1,048,577 bytes.
+-- Proofs that the bytes read from an input are those that must be kept: the whole input, or its first 1,048,577 bytes.
 use Rattle.std.proofs.Common.{◌≡◌, ℕ, ◌+◌, ◌≤◌, List, [], ◌++◌, length, take, Option, Some, None, sym, ap, ◌∙◌, arith}
 use mathlib.Core.List.{append-nil}
 use Rattle.std.specs.Prelude.{IfSome}

@@ -1,4 +1,4 @@
--- Proof that two runs in threads with the same final workers have the same text, in whatever sequence the builds took
+-- A proof that two runs in threads with the same final workers have the same text, in whatever sequence the builds took
 -- the lock.
 use Rattle.std.proofs.Common.{◌≡◌, ℕ, List, ◌++◌, sym, ap, ◌∙◌, subst}
 use Rattle.std.specs.List.{flat_map}

@@ -1,4 +1,5 @@
--- Lemmas on collecting the granules of pages: each page adds one granule, and there is no list if some page has none.
+-- Lemmas about collecting the granules of pages: each page adds one granule, and there is no list if some page has no
+-- granule.
 use Rattle.std.proofs.Common.{◌≡◌, ℕ, ◌+◌, List, [], ◌∷◌, ◌++◌, length}
 use Rattle.std.proofs.Common.{map, Option, Some, refl, sym, ap, ◌∙◌, length-append, append_assoc}
 use Rattle.std.proofs.lemmas.List.{map-append, length-map}

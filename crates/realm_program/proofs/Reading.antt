@@ -1,5 +1,5 @@
--- The loop invariant of comparing a worker's report with a history, and proofs that each line preserves it and that it
--- decides the match.
+-- Proofs about the loop that compares a worker's report with a history: each line preserves the loop's invariant, and
+-- the result says whether the report and the history match.
 use Rattle.std.proofs.Common.{◌≡◌, ℕ, zero, suc, ◌+◌, ◌<◌, ◌≤◌, ◌↔◌, Bool, true, false, cond, List, [], ◌∷◌, ◌++◌, length, take, drop, get_or}
 use Rattle.std.proofs.Common.{nat_eq, Option, Some, None, refl, sym, ap, ◌∙◌, subst, inl, inr, arith, length-drop, add-zero, below_more}
 use Rattle.std.specs.Prelude.{slice_get, IsTrue, IfSome, IsSomeAnd}

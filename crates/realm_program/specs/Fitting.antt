@@ -27,43 +27,45 @@ use Rattle.build_seats.specs.declared.report.Report.{Report}
 
 -- ---- commands
 
--- The granule of a build's page. A number above those of the largest machine is no granule.
+-- The granule of a build's page, if the build has the page. A number above those of the largest machine is not a
+-- granule.
 abbrev pub granule_of_number : List ℕ → ℕ → Option ℕ
 granule_of_number pages page = option_and_then (λ number. if nat_lt number 4096 then Some number else None) (slice_get pages page)
 
--- the build has each page with one of these numbers, and these are their granules, in sequence
+-- the build has all pages with these numbers, and the granules are those of the pages, in sequence
 abbrev pub AreGranules : List ℕ → List ℕ → List ℕ → Type 0
 AreGranules pages numbers granules = map (granule_of_number pages) numbers ≡ map (λ granule. Some granule) granules
 
--- for some of these numbers the build has no page, or the page is no granule
+-- for at least one of these numbers, the build has no page, or a page whose granule is above those of the largest
+-- machine
 abbrev pub HaveNoGranules : List ℕ → List ℕ → Type 0
 HaveNoGranules pages numbers = (granules : List ℕ) → ¬ AreGranules pages numbers granules
 
--- a list of granules, and after it the granules of the pages with these numbers
+-- the list `after` is the list `before`, followed by the granules of the pages with these numbers
 abbrev pub ArePushed : List ℕ → List ℕ → List ℕ → List ℕ → Type 0
 ArePushed pages numbers before after = (granules : List ℕ) × (AreGranules pages numbers granules × (after ≡ before ++ granules))
 
--- The operation is that of the command with the granules of its pages, whatever was allocated for it.
+-- The command asks for this operation on the granules of its pages, with some allocated values.
 pub record IsMadeOf (pages : List ℕ) (cmd : Cmd) (act : Act) : Type 0 where
   pub granules : List ℕ
   pub allocated : Allocated
   pub are_granules : AreGranules pages (operands cmd) granules
   pub act_is : act_of cmd granules allocated ≡ Some act
 
--- The operation is that of the command of a build with these pages. The block of a Take may be any.
+-- The command can ask for this operation if the build has these pages. The block of a Take may be any.
 abbrev pub IsFittingAct : List ℕ → Cmd → Act → Type 0
 IsFittingAct pages (Take order) act = (first : ℕ) × (act ≡ acts.Take order first)
 IsFittingAct pages cmd act = IsMadeOf pages cmd act
 
--- the operation is that of the command, and the reply is the reply to it
+-- the command can ask for this operation, and the host answers the operation with this reply
 pub record IsFittingReply (pages : List ℕ) (cmd : Cmd) (reply : Reply) (act : Act) : Type 0 where
   pub act_is : IsFittingAct pages cmd act
   pub reply_is : reply ≡ reply_of (length pages) act
 
 -- ---- undos
 
--- The operation is the reverse of the newest open one. The reply has the kind of the operation that is undone, and the
--- number of those left open.
+-- The operation is the reverse of the newest open operation. The reply has the kind of the operation that is undone,
+-- and the number of those left open.
 pub record IsFittingUndo (opened : List Act) (undone : Undone) (act : Act) : Type 0 where
   pub act_is : option_and_then reverse_of (last_or None opened) ≡ Some act
   pub kind_is : option_and_then act_kind (last_or None opened) ≡ Some undone.kind
@@ -71,9 +73,9 @@ pub record IsFittingUndo (opened : List Act) (undone : Undone) (act : Act) : Typ
 
 -- ---- lines
 
--- An answer matches its question if the build has these pages and these operations open, and this is its next event. A
--- reply and an undo have this event. The answer to a mark is the number of open operations. An answer that did nothing,
--- or was a refusal, matches anywhere.
+-- An answer matches its question, for a build that has these pages, these open operations and this next event. A reply
+-- or an undo matches this event. The answer to a mark is the number of open operations. An answer that did nothing, or
+-- was a refusal, matches anywhere.
 abbrev pub AnswerFits : List ℕ → List Act → Option Event → Question → Answer → Type 0
 AnswerFits pages opened next (question.Do cmd) (Replied reply) = IsSomeAnd next (λ event. IsFittingReply pages cmd reply event.act)
 AnswerFits pages opened next question.Undo (WasUndone undone) = IsSomeAnd next (λ event. IsFittingUndo opened undone event.act)
@@ -82,23 +84,24 @@ AnswerFits pages opened next asked Nothing = Unit {0}
 AnswerFits pages opened next asked (Refused refusal) = Unit {0}
 AnswerFits pages opened next asked answer = ⊥
 
--- A line matches after `count` events of its build: it has a question, and its answer matches there.
+-- A line matches after `count` events of its build: it has a question, and its answer matches the build's pages, open
+-- operations and next event at that point.
 abbrev pub LineFits : ℕ → List Step → List Event → ℕ → ReportLine → Type 0
 LineFits build steps history count line =
     let before = take count (events_of build history) in
     let next = slice_get (events_of build history) count in
     IsSomeAnd (question_at steps line.asked) (λ asked. AnswerFits (pages_of build before) (open_entries build before) next asked line.answer)
 
--- the number of the lines that are accepted
+-- the number of lines that show an accepted command or undo
 abbrev pub accepted_count : List ReportLine → ℕ
 accepted_count lines = length (filter is_accepted lines)
 
--- The lines of a report match the history: each matches after as many events of the build as there are accepted lines
--- before it. There are as many of these events as of accepted lines.
+-- The lines of a report match the history: a line with `n` accepted lines before it matches after `n` events of the
+-- build. The build has as many events as the report has accepted lines.
 pub record DoesFit (build : ℕ) (steps : List Step) (lines : List ReportLine) (history : List Event) : Type 0 where
   pub each : (place : ℕ) (line : ReportLine) → slice_get lines place ≡ Some line → LineFits build steps history (accepted_count (take place lines)) line
   pub as_many : accepted_count lines ≡ length (events_of build history)
 
--- a report matches, with the steps of its build's plan
+-- a report, with the steps that are paired with it, matches the history
 abbrev pub ReportFits : List Event → Report × Vec Step → Type 0
 ReportFits history (report, steps) = DoesFit report.build steps.items report.lines.items history

@@ -1,4 +1,5 @@
--- The condition that a host's answer to a call matches the event that the call adds to the history.
+-- The condition that a host's answer to a call matches the event that the call adds to the history or, for a mark, the
+-- build's open operations.
 use Rattle.std.specs.Prelude.{◌≡◌, ℕ, ◌≤◌, [], ◌∷◌, ◌++◌, Some, None}
 use Rattle.host_ledger.specs.View.{HostView}
 use Rattle.host_ledger.specs.declared.mark.Mark.{Mark}
@@ -22,17 +23,19 @@ pub record FitsNext (host : HostView) (build : ℕ) (asked : Question) (told : A
   pub grows : new.history ≡ host.history ++ by build act ∷ []
   pub fits : AnswerFits (pages_of build host.history) (open_entries build host.history) (Some (by build act)) asked told
 
--- for a legal history and at most 4096 pages, a host's reply to a command matches its event
+-- if the history is legal, and there are at most 4,096 pages, a host's reply to a command matches the event that the
+-- command adds
 abbrev pub HostReplyFits : HostView → ℕ → Cmd → Reply → HostView → Type 0
 HostReplyFits host build cmd reply new =
     IsLegal host.limits host.history → host.limits.pages ≤ 4096 → IsReplied host build cmd reply new
     → FitsNext host build (question.Do cmd) (answer.Replied reply) new
 
--- a host's reply to an undo matches its event
+-- a host's reply to an undo matches the event that the undo adds
 abbrev pub HostUndoFits : HostView → ℕ → Undone → HostView → Type 0
 HostUndoFits host build undone new = IsUndone host build undone new → FitsNext host build question.Undo (answer.Undone undone) new
 
--- A host's answer to a mark matches, without an event of the build.
+-- A host's answer to a mark matches its question: it is the number of the build's open operations, and no event goes with
+-- it.
 abbrev pub HostMarkFits : HostView → ℕ → Mark → HostView → Type 0
 HostMarkFits host build mark new =
     IsMarkedAs host build mark new → AnswerFits (pages_of build host.history) (open_entries build host.history) None question.Mark (answer.Marked mark.length)

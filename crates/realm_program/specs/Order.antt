@@ -1,4 +1,4 @@
--- The condition that two runs with the same final workers have the same text, in whatever sequence the builds took the
+-- The statement that two runs with the same final workers have the same text, in whatever sequence the builds took the
 -- lock.
 use Rattle.std.specs.Prelude.{◌≡◌, ℕ, List}
 use Rattle.host_ledger.specs.View.{HostView}

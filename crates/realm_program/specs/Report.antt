@@ -1,4 +1,4 @@
--- The text of a worker's report, with a line for each answer in the form of a turn's line.
+-- The text of a worker's report: a line for each answer, in the form of the line that a run prints for a turn.
 use Rattle.std.specs.Prelude.{ℕ, ◌==◌, Bool, true, false, not, ◌&&◌, if◌then◌else◌, List, [], ◌∷◌, ◌++◌, Option, Some, None, slice_get}
 use Rattle.host_commands.specs.declared.cmd.Cmd.TheVariants.{Exit}
 use Rattle.host_commands.specs.declared.cmd.Step.TheVariants.{Ask, Undo}
@@ -14,24 +14,25 @@ use Rattle.plan_replay.specs.Turn.{undoes_many}
 use Rattle.plan_replay.specs.declared.answer.TurnAnswer.{TurnAnswer}
 use Rattle.plan_replay.specs.declared.answer.TurnAnswer.TheVariants as tells
 
--- The step of a line: the plan's at that index, as the plan has it. A question after a refusal is written as the step
--- that would ask it.
+-- The step that a report's line shows: the plan's step at the index that the line has, if the plan has such a step. A
+-- question after a refusal is written as the step that would ask it.
 abbrev pub step_of_line : List PlanStep → Asked → Option PlanStep
 step_of_line steps (asked.Step place) = slice_get steps place
 step_of_line steps (asked.Exit number) = Some (Whole (Ask (Exit number)))
 step_of_line steps asked.Undo = Some (Whole Undo)
 
--- both are of the plan's step at the same index
+-- both questions are asked for the same step of the plan
 abbrev pub is_same_step : Asked → Asked → Bool
 is_same_step (asked.Step place) (asked.Step other) = place == other
 is_same_step _ _ = false
 
--- A line ends its step if the next line is of something else, or there is none.
+-- A line is the last line of its step: the next line is not for the same step, or there is no next line.
 abbrev pub ends_step : Asked → Option ReportLine → Bool
 ends_step this None = true
 ends_step this (Some next) = not (is_same_step this next.asked)
 
--- The answer that a line shows. For an undo, it includes whether an abort or a step back ends there.
+-- The answer that the text of a report line shows, given the worker's answer and whether an abort or a `back` ends with
+-- the line.
 abbrev pub answer_of_line : Answer → Bool → TurnAnswer
 answer_of_line (answer.Replied reply) ends = tells.Replied reply
 answer_of_line (answer.Undone undone) ends = if ends then tells.Ended undone.kind else tells.Undone undone.kind
@@ -45,7 +46,7 @@ line_text build None line next = []
 line_text build (Some step) line next =
     turn_line build step (answer_of_line line.answer (undoes_many step && ends_step line.asked next))
 
--- the lines of a build's report, one after the other
+-- the text of a build's report: the texts of its lines, one after another
 abbrev pub report_text : ℕ → List PlanStep → List ReportLine → List ℕ
 report_text build steps [] = []
 report_text build steps (line ∷ more) =

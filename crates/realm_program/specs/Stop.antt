@@ -5,11 +5,11 @@ use Rattle.command_line.specs.declared.stop.Stop.{Stop}
 use Rattle.realm_program.specs.Fault.{status_of}
 use Rattle.realm_program.specs.declared.fault.Fault.{Fault}
 
--- a program that has performed what it was asked for ends with 0
+-- the exit status for an outcome: 0 for success, and otherwise the status of the reason why the program stopped
 abbrev pub status_of_outcome : Result (Unit {0}) (Stop Fault) → ℕ
 status_of_outcome (Ok _) = 0
 status_of_outcome (Err stop) = status_of_stop status_of stop
 
--- the statuses of a program that has not printed the whole text that it was asked for
+-- the exit status is from 1 to 5: the program has not printed the whole requested text
 abbrev pub IsStatus : ℕ → Type 0
 IsStatus status = (status ≡ 1) ⊎ (status ≡ 2) ⊎ (status ≡ 3) ⊎ (status ≡ 4) ⊎ (status ≡ 5)

@@ -1,4 +1,4 @@
--- The runs of a plan by workers in threads, and the output text of such a run.
+-- The runs of a plan by workers in threads, and the output text of a run or the reason why it has none.
 use Rattle.std.specs.Prelude.{◌≡◌, ◌⊎◌, ℕ, true, false, List, [], ◌++◌, map, length, All}
 use Rattle.std.specs.Global.{Vec}
 use Rattle.std.specs.List.{AllZip, flat_map, range_with_len}
@@ -34,20 +34,20 @@ new_workers plan = map (new_worker plan) (range_with_len 0 (length plan.builds))
 abbrev pub worker_seats : List WorkerView → List SeatView
 worker_seats workers = map (λ worker. worker.seat) workers
 
--- the report that a worker leaves, with its steps
+-- the report that a worker leaves, with the worker's steps
 abbrev pub IsReportOf : WorkerView → Report × Vec Step → Type 0
 IsReportOf worker (report, asks) = (report.build ≡ worker.seat.build) × (report.lines.items ≡ worker.lines) × (asks.items ≡ worker.steps)
 
 -- ---- runs
 
--- The workers of the plan's builds have run, started with the host `opened`, and this is the host after them. For each
--- build, the gate lets the turns of `passes` pass, and stops those of `stops`.
+-- The workers of the plan's builds, started with the host `opened`, have run and ended, and `host` is the host
+-- afterwards. For each build, the gate lets the turns of `passes` pass, and stops those of `stops`.
 pub record IsEndedRun (plan : Plan) (passes stops : ℕ → ℕ → Type 0) (opened host : HostView) (workers : List WorkerView) : Type 0 where
   pub run : AreRun opened passes stops (new_workers plan) workers
   pub ended : All (λ worker. worker.ended ≡ true) workers
   pub given_back : IsHostGivenBack opened host (worker_seats workers)
 
--- The workers of the plan's builds have run, and each has ended and left its seat and its report.
+-- The workers of the plan's builds have run and ended, and have left these seats and these reports.
 pub record AreLeft (plan : Plan) (passes stops : ℕ → ℕ → Type 0) (opened : HostView) (seats : List SeatView) (reports : List (Report × Vec Step)) : Type 0 where
   pub workers : List WorkerView
   pub run : AreRun opened passes stops (new_workers plan) workers
@@ -55,17 +55,17 @@ pub record AreLeft (plan : Plan) (passes stops : ℕ → ℕ → Type 0) (opened
   pub seats_are : seats ≡ worker_seats workers
   pub reports_are : AllZip IsReportOf workers reports
 
--- the worker's accepted lines match its build's events in the history, one by one
+-- the lines of the worker's report match its build's events in the history
 abbrev pub WorkerFits : List Event → WorkerView → Type 0
 WorkerFits history worker = DoesFit worker.seat.build worker.steps worker.lines history
 
 -- ---- the text
 
--- the lines of a worker's report
+-- the text of a worker's report
 abbrev pub worker_text : Plan → WorkerView → List ℕ
 worker_text plan worker = report_text worker.seat.build (steps_of_build plan worker.seat.build) worker.lines
 
--- The text of some run in which each worker has ended: its history is legal, each seat has its build's part of the
+-- The text of some run in which each worker has ended: its history is legal, each seat has its build's events of the
 -- history, and each report matches the history. The text is the lines of the reports by build, the map of the history,
 -- and the line of the audit.
 pub record IsWorkersText (plan : Plan) (passes stops : ℕ → ℕ → Type 0) (opened : HostView) (text : List ℕ) : Type 0 where
@@ -78,15 +78,14 @@ pub record IsWorkersText (plan : Plan) (passes stops : ℕ → ℕ → Type 0) (
 
 -- ---- the reasons why there is no text
 
--- In some run the worker of this build, and of no lower one, has waited in vain for its next turn, which the gate
--- stops.
+-- In some run, this is the lowest build whose worker waits in vain for its next turn, which the gate stops.
 pub record IsStuck (plan : Plan) (passes stops : ℕ → ℕ → Type 0) (opened : HostView) (build : ℕ) : Type 0 where
   pub workers : List WorkerView
   pub run : AreRun opened passes stops (new_workers plan) workers
   pub waits : IsLowestWaiting workers build
 
--- Some run has ended with a seat whose events are not its build's part of the history, or with a report that does not
--- match.
+-- Some run has ended with a seat whose events are not its build's events in the history, or with a report that does not
+-- match the history.
 pub record IsMismatch (plan : Plan) (passes stops : ℕ → ℕ → Type 0) (opened : HostView) : Type 0 where
   pub host : HostView
   pub workers : List WorkerView

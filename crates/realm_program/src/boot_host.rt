@@ -49,8 +49,8 @@ pub fn boot<S: BuildableStore>(alloc: Global, plan: &Plan) -> Result<Host<S>, Al
 
 /// A store of pages that can be created at a given size. The size is any number of pages that a machine can have.
 pub trait BuildableStore: PageStore + Drop {
-    /// Returns a store of `pages` pages, all free and zero. The error is `BadSize` exactly if `pages` is not 1 to
-    /// 4,096; the only other error is `Memory`.
+    /// Creates a store of `pages` pages, all of them free and filled with zeros. The error is `BadSize` exactly if
+    /// `pages` is not 1 to 4,096; the only other error is `Memory`.
     fn built(alloc: Global, pages: u16) -> Result<Self, BuildError>
         ensures bad_size { IsErrOf result BuildError.BadSize ↔ ((pages < 1) ⊎ (4096 < pages)) }
         ensures zero { IfOk result (λ store. Self.page_bytes store ≡ replicate pages zero_page) }

@@ -1,4 +1,4 @@
-//! Creates the workers, which perform the steps of a plan's builds.
+//! Creates the workers that perform the steps of a plan's builds.
 ghost use Rattle.std.specs.Prelude.{◌≡◌, ◌<◌, map, vec_len, IfOk};
 ghost use Rattle.std.specs.List.{range_with_len};
 ghost use Rattle.realm_plan.specs.Asked.{asked};

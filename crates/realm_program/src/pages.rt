@@ -64,7 +64,7 @@ pub(crate) fn has_pages(opened: &[Act], count: u16) -> bool
     left == 0
 }
 
-// Appends the granules of pages. Returns `None` if the build lacks a page, or if a page is no granule of a machine.
+// Appends the granules of pages. Returns `None` if the build lacks a page, or if a page is not a granule of a machine.
 fn push_granules(granules: &mut ArrayVec<Gran, 17>, opened: &[Act], pages: &[u16]) -> Option<()>
     requires room { length granules.old.items + length pages.now ≤ 17 }
     ensures some { IfSome result (λ _. ArePushed (flat_map pages_held opened.now) pages.now granules.old.items granules.new.items) }
@@ -77,7 +77,7 @@ fn push_granules(granules: &mut ArrayVec<Gran, 17>, opened: &[Act], pages: &[u16
 }
 
 // Appends the granules of `count` pages from `first` on. Returns `None` if the build lacks one of the pages, or if one
-// is no granule of a machine.
+// is not a granule of a machine.
 fn push_run(granules: &mut ArrayVec<Gran, 17>, opened: &[Act], first: u16, count: u16) -> Option<()>
     requires room { length granules.old.items + count ≤ 17 }
     ensures some { IfSome result (λ _. ArePushed (flat_map pages_held opened.now) (range_with_len first count) granules.old.items granules.new.items) }
@@ -89,8 +89,8 @@ fn push_run(granules: &mut ArrayVec<Gran, 17>, opened: &[Act], first: u16, count
     Some(())
 }
 
-/// Returns the granules that a command names by the page numbers of its build. The build's open operations are
-/// `opened`. Returns `None` if the build lacks one of the pages, or if one is no granule of a machine.
+/// Returns the granules of the pages that a command names. The build's open operations are `opened`. Returns `None` if
+/// the build lacks one of the pages, or if one is not a granule of a machine.
 #[tactic(auto, unfolding(host_commands::specs::Needs::operands))]
 pub(crate) fn granules_of(opened: &[Act], cmd: &Cmd) -> Option<ArrayVec<Gran, 17>>
     ensures some { IfSome result (λ granules. AreGranules (flat_map pages_held opened.now) (operands cmd.now) granules.items) }

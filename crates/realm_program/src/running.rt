@@ -48,10 +48,12 @@ fn threads_text_of<H: Threads + Wait + Sync, G: Gate + Sync>(
 /// builds took the lock is not printed. Runs of a plan in which each build got the same answers, with the same
 /// allocations, have the same text.
 ///
-/// The text is complete before any of it is written. Errors: the fault of a plan. `Stuck`: the worker of this build,
-/// and of no lower one, waited in vain for a turn. `Mismatch`: the events of a build's seat are not the build's part of
-/// the history, or a report does not match it. `Memory`: allocation failed. `Device`: a read failed and nothing is
-/// written, or a write failed and a prefix of the text is written.
+/// The text is complete before any of it is written.
+///
+/// Errors: the fault of a plan. `Stuck`: the worker of this build, and of no lower one, waited in vain for a turn.
+/// `Mismatch`: the events of a build's seat are not the build's events in the history, or a report does not match it.
+/// `Memory`: allocation failed. `Device`: a read failed and nothing is written, or a write failed and a prefix of the
+/// text is written.
 pub fn run<H: Threads + Wait + Sync, R: Read, W: Write, G: Gate + Sync>(
     rt: &H,
     alloc: Global,

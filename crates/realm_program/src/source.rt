@@ -12,7 +12,7 @@ use realm_plan::Plan;
 use std::alloc::Global;
 use std::io::Read;
 
-/// Reads a plan from an input. Errors: `Plan`, with the fault of an input that is no plan; `Memory`, if allocation
+/// Reads a plan from an input. Errors: `Plan`, with the fault of an input that is not a plan; `Memory`, if allocation
 /// failed; `Device`, if a read failed.
 pub fn plan_in<R: Read>(alloc: Global, input: &mut Told<R>) -> Result<Plan, Fault>
     requires { input.old.failed ≡ false }

@@ -47,8 +47,8 @@ fn push_text<S: BuildableStore>(
     push_map(text, &host)
 }
 
-/// Runs the plan, and returns the text of the run. The text is complete in memory. The one error is that allocation
-/// failed.
+/// Runs a plan, and returns the output text of the run. The text is complete in memory. The one error is that
+/// allocation failed.
 pub fn text_of<S: BuildableStore>(alloc: Global, plan: &Plan) -> Result<String, AllocError>
     ensures { IfOk result (λ text. IsText (plan_view plan.now) (string_bytes text)) }
 {
@@ -67,9 +67,8 @@ fn ledger_of(alloc: Global, plan: &Plan) -> Result<HostLedger, AllocError>
     Ok(host.into_ledger())
 }
 
-/// Returns the printed map of pages and realms with one build left out. The map is that of a fresh host to which the
-/// history is applied without the events of `build`. The fresh host is booted from the plan. The one error is that
-/// allocation failed.
+/// Returns the printed map of pages and realms after the history without one build's events. The map is that of a fresh
+/// host, booted from the plan, to which the other events are applied. The one error is that allocation failed.
 pub fn map_without(
     alloc: Global,
     plan: &Plan,
@@ -131,8 +130,8 @@ impl PlanText for ReplayRequest {
     }
 }
 
-/// Reads a plan, runs it, and writes the text of the run. If a build is to be left out, writes the map that its history
-/// leads to without the build's events.
+/// Reads a plan, runs it, and writes the output text of the run. If a build is to be left out, writes the map that its
+/// history leads to without the build's events.
 ///
 /// The text is complete before any of it is written. Errors: the fault of a plan. `EraseNamesNoBuild`: the build to be
 /// left out is not one of the plan's. `Memory`: allocation failed. `Device`: a read failed and nothing is written, or a

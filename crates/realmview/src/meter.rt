@@ -4,11 +4,11 @@ use std::io::IsTerminal;
 use std::time::Instant;
 use view_program::schedules::Progress;
 
-/// The minimum time between two progress lines, in milliseconds.
+/// The length, in milliseconds, of a period in which at most one progress line is printed.
 const PAUSE: u128 = 200;
 
 /// A progress line with the number of schedules run so far, on standard error if that is a terminal. Each line is
-/// written over the one before it, five times a second at most.
+/// written over the one before it, at most once in each period of 200 ms.
 #[derive(Drop)]
 pub struct Meter<'a> {
     rt: &'a HostRuntime,

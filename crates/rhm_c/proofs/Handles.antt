@@ -1,5 +1,5 @@
--- Proofs that a C call on an open handle is a call of the handle's host, whose addresses stay, and that a closed handle
--- stays closed.
+-- Proofs that a C call on an open handle is a call on the host that the handle keeps, at unchanged addresses, and that
+-- a closed handle stays closed.
 use Rattle.std.proofs.Common.{◌≡◌, Option, Some, None, sym, subst}
 use Rattle.history_calls.specs.Frame.{Place}
 use Rattle.host_ledger.specs.View.{HostView}

@@ -10,7 +10,7 @@ use Rattle.history_calls.specs.declared.action.HostAction.TheVariants as host
 use Rattle.rhm_c.specs.declared.action.RawAction.{RawAction}
 use Rattle.rhm_c.specs.declared.action.RawActions.{RawActions}
 
--- a kind, the registers of a call, and no operands
+-- an operation of the given kind, with the registers of a call and 0 in all other fields
 abbrev pub with_registers : ℕ → Registers → RawAction
 with_registers kind r = record {
   kind = kind;
@@ -32,16 +32,16 @@ with_registers kind r = record {
   aux = replicate 16 0;
 }
 
--- a kind, and an address
+-- an operation of a kind on an address, with 0 in all other fields
 abbrev pub plain_action : ℕ → ℕ → RawAction
 plain_action kind address =
     record (with_registers kind (record { x0 = 0; x1 = 0; x2 = 0; x3 = 0; x4 = 0; x5 = 0; x6 = 0 })) { address = address }
 
--- the first 16 of these addresses, padded with zeros to 16
+-- the first 16 addresses of auxiliary granules, padded with zeros if there are fewer
 abbrev pub padded : List ℕ → List ℕ
 padded auxiliaries = map (λ place. slice_index_or auxiliaries place 0) (range_with_len 0 16)
 
--- a call, with its output in X1 if that is known
+-- the C form of an RMI call, with the output that X1 has to have, if that output is known
 abbrev pub call_action : Call → Option ℕ → RawAction
 call_action call (Some x1) = record (with_registers 5 (registers_of call)) { output = x1; has_output = 1 }
 call_action call None = with_registers 5 (registers_of call)
@@ -54,7 +54,7 @@ rec_action (host.Spin rec) = plain_action 9 rec
 rec_action (host.Saw rec) = plain_action 10 rec
 rec_action _ = plain_action 0 0
 
--- An operation of a host as C has it.
+-- The C form of an operation that a host performs on an RMM.
 abbrev pub raw_action : HostAction → RawAction
 raw_action (host.Fill address granules value) = record (plain_action 1 address) { count = granules; value = value }
 raw_action (host.Load address byte) = plain_action 2 address
@@ -67,7 +67,7 @@ raw_action action = rec_action action
 abbrev pub raw_at : List HostAction → ℕ → RawAction
 raw_at actions place = elim (slice_get actions place) [ Some action ↦ raw_action action | None ↦ plain_action 0 0 ]
 
--- Operations of a host as C has them: their number, the model's X0, and the first five in sequence.
+-- The C form of a list of operations: their number, the model's X0, and the first five of them in sequence.
 abbrev pub raw_actions : ℕ → List HostAction → RawActions
 raw_actions expected actions = record {
   count = length actions;

@@ -15,15 +15,16 @@ use Rattle.realm_host.specs.declared.command.HostAnswer.TheVariants.{Replied, Un
 use Rattle.rhm_c.specs.declared.placed_host.PlacedHost.{PlacedHost}
 use Rattle.rhm_c.specs.declared.answer.CallAnswer.{CallAnswer}
 
--- ---- statuses and values
+-- ---- answers: a status and a value
 
+-- an answer with this status and the value 0
 abbrev pub only : ℕ → CallAnswer
 only status = record { status = status; value = 0 }
 
 abbrev pub done : ℕ → CallAnswer
 done value = record { status = 0; value = value }
 
--- the answer on a closed handle: status 14
+-- the answer to a call on a closed handle: status 14
 abbrev pub closed : CallAnswer
 closed = only 14
 
@@ -58,20 +59,20 @@ refusal_value _ = 0
 abbrev pub refused_as : Refusal → CallAnswer
 refused_as refusal = record { status = refusal_status refusal; value = refusal_value refusal }
 
--- the answer of a host
+-- the C form of a host's answer
 abbrev pub answered_as : HostAnswer → CallAnswer
 answered_as (Replied reply) = done (reply_value reply)
 answered_as (WasUndone undone) = done undone.left
 answered_as (Refused refusal) = refused_as refusal
 
--- a number of operations, or a refusal
+-- the C form of a number of operations, or of a refusal
 abbrev pub counted_as : Result ℕ Refusal → CallAnswer
 counted_as (Ok count) = done count
 counted_as (Err refusal) = refused_as refusal
 
 -- ---- calls of a host
 
--- the host gives an answer to the call, and `given` is its form in C
+-- the host answers the call, and `form` turns the answer into `given`
 pub record IsAnsweredAs (form : HostAnswer → CallAnswer) (old : HostView) (build : ℕ) (call : Call) (given : CallAnswer) (new : HostView) : Type 0 where
   pub answer : HostAnswer
   pub is_answer : IsAnswer old build call answer new
@@ -81,15 +82,15 @@ pub record IsAnsweredAs (form : HostAnswer → CallAnswer) (old : HostView) (bui
 abbrev pub IsOnly : HostView → CallAnswer → CallAnswer → HostView → Type 0
 IsOnly old answer given new = (given ≡ answer) × (new ≡ old)
 
--- The host answers the command; if there is none, its status is returned and nothing changes.
+-- The host answers the command; if there is no valid command, a status says why and nothing changes.
 abbrev pub IsCommanded : Result (ℕ × Cmd) ℕ → HostView → CallAnswer → HostView → Type 0
 IsCommanded (Ok asked) old given new = IsAnsweredAs answered_as old asked.0 (Ask asked.1) given new
 IsCommanded (Err status) old given new = IsOnly old (only status) given new
 
 -- ---- calls on a handle
 
--- `Is` holds of an open handle's host before and after a call, and the host stays in its place. A closed handle stays
--- closed.
+-- `Is` relates the host of an open handle before a call to the host after the call, and the host's granules keep their
+-- addresses. A closed handle stays closed.
 abbrev pub IsOnHandle : (Place → HostView → CallAnswer → HostView → Type 0) → Option PlacedHost → CallAnswer → Option PlacedHost → Type 0
 IsOnHandle Is (Some old) given (Some new) = Is old.frame old.host given new.host × (new.frame ≡ old.frame)
 IsOnHandle Is None given None = given ≡ closed

@@ -1,4 +1,4 @@
--- The conversion of commands and build numbers from C to those of a host.
+-- The conversion of a C program's commands and build numbers to those of a host.
 use Rattle.std.specs.Prelude.{ℕ, ◌==◌, ◌&&◌, Bool, nat_le, nat_lt, List, take, Option, Some, None, Result, Ok, Err, option_map, if◌then◌else◌}
 use Rattle.std.specs.List.{list_all}
 use Rattle.arrayvec.specs.ArrayVec.{ArrayVec}
@@ -8,7 +8,7 @@ use Rattle.rhm_c.specs.declared.command.RawCommand.{RawCommand}
 
 -- ---- the operands
 
--- each operand but the auxiliaries is in its range
+-- each operand of the command, except the auxiliary pages, is in its range
 abbrev pub operands_fit : RawCommand → Bool
 operands_fit c =
     nat_le c.order 0xFF && nat_le c.page 0xFFFF && nat_le c.second 0xFFFF && nat_le c.ipa 0xFFFFFFFF && nat_le c.level 0xFF
@@ -18,12 +18,13 @@ operands_fit c =
 abbrev pub is_page_number : ℕ → Bool
 is_page_number page = nat_le page 0xFFFF
 
--- the auxiliary pages of a REC, if each has a number that a page may have
+-- the auxiliary pages of a REC, if each of them is a valid page number
 abbrev pub auxiliaries_in : List ℕ → Option (ArrayVec ℕ)
 auxiliaries_in pages = if list_all is_page_number pages then Some (record { items = pages }) else None
 
 -- ---- the commands
 
+-- the command with the kind and the operands of a C structure, if the kind is from 0 to 5
 abbrev pub command_of_kinds_0_to_5 : RawCommand → Option Cmd
 command_of_kinds_0_to_5 c =
     if c.kind == 0 then Some (Take c.order) else
@@ -47,21 +48,23 @@ command_of_kinds_10_to_13 c =
     (if c.kind == 12 then Some (Exit c.rec) else
     (if c.kind == 13 then Some (Poke c.rec c.ipa c.offset c.value) else None)))
 
--- The command that a C structure encodes. There is none for an unknown kind, or if an operand is out of its range.
+-- The command that a C structure encodes, if it encodes one. There is none for an unknown kind, or if an operand is out
+-- of its range.
 abbrev pub command_in : RawCommand → Option Cmd
 command_in c =
     if operands_fit c then (if nat_le c.kind 5 then command_of_kinds_0_to_5 c else (if nat_le c.kind 9 then command_of_kinds_6_to_9 c else command_of_kinds_10_to_13 c)) else None
 
 -- ---- builds
 
--- the build of this number, if it is below 8, the most builds that a host has
+-- the build with this number, if the number is below 8: a host has at most eight builds
 abbrev pub build_in : ℕ → Option ℕ
 build_in build = if nat_lt build 8 then Some build else None
 
--- the statuses for a build that does not exist, and for a structure that encodes no command
+-- the status for a build that does not exist
 abbrev pub no_such_build : ℕ
 no_such_build = 1
 
+-- the status for a structure that encodes no command
 abbrev pub no_command : ℕ
 no_command = 15
 
@@ -69,6 +72,6 @@ abbrev pub asked_of : ℕ → Option Cmd → Result (ℕ × Cmd) ℕ
 asked_of build (Some cmd) = Ok (build, cmd)
 asked_of build None = Err no_command
 
--- The build and its command; or the status that says why there is none.
+-- The build and the command that a C program asks for, or the status that says why one of them is not valid.
 abbrev pub command_asked : ℕ → RawCommand → Result (ℕ × Cmd) ℕ
 command_asked build raw = elim (build_in build) [ Some number ↦ asked_of number (command_in raw) | None ↦ Err no_such_build ]

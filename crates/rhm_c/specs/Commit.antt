@@ -21,35 +21,36 @@ use Rattle.rhm_c.specs.declared.commit.FirmwareAnswer.{FirmwareAnswer}
 
 -- ---- the answer of the RMM, beside that of the model
 
--- the answer if X0 is not the model's: status 16, and the model's word
+-- the answer if the RMM's X0 is not the model's: status 16, with the model's X0 as the value
 abbrev pub diverged : ℕ → CallAnswer
 diverged word = record { status = 16; value = word }
 
--- X0 says that the call was performed: its status is RMI_SUCCESS. After an entry it may also say that the REC still
--- runs.
+-- X0 says that the call was performed: its status is RMI_SUCCESS. After an entry X0 may also say that the REC still
+-- runs. An operation that is not a call counts as performed.
 abbrev pub is_performed : ℕ → HostAction → Bool
 is_performed x0 (Calls call x1) = x0 % 256 == 0
 is_performed x0 (Enter rec run) = x0 % 256 == 0 || x0 == 2 ^ 64 - 2
 is_performed x0 _ = true
 
--- X1 is the output of the call, if that is known
+-- if the output of the call is known, X1 is that output
 abbrev pub is_output : ℕ → HostAction → Bool
 is_output x1 (Calls call (Some known)) = x1 == known
 is_output x1 _ = true
 
--- The check of calls that the model performs: the RMM has performed them too, with the outputs that are known. If it
--- has not, the status is 16, and for another output it is 17.
+-- The check that the RMM has performed the operations that the model performs, and has returned their known outputs. If
+-- it has not performed them, the status is 16, and for another output it is 17.
 abbrev pub check_performed : FirmwareAnswer → List HostAction → Result (Unit {0}) CallAnswer
 check_performed answer actions =
     if list_all (is_performed answer.x0) actions then (if list_all (is_output answer.x1) actions then Ok tt else Err (only 17)) else Err (diverged 0)
 
--- The answer to a call that is refused: the refusal, or 16 if the model refuses it and X0 is another word.
+-- The answer to a refused call: the refusal, or status 16 if the model refuses the call with a result word other than
+-- X0.
 abbrev pub check_refused : ℕ → Refusal → CallAnswer
 check_refused x0 (Rmi rmi) = if x0 == result_word rmi then refused_as (Rmi rmi) else diverged (result_word rmi)
 check_refused x0 refusal = refused_as refusal
 
--- The check whether a call can be committed, by the host's refusal, the call's preparation and the RMM's answer; or the
--- answer if not.
+-- The check whether a call can be committed, given the RMM's answer, the host's refusal if there is one, and the
+-- prepared operations. If it cannot, the error is the answer to the call.
 abbrev pub committable : FirmwareAnswer → Option Refusal → Result (ArrayVec HostAction) Refusal → Result (Unit {0}) CallAnswer
 committable answer (Some refusal) (Ok actions) = Err (check_refused answer.x0 refusal)
 committable answer None (Ok actions) = check_performed answer actions.items
@@ -57,20 +58,20 @@ committable answer refusal (Err own) = Err (refused_as own)
 
 -- ---- calls that are committed
 
--- if the check passes, the host answers the call; if not, this answer is given and nothing changes
+-- if the check passes, the host answers the call; if not, the error of the check is the answer, and nothing changes
 abbrev pub IsPerformedIf : Result (Unit {0}) CallAnswer → HostView → ℕ → Call → CallAnswer → HostView → Type 0
 IsPerformedIf (Ok done) old build call given new = IsAnsweredAs answered_as old build call given new
 IsPerformedIf (Err answer) old build call given new = IsOnly old answer given new
 
--- A command is performed exactly if neither the host nor its model refuses it, and the RMM has performed it too. If
--- both refuse it with the same word, that is the answer.
+-- A valid command is performed exactly if neither the host nor its model refuses it, and the RMM has performed it too,
+-- with the outputs that are known. If the model and the RMM refuse it with the same word, that refusal is the answer.
 abbrev pub IsCommitted : RawCommand → FirmwareAnswer → Result (ℕ × Cmd) ℕ → Place → HostView → CallAnswer → HostView → Type 0
 IsCommitted raw answer (Ok asked) place old given new =
     IsPerformedIf (committable answer (refusal_of old asked.0 (Ask asked.1)) (actions_asked place old asked.0 (raw.run % 64) asked.1)) old asked.0 (Ask asked.1) given new
 IsCommitted raw answer (Err status) place old given new = IsOnly old (only status) given new
 
 -- An undo is performed exactly if the host does not refuse it, and the RMM has performed it too, with the outputs that
--- are known. The model performs each that is prepared.
+-- are known. The model performs each undo that is prepared.
 abbrev pub IsUndoCommitted : FirmwareAnswer → Option ℕ → Place → HostView → CallAnswer → HostView → Type 0
 IsUndoCommitted answer (Some build) place old given new = IsPerformedIf (committable answer None (actions_back place old build)) old build Undo given new
 IsUndoCommitted answer None place old given new = IsOnly old (only no_such_build) given new

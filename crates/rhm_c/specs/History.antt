@@ -13,7 +13,7 @@ use Rattle.rhm_c.specs.declared.placed_host.PlacedHost.{PlacedHost}
 
 -- ---- operations
 
--- a kind, and no operands
+-- an event of a kind, with 0 in all other fields
 abbrev pub plain_event : ℕ → RawEvent
 plain_event kind = record {
   build = 0;
@@ -38,7 +38,7 @@ abbrev pub realm_event : Place → ℕ → ℕ → Root → ℕ → RawEvent
 realm_event place kind rd root vmid =
     record (on_granule place kind rd) { second = address place root.first; width = root.width; vmid = vmid }
 
--- a REC that is created or removed, with the addresses of its auxiliary granules
+-- the event that creates or destroys a REC, with the addresses of the REC's auxiliary granules
 abbrev pub rec_change : Place → ℕ → ℕ → List ℕ → ℕ → RawEvent
 rec_change place kind granule auxiliaries number =
     record (on_granule place kind granule) { rec = number; count = length auxiliaries; aux = padded (map (address place) auxiliaries) }
@@ -63,7 +63,7 @@ table_event place (Unknown granule ipa) = record (on_granule place 13 granule) {
 table_event place (UnData granule ipa) = record (on_granule place 14 granule) { ipa = ipa }
 table_event place act = page_event place act
 
--- An operation as C has it. An Activate has the kind 8.
+-- The C form of an operation, as an event in which the build is not set yet. An Activate has the kind 8.
 abbrev pub act_event : Place → Act → RawEvent
 act_event place (Rec granule auxiliaries number) = rec_change place 15 granule auxiliaries.items number
 act_event place (UnRec granule auxiliaries number) = rec_change place 16 granule auxiliaries.items number
@@ -74,10 +74,11 @@ act_event place act = table_event place act
 
 -- ---- events
 
+-- the C form of an event
 abbrev pub raw_event : Place → Event → RawEvent
 raw_event place event = record (act_event place event.act) { build = event.build }
 
--- the event at an index of the host's history, if it has one
+-- the C form of the event at an index of the host's history, if there is one
 abbrev pub event_reading : ℕ → Place → HostView → Option RawEvent
 event_reading number place host = option_map (raw_event place) (slice_get host.history number)
 

@@ -16,12 +16,13 @@ use Rattle.history_calls.specs.Prepared.{actions_asked, actions_back}
 use Rattle.rhm_c.specs.declared.action.RawActions.{RawActions}
 use Rattle.rhm_c.specs.declared.command.RawCommand.{RawCommand}
 
--- the model's X0: the value of its refusal, or 0 without one
+-- the model's X0: the value of its refusal, or 0 if it does not refuse
 abbrev pub word_of : Option Refusal → ℕ
 word_of (Some refusal) = refusal_value refusal
 word_of None = 0
 
--- the status, and the operations with the model's X0; if preparing is refused, the old operations stay
+-- the status of a preparation, and its operations with the model's X0; if the preparation is refused, the old
+-- operations stay
 abbrev pub prepared_or_refused : Result (ArrayVec HostAction) Refusal → Option Refusal → RawActions → ℕ × RawActions
 prepared_or_refused (Ok actions) refusal old = (0, raw_actions (word_of refusal) actions.items)
 prepared_or_refused (Err own) refusal old = (refusal_status own, old)
@@ -30,18 +31,19 @@ abbrev pub prepared_of : RawCommand → RawActions → Place → HostView → Re
 prepared_of raw old place host (Ok asked) = prepared_or_refused (actions_asked place host asked.0 (raw.run % 64) asked.1) (refusal_of host asked.0 (Ask asked.1)) old
 prepared_of raw old place host (Err status) = (status, old)
 
--- A command that is prepared. X0 of the model is that of the host that is asked for the command.
+-- The preparation of a command: the status, and the operations for the RMM. The model's X0 follows from the host's
+-- refusal of the command, if there is one.
 abbrev pub prepared : ℕ → RawCommand → RawActions → Place → HostView → ℕ × RawActions
 prepared build raw old place host = prepared_of raw old place host (command_asked build raw)
 
--- An undo that is prepared. The model performs it.
+-- The preparation of an undo: the status, and the operations for the RMM. The model does not refuse the undo.
 abbrev pub prepared_undo : ℕ → RawActions → Place → HostView → ℕ × RawActions
 prepared_undo build old place host = elim (build_in build) [
   | Some number ↦ prepared_or_refused (actions_back place host number) None old
   | None ↦ (no_such_build, old)
 ]
 
--- the status and the operations for an open handle; a closed one has status 14, and the old operations stay
+-- the status and the operations for an open handle; for a closed one the status is 14, and the old operations stay
 abbrev pub on_handle : (RawActions → Place → HostView → ℕ × RawActions) → RawActions → Option PlacedHost → ℕ × RawActions
 on_handle f old (Some placed) = f old placed.frame placed.host
 on_handle f old None = (14, old)

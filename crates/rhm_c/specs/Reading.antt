@@ -21,12 +21,12 @@ use Rattle.rhm_c.specs.declared.reading.PageReading.{PageReading}
 use Rattle.rhm_c.specs.declared.reading.RealmReading.{RealmReading}
 use Rattle.rhm_c.specs.declared.reading.RecReading.{RecReading}
 
--- The new value is the one that was read, or the old one if nothing was; the answer is whether anything was.
+-- The new value is what was read, or the old value if nothing was read; the answer says whether anything was read.
 pub record IsRead {A : Type 0} (read : Option A) (old : A) (answer : Bool) (new : A) : Type 0 where
   pub is_there : answer ≡ is_some read
   pub value : new ≡ unwrap_or read old
 
--- a reading of the host of a handle; a closed one has none
+-- the value that is read from a handle's host, if there is one; none if the handle is closed
 abbrev pub of_handle : {A : Type 0} → (Place → HostView → Option A) → Option PlacedHost → Option A
 of_handle read placed = option_and_then (λ (p : PlacedHost). read p.frame p.host) placed
 
@@ -34,8 +34,9 @@ abbrev pub free_pages : Option PlacedHost → ℕ
 free_pages (Some placed) = length (free_set (world_of placed.host))
 free_pages None = 0
 
--- ---- numbers of states
+-- ---- the numbers that C has for states
 
+-- the number that C uses for a granule state
 abbrev pub state_number : GranuleState → ℕ
 state_number Undelegated = 0
 state_number Delegated = 1
@@ -55,11 +56,11 @@ rec_state_number Running = 1
 
 -- ---- builds
 
--- a fact as a number: 1 if it holds
+-- the number of a flag: 1 if it holds, and 0 if not
 abbrev pub flag : Bool → ℕ
 flag holds = if holds then 1 else 0
 
--- the number of operations that were open at a mark; 0 without one
+-- the number of operations that were open at a mark; 0 without a mark
 abbrev pub mark_length : Option Mark → ℕ
 mark_length (Some mark) = mark.length
 mark_length None = 0
@@ -73,26 +74,28 @@ build_seen host build = record {
   is_aborting = flag (is_aborting host build);
 }
 
--- a build of the host
+-- the state of the build with this number, in C form, if the host has the build
 abbrev pub build_reading : ℕ → HostView → Option BuildReading
 build_reading build host =
     option_and_then (λ number. if nat_lt number host.limits.builds then Some (build_seen host number) else None) (build_in build)
 
 -- ---- pages
 
+-- the C form of the page in a granule: its address and its state
 abbrev pub page_seen : Place → HostView → ℕ → PageReading
 page_seen place host granule = record {
   address = address place granule;
   state = state_number (cell_at (world_of host).machine granule).state;
 }
 
--- a page of a build, by its number there
+-- the address and state of a build's page with this number, if the build has that page
 abbrev pub page_reading : ℕ → ℕ → Place → HostView → Option PageReading
 page_reading build page place host =
     option_and_then (λ number. if nat_le page 0xFFFF then option_map (page_seen place host) (granule_of_page host number page) else None) (build_in build)
 
 -- ---- realms and RECs
 
+-- the C form of the attributes of a realm, given the granule of its RD
 abbrev pub realm_seen : Place → ℕ → RealmRow → RealmReading
 realm_seen place rd realm = record {
   rd = address place rd;
@@ -103,7 +106,7 @@ realm_seen place rd realm = record {
   next_rec = realm.next;
 }
 
--- the realm of a build
+-- the attributes of a build's realm, in C form, if the build has a realm
 abbrev pub realm_reading : ℕ → Place → HostView → Option RealmReading
 realm_reading build place host =
     option_and_then (λ number. option_and_then (λ rd. option_map (realm_seen place rd) (row_of (world_of host) number)) (rd_of number (world_of host))) (build_in build)
@@ -111,7 +114,7 @@ realm_reading build place host =
 abbrev pub rec_seen : Place → ℕ × RecAttributes → RecReading
 rec_seen place rec = record { address = address place rec.0; state = rec_state_number rec.1.state }
 
--- the reading of a REC, by its number in a build's realm
+-- the address and state of the REC with this number in a build's realm, if there is one
 abbrev pub rec_reading : ℕ → ℕ → Place → HostView → Option RecReading
 rec_reading build number place host =
     option_and_then (λ of. if nat_le number 0xFFFF then option_map (rec_seen place) (rec_at (world_of host) of number) else None) (build_in build)

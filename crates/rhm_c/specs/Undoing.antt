@@ -1,4 +1,4 @@
--- The effect of the C calls that undo, abort, mark or roll back a build, which C gives by its number.
+-- The effects of the C calls on a build: undo an operation, begin an abort, abort, mark, or roll back.
 use Rattle.std.specs.Prelude.{◌≡◌, ℕ, Option, Some, None, Result, Ok, Err, unwrap_or}
 use Rattle.host_commands.specs.declared.refusal.Refusal.{Refusal}
 use Rattle.host_commands.specs.declared.refusal.Refusal.TheVariants.{NothingToUndo}
@@ -15,18 +15,18 @@ use Rattle.rhm_c.specs.declared.answer.CallAnswer.{CallAnswer}
 use Rattle.rhm_c.specs.declared.build_call.BuildCall.{BuildCall}
 use Rattle.rhm_c.specs.declared.build_call.BuildCall.TheVariants as calls
 
--- `Is` holds of a build before and after a call; nothing changes if there is no such build
+-- `Is` relates the host before and after a call on the build; if there is no such build, nothing changes
 abbrev pub IsOfBuild : (HostView → ℕ → CallAnswer → HostView → Type 0) → Option ℕ → HostView → CallAnswer → HostView → Type 0
 IsOfBuild Is (Some build) old given new = Is old build given new
 IsOfBuild Is None old given new = IsOnly old (only no_such_build) given new
 
--- the host answers an undo of the build, and `given` is its form in C
+-- the host answers an undo of the build, and `given` is the C form of the answer
 abbrev pub IsUndoneHere : HostView → ℕ → CallAnswer → HostView → Type 0
 IsUndoneHere old build given new = IsAnsweredAs answered_as old build Undo given new
 
 -- ---- aborts
 
--- a call whose result is a number of operations, as C has it
+-- the result of a call is a number of operations or a refusal, and `given` is the C form of the result
 pub record IsCountedAs (Is : HostView → ℕ → Result ℕ Refusal → HostView → Type 0) (old : HostView) (build : ℕ) (given : CallAnswer) (new : HostView) : Type 0 where
   pub result : Result ℕ Refusal
   pub is_result : Is old build result new
@@ -40,7 +40,7 @@ IsAbortedHere old build given new = IsCountedAs IsAbortAnswer old build given ne
 
 -- ---- marks
 
--- a mark, as C has it: the number of operations that the build had open
+-- the C form of a mark or a refusal; the value of a mark is the number of operations that are open at it
 abbrev pub marked_as : Result Mark Refusal → CallAnswer
 marked_as (Ok mark) = done mark.length
 marked_as (Err refusal) = refused_as refusal
@@ -50,11 +50,12 @@ pub record IsMarkedHere (old : HostView) (build : ℕ) (given : CallAnswer) (new
   pub is_result : IsMarked old build result new
   pub given_is : given ≡ marked_as result
 
--- The refusal of a rollback without a mark: `NothingToUndo`, unless there is no such build, or it is in abort.
+-- The refusal that a rollback gets if the build has no mark. It is `NothingToUndo`, unless there is no such build, or
+-- the build is in abort.
 abbrev pub refusal_without_mark : HostView → ℕ → Refusal
 refusal_without_mark host build = unwrap_or (first_that_holds (build_checks (summary_of host) build)) NothingToUndo
 
--- the host answers a rollback to the mark that is kept; without a mark there is a refusal, and nothing changes
+-- the host answers a rollback to a build's mark; without a mark the rollback is refused, and nothing changes
 abbrev pub IsBackTo : Option Mark → HostView → ℕ → CallAnswer → HostView → Type 0
 IsBackTo (Some mark) old build given new = IsCountedAs (λ host of result after. IsBackAnswer host of mark result after) old build given new
 IsBackTo None old build given new = IsOnly old (refused_as (refusal_without_mark old build)) given new
@@ -62,8 +63,9 @@ IsBackTo None old build given new = IsOnly old (refused_as (refusal_without_mark
 abbrev pub IsBackHere : HostView → ℕ → CallAnswer → HostView → Type 0
 IsBackHere old build given new = IsBackTo (mark_of old build) old build given new
 
--- ---- all of these
+-- ---- all calls on a build
 
+-- the call on the build gives this answer, and leads from one host to the other
 abbrev pub IsCalledHere : BuildCall → HostView → ℕ → CallAnswer → HostView → Type 0
 IsCalledHere calls.Undo = IsUndoneHere
 IsCalledHere calls.BeginAbort = IsBegunHere

@@ -93,7 +93,7 @@ fn address_at(auxiliaries: &[u64], place: usize) -> u64
     }
 }
 
-/// Returns the addresses of auxiliary granules, padded with zeros to 16.
+/// Returns the first 16 addresses of auxiliary granules, padded with zeros if there are fewer.
 pub(crate) fn padded(auxiliaries: &[u64]) -> [u64; 16]
     ensures { result ≡ shown.padded auxiliaries.now }
 {

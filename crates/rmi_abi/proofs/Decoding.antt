@@ -1,4 +1,5 @@
--- Proofs that registers decoded as a call equal the call's encoding, in X0 and in the registers of its operands.
+-- A proof that registers from which a call is decoded equal the call's encoding, in X0 and in the registers of its
+-- operands.
 use Rattle.std.proofs.Common.{◌≡◌, ℕ, ◌==◌, Bool, true, false, cond, Option, Some, None, refl, ap, ◌∙◌, subst, nat_le}
 use Rattle.std.proofs.lemmas.Bool.{eqb-true}
 use Rattle.rmi_abi.specs.declared.call.Call.{Call}

@@ -8,7 +8,7 @@ use Rattle.rmi_abi.specs.declared.registers.Registers.{Registers}
 
 -- ---- from registers
 
--- the call that registers hold, if its function identifier is one up to that of REC_ENTER
+-- the call that registers hold, or None if its function is unknown or has an identifier above that of REC_ENTER
 abbrev pub first_call_in : Registers → Option Call
 first_call_in r =
     if r.x0 == 0xC4000150 then Some (Version r.x1) else
@@ -24,7 +24,7 @@ first_call_in r =
     (if r.x0 == 0xC400015B then Some (RecDestroy r.x1) else
     (if r.x0 == 0xC400015C then Some (RecEnter r.x1 r.x2) else None)))))))))))
 
--- the call that registers hold, if its function identifier is one from that of RTT_CREATE on
+-- the call that registers hold, or None if its function is unknown or has an identifier below that of RTT_CREATE
 abbrev pub last_call_in : Registers → Option Call
 last_call_in r =
     if r.x0 == 0xC400015D then Some (RttCreate r.x1 r.x2 r.x3 r.x4) else
@@ -45,10 +45,11 @@ call_in r = if nat_le r.x0 0xC400015C then first_call_in r else last_call_in r
 
 -- ---- to registers
 
+-- the registers with a function identifier in X0, values in X1 to X4, and zeros after them
 abbrev pub registers : ℕ → ℕ → ℕ → ℕ → ℕ → Registers
 registers function x1 x2 x3 x4 = record { x0 = function; x1 = x1; x2 = x2; x3 = x3; x4 = x4; x5 = 0; x6 = 0 }
 
--- The registers of a call: its function, its operands and zeros.
+-- The registers of a call: its function identifier, its operands, and zeros after them.
 abbrev pub registers_of : Call → Registers
 registers_of (Version requested) = registers 0xC4000150 requested 0 0 0
 registers_of (GranuleDelegate address) = registers 0xC4000151 address 0 0 0
@@ -76,7 +77,7 @@ registers_of (RttSetRipas rd rec base top) = registers 0xC4000169 rd rec base to
 
 -- ---- operands
 
--- the number of operands of a call, in X1 and the registers after it
+-- the number of a call's operands, which are in X1 and the registers after it
 abbrev pub operand_count : Call → ℕ
 operand_count (Version requested) = 1
 operand_count (GranuleDelegate address) = 1
@@ -102,11 +103,11 @@ operand_count (RecAuxCount rd) = 1
 operand_count (RttInitRipas rd base top) = 3
 operand_count (RttSetRipas rd rec base top) = 4
 
--- the value of register k if that is one of the `count` operands, else 0
+-- the value x of register k if the register holds one of the first `count` operands, and 0 otherwise
 abbrev pub operand : ℕ → ℕ → ℕ → ℕ
 operand count k x = if nat_le k count then x else 0
 
--- The registers with their function and first `count` operands, and zeros after those.
+-- The registers with their function identifier and first `count` operands, and zeros after those.
 abbrev pub with_operands : ℕ → Registers → Registers
 with_operands count r = record {
   x0 = r.x0;

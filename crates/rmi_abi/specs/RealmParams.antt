@@ -4,11 +4,11 @@ use Rattle.std.specs.Prelude.{ℕ, ◌%◌, ◌^◌, List}
 use Rattle.page_arena.specs.Word.{word_of_page}
 use Rattle.rmi_abi.specs.declared.realm_params.RealmParams.{RealmParams}
 
--- the byte at the start of word i
+-- the byte at the start of word i of a page
 abbrev pub byte_of_page : List ℕ → ℕ → ℕ
 byte_of_page page i = word_of_page page i % 2 ^ 8
 
--- The parameters that a page has.
+-- The parameters of a realm, as a page holds them.
 unfoldable pub realm_params_in : List ℕ → RealmParams
 realm_params_in page = record {
   flags = word_of_page page 0;

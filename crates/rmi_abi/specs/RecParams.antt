@@ -3,7 +3,7 @@
 use Rattle.std.specs.Prelude.{ℕ, ◌+◌, ◌%◌, ◌==◌, Bool, List}
 use Rattle.page_arena.specs.Word.{word_of_page}
 
--- bit 0 of the flags: RUNNABLE
+-- bit 0 of RmiRecCreateFlags, RUNNABLE, is set
 abbrev pub is_runnable_in : List ℕ → Bool
 is_runnable_in page = word_of_page page 0 % 2 == 1
 
@@ -13,14 +13,14 @@ mpidr_in page = word_of_page page 32
 abbrev pub pc_in : List ℕ → ℕ
 pc_in page = word_of_page page 64
 
--- general-purpose register k, of 0 to 7
+-- the value for general-purpose register k, k from 0 to 7
 abbrev pub gpr_in : List ℕ → ℕ → ℕ
 gpr_in page k = word_of_page page (96 + k)
 
--- the number of auxiliary granules
+-- the number of auxiliary granules, in the field num_aux
 abbrev pub num_aux_in : List ℕ → ℕ
 num_aux_in page = word_of_page page 256
 
--- the address of auxiliary granule k, of 0 to 15
+-- the address of auxiliary granule k, k from 0 to 15
 abbrev pub aux_in : List ℕ → ℕ → ℕ
 aux_in page k = word_of_page page (257 + k)

@@ -8,32 +8,37 @@ use Rattle.rmi_abi.specs.declared.rec_run.RecExit.{RecExit}
 
 -- ---- RmiRecEnter
 
+-- the flags of RMI_REC_ENTER in a run page
 abbrev pub flags_in : List ℕ → ℕ
 flags_in page = word_of_page page 0
 
--- general-purpose register k, of 0 to 30
+-- the host's value for general-purpose register k, k from 0 to 30
 abbrev pub entry_gpr_in : List ℕ → ℕ → ℕ
 entry_gpr_in page k = word_of_page page (64 + k)
 
--- RmiRecEnterFlags: EMUL_MMIO, INJECT_SEA, TRAP_WFI, TRAP_WFE and RIPAS_RESPONSE, from bit 0 on
+-- bit 0 of RmiRecEnterFlags, EMUL_MMIO, is set
 abbrev pub emulates_mmio : ℕ → Bool
 emulates_mmio flags = flags % 2 == 1
 
+-- bit 1 of RmiRecEnterFlags, INJECT_SEA, is set
 abbrev pub injects_sea : ℕ → Bool
 injects_sea flags = flags / 2 % 2 == 1
 
+-- bit 2 of RmiRecEnterFlags, TRAP_WFI, is set
 abbrev pub traps_wfi : ℕ → Bool
 traps_wfi flags = flags / 4 % 2 == 1
 
+-- bit 3 of RmiRecEnterFlags, TRAP_WFE, is set
 abbrev pub traps_wfe : ℕ → Bool
 traps_wfe flags = flags / 8 % 2 == 1
 
+-- bit 4 of RmiRecEnterFlags, RIPAS_RESPONSE, is set: the host rejects a RIPAS change
 abbrev pub rejects_ripas : ℕ → Bool
 rejects_ripas flags = flags / 16 % 2 == 1
 
 -- ---- RmiRecExit
 
--- RmiRecExitReason
+-- the number that encodes an exit reason, as in RmiRecExitReason
 abbrev pub reason_code : ExitReason → ℕ
 reason_code Sync = 0
 reason_code Irq = 1
@@ -41,7 +46,7 @@ reason_code Psci = 3
 reason_code RipasChange = 4
 reason_code HostCall = 5
 
--- Word k, from 256 to 511, of a run page: the exit's field there, or else 0.
+-- Word k of a run page, k from 256 to 511: the field of the exit in this word, or 0 if there is none.
 abbrev pub exit_word : RecExit → ℕ → ℕ
 exit_word e k =
     if k == 256 then reason_code e.reason else
@@ -57,6 +62,6 @@ exit_word e k =
     (if k == 418 then e.ripas else
     (if k == 448 then e.imm else 0)))))))))))
 
--- the exit of a reason, with no other field
+-- an exit with the given reason, and with 0 in all other fields
 abbrev pub only_reason : ExitReason → RecExit
 only_reason reason = record { reason = reason; esr = 0; far = 0; hpfar = 0; gpr0 = 0; gpr1 = 0; gpr2 = 0; gpr3 = 0; ripas_base = 0; ripas_top = 0; ripas = 0; imm = 0 }

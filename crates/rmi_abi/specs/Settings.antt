@@ -4,29 +4,29 @@ use Rattle.rmi_abi.specs.declared.settings.Layout.{Layout}
 use Rattle.rmi_abi.specs.declared.settings.Layout.TheVariants.{Rel0, Eac5}
 use Rattle.rmi_abi.specs.declared.settings.RmmSettings.{RmmSettings}
 
--- both addresses are those of granules below 2^47
+-- both base addresses are multiples of 4,096 below 2^47
 abbrev pub has_addresses : RmmSettings → Bool
 has_addresses s = nat_lt s.base (2 ^ 47) && s.base % 4096 == 0 && nat_lt s.secure_base (2 ^ 47) && s.secure_base % 4096 == 0
 
--- the sizes are ones that an RMM can have
+-- the sizes are in their ranges: auxiliary granules, VMID bits, IPA width, MAX_RECS_ORDER, and block level
 abbrev pub has_sizes : RmmSettings → Bool
 has_sizes s =
     nat_le s.aux 16 && (s.vmid_bits == 8 || s.vmid_bits == 16) && nat_le 32 s.s2sz && nat_le s.s2sz 48 && nat_le s.max_recs_order 15
     && (s.block_level == 1 || s.block_level == 2)
 
--- the greatest number of breakpoints that a layout has a field for
+-- the greatest value that each of the fields NUM_BPS and NUM_WPS can hold in a layout
 abbrev pub most_breakpoints : Layout → ℕ
 most_breakpoints Rel0 = 63
 most_breakpoints Eac5 = 15
 
--- the fields fit feature register 0 in its layout
+-- the values of NUM_BPS, NUM_WPS and GICV3_NUM_LRS fit their fields of feature register 0
 abbrev pub has_fields : RmmSettings → Bool
 has_fields s = nat_le s.bps (most_breakpoints s.layout) && nat_le s.wps (most_breakpoints s.layout) && nat_le s.lrs 15
 
 abbrev pub is_platform : RmmSettings → Bool
 is_platform s = has_addresses s && has_sizes s && has_fields s
 
--- The ranges of a platform's settings.
+-- The bounds that hold for the settings of every platform.
 pub record IsPlatform (s : RmmSettings) : Type 0 where
   pub base : s.base < 2 ^ 47
   pub base_aligned : s.base % 4096 ≡ 0

@@ -13,7 +13,7 @@ number ErrorRec = 3
 number (ErrorRtt index) = 4 + 256 * index
 number Running = 2 ^ 64 - 2
 
--- the word of a status and an index
+-- the result word with the given status and index, or None if the standard has no such word
 abbrev pub word_at : ℕ → ℕ → Option Word
 word_at status index =
     if status == 2 then Some (ErrorRealm index) else
@@ -22,7 +22,7 @@ word_at status index =
     (if status == 1 && index == 0 then Some ErrorInput else
     (if status == 3 && index == 0 then Some ErrorRec else None))))
 
--- the standard's result word that a value of X0 encodes, if there is one; none for the value of Running
+-- the result word that a value of X0 encodes, or None if the standard defines none; it does not define Running
 abbrev pub word_of : ℕ → Option Word
 word_of x0 = if nat_lt x0 0x10000 then word_at (x0 % 256) (x0 / 256) else None
 

@@ -215,7 +215,7 @@ fn decode_last(r: Registers) -> Option<Call>
     }
 }
 
-/// Decodes an RMI call from the registers X0 to X6. Returns `None` if X0 is the function identifier of no command.
+/// Decodes an RMI call from the registers X0 to X6. Returns `None` if X0 is not the function identifier of a command.
 pub fn decode_call(r: Registers) -> Option<Call>
     ensures { result ≡ calls.call_in r }
 {

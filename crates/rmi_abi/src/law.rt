@@ -1,4 +1,4 @@
-//! Theorems on the encoding of RMI calls, and on an RMM's default settings.
+//! Theorems about the encoding of RMI calls, and about an RMM's default settings.
 ghost use Rattle.std.specs.Prelude.{◌≡◌, Some, true};
 ghost use Rattle.rmi_abi.specs.declared.call.Call.{Call};
 ghost use Rattle.rmi_abi.specs.declared.registers.Registers.{Registers};

@@ -4,7 +4,7 @@ ghost use Rattle.rmi_abi.specs.Settings as ranges;
 
 use std::marker::Model;
 
-/// The layout of feature register 0: that of RMM 1.0-rel0, or that of the drafts up to 1.0-eac5.
+/// The layout of feature register 0: as in RMM 1.0-rel0, or as in the drafts up to 1.0-eac5.
 #[derive(Clone, Copy)]
 pub enum Layout {
     Rel0,
@@ -28,9 +28,11 @@ pub struct RmmSettings {
     pub max_recs_order: u8,
     /// The smallest RTT level number at which an entry can be a block.
     pub block_level: u8,
-    /// The value of NUM_BPS in feature register 0. The next two fields are the values of NUM_WPS and GICV3_NUM_LRS.
+    /// The value of NUM_BPS in feature register 0.
     pub bps: u8,
+    /// The value of NUM_WPS in feature register 0.
     pub wps: u8,
+    /// The value of GICV3_NUM_LRS in feature register 0.
     pub lrs: u8,
     pub layout: Layout,
     /// Whether RTT_INIT_RIPAS stops at an UNASSIGNED entry whose RIPAS is DESTROYED.
@@ -41,8 +43,8 @@ pub struct RmmSettings {
     pub ignores_data_flags: bool,
     /// Whether DATA_CREATE requires that the RIPAS is RAM.
     pub data_needs_ram: bool,
-    /// Whether the output `top` for an address inside a live entry is that entry's start. If not, `top` is the address
-    /// itself.
+    /// Whether the output `top` of a command, for an IPA whose own entry is live, is where that entry begins. If not,
+    /// `top` is the IPA itself.
     pub aligns_live_top: bool,
     /// Whether a PSCI exit shows the host only the function and the target of the PSCI call.
     pub shows_target_alone: bool,
@@ -81,7 +83,7 @@ impl RmmSettings {
         checks_gic: false,
     };
 
-    // Whether both base addresses are those of granules below 2^47.
+    // Whether both base addresses are multiples of 4,096 below 2^47.
     fn has_addresses(&self) -> bool
         ensures { result ≡ ranges.has_addresses self.now }
     {
@@ -91,7 +93,7 @@ impl RmmSettings {
             && self.secure_base % 4096 == 0
     }
 
-    // Whether the sizes are ones that an RMM can have.
+    // Whether the sizes are in their ranges: auxiliary granules, VMID bits, IPA width, MAX_RECS_ORDER, and block level.
     fn has_sizes(&self) -> bool
         ensures { result ≡ ranges.has_sizes self.now }
     {
@@ -103,7 +105,7 @@ impl RmmSettings {
             && (self.block_level == 1 || self.block_level == 2)
     }
 
-    // Whether the fields fit feature register 0 in its layout.
+    // Whether the values of NUM_BPS, NUM_WPS and GICV3_NUM_LRS fit their fields of feature register 0.
     fn has_fields(&self) -> bool
         ensures { result ≡ ranges.has_fields self.now }
     {

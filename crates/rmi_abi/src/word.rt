@@ -32,8 +32,8 @@ impl Word {
         }
     }
 
-    /// Decodes an RMI result word from a value of X0. Returns `None` if the value encodes no word of the standard, and
-    /// so for the value of `Running`.
+    /// Decodes an RMI result word from a value of X0. Returns `None` if the value encodes no word of the standard, as
+    /// with the value of `Running`.
     pub fn from_number(number: u64) -> Option<Word>
         ensures { result ≡ words.word_of number }
     {

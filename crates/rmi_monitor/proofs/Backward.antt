@@ -1,5 +1,5 @@
--- The proof that the RMM accepts the reverse of a build's newest open operation, unless that operation
--- created a REC that runs.
+-- The proof that the RMM accepts the command that undoes a build's newest open operation, unless that operation created
+-- a REC that is running.
 use Rattle.std.proofs.Common.{◌≡◌, ℕ, true, List, Some, ◌∙◌, subst}
 use Rattle.std.specs.Prelude.{slice_get}
 use Rattle.std.specs.List.{All}

@@ -1,4 +1,5 @@
--- Proofs that taking a block, or giving one back, keeps the invariant of an RMM's fields and has the specified effect.
+-- Proofs that taking a block, or giving one back, preserves the invariant of an RMM's fields and has the specified
+-- effect.
 use Rattle.std.proofs.Common.{◌≡◌, ◌≢◌, ℕ, ◌+◌, ◌^◌, ◌<◌, ◌≤◌, ⊎_elim, Bool, true, false, List, [], length, Option, Some, None, refl, sym, ap, ◌∙◌, subst, arith}
 use Rattle.std.specs.Prelude.{IsTrue, ◌↔◌, IfSome, IfNone}
 use Rattle.std.specs.Bool.{OnTrue, OnFalse}

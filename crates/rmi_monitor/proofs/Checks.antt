@@ -1,4 +1,5 @@
--- Proofs that the test for a state, UNDELEGATED or DELEGATED, holds if and only if a granule has that state.
+-- Proofs that only an UNDELEGATED granule passes the test for UNDELEGATED, and only a DELEGATED one the test for
+-- DELEGATED.
 use Rattle.std.proofs.Common.{◌≡◌, Bool, true, false, refl}
 use Rattle.realm_model.specs.declared.states.GranuleState.{GranuleState}
 use Rattle.realm_model.specs.declared.states.GranuleState.TheVariants.{Undelegated, Delegated}

@@ -1,4 +1,4 @@
--- Lemmas on tests: Boolean combinations, numbers that pass a test, and options.
+-- Lemmas about Boolean tests and their combinations, and about options that hold a number if a test passes.
 use Rattle.std.proofs.Common.{◌≡◌, ℕ, Bool, true, false, cond, Option, Some, None, refl, sym, ◌∙◌, option_map}
 use Rattle.std.specs.Prelude.{◌&&◌, ◌||◌}
 use Rattle.std.proofs.lemmas.Option.{same_Some}

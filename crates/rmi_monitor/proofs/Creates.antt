@@ -1,4 +1,5 @@
--- The proof that the checks of RMI_REALM_CREATE on the fields of an RMM lead to the outcome of the model's command.
+-- Proofs that the checks and the calls in the code of RMI_REALM_CREATE lead to the outcome and the effect of the
+-- model's command.
 use Rattle.std.proofs.Common.{◌≡◌, ℕ, ◌<◌, ◌≤◌, Bool, true, false, List, [], ◌∷◌, length, map, set, cond, Option, Some, None, Ok, Err, refl, sym, ap, ◌∙◌, subst, ⊎_elim}
 use Rattle.std.specs.Prelude.{◌==◌, ◌%◌, ◌&&◌, ◌↔◌, IsTrue, not, nat_le}
 use Rattle.std.specs.Bool.{OnTrue}

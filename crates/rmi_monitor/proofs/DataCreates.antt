@@ -1,5 +1,5 @@
--- The proof that RMI_DATA_CREATE, on the fields of an RMM, turns a DELEGATED granule into a page with another granule's
--- bytes.
+-- Proofs that RMI_DATA_CREATE, on the fields of an RMM, is refused as the model says, or turns a DELEGATED granule into
+-- a realm's page with another granule's bytes.
 use Rattle.std.proofs.Common.{◌≡◌, ◌≢◌, ℕ, ◌<◌, ◌&&◌, Bool, true, false, List, [], ◌∷◌, length, set, get_or, Option, option_map, Some, None, Ok, Err, refl, sym, ap, ◌∙◌, subst, arith}
 use Rattle.std.proofs.lemmas.Bool.{and_from, and_left, and_right, and_parts}
 use Rattle.std.proofs.lemmas.List.{get_or-set_other}

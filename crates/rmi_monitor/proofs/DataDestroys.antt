@@ -1,4 +1,5 @@
--- The proof that RMI_DATA_DESTROY, on the fields of an RMM, removes a page of data from its realm.
+-- Proofs that RMI_DATA_DESTROY, on the fields of an RMM, is refused as the model says, or removes a page of data from
+-- its realm.
 use Rattle.std.proofs.Common.{◌≡◌, ℕ, Bool, List, [], ◌∷◌, Some, None, Ok, Err, refl, sym, ap, ◌∙◌, subst, lit≤}
 use Rattle.std.proofs.lemmas.Option.{same_Some}
 use Rattle.rtt.specs.Granules.{IsIn}

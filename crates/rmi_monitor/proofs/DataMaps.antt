@@ -1,4 +1,4 @@
--- Proofs that mapping a page of data moves one granule to the realm, also if the page is written afterwards.
+-- Proofs that mapping a page of data moves one granule to the realm, whether or not the page is written afterwards.
 use Rattle.std.proofs.Common.{◌≡◌, ℕ, ◌<◌, Bool, List, [], length, set, Option, Some, refl, sym, ap, ◌∙◌, subst}
 use Rattle.std.proofs.lemmas.List.{length-set, get_or-set_same, get_or-set_other}
 use Rattle.granule_addr.specs.declared.width.Root.{Root}

@@ -1,5 +1,5 @@
--- The proof that RMI_DATA_CREATE_UNKNOWN, on the fields of an RMM, turns a DELEGATED granule into a realm's page of
--- zeros.
+-- Proofs that RMI_DATA_CREATE_UNKNOWN, on the fields of an RMM, is refused as the model says, or turns a DELEGATED
+-- granule into a realm's page of zeros.
 use Rattle.std.proofs.Common.{◌≡◌, ℕ, ◌&&◌, Bool, true, false, List, [], ◌∷◌, None, Ok, Err, sym, ◌∙◌}
 use Rattle.std.proofs.lemmas.Bool.{and_from, and_left, and_right}
 use Rattle.rtt.specs.Granules.{granule_at}

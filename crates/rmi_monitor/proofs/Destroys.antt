@@ -1,4 +1,5 @@
--- The proof that the checks of RMI_REALM_DESTROY on the fields of an RMM lead to the outcome of the model's command.
+-- Proofs that the checks and the calls in the code of RMI_REALM_DESTROY lead to the outcome and the effect of the
+-- model's command.
 use Rattle.std.proofs.Common.{◌≡◌, ℕ, ◌<◌, ◌≤◌, Bool, true, false, List, ◌∷◌, length, map, set, get_or, Some, None, Ok, Err, refl, sym, ap, ◌∙◌, subst, arith}
 use Rattle.std.specs.Prelude.{◌==◌, ◌&&◌, not}
 use Rattle.std.specs.FinMap.{len}

@@ -1,5 +1,5 @@
 -- Proofs that an RMM's invariant still holds after a command that changes at most one realm, and leaves the other
--- realms with their tables and RECs alone.
+-- realms, their tables and their RECs unchanged.
 use Rattle.std.proofs.Common.{◌≡◌, ◌≢◌, ℕ, ◌<◌, ◌≤◌, Bool, true, false, cond, List, length, get_or, Some, None, option_map, refl, sym, ap, ◌∙◌, subst, arith}
 use Rattle.std.specs.Prelude.{is_some, nat_eq, ◌==◌}
 use Rattle.std.specs.Option.{option_eq}

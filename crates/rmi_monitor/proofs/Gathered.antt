@@ -1,5 +1,5 @@
--- Lemmas on the finite map of the entries at a range of indexes: look-ups, and the map after one of the entries
--- changes.
+-- Lemmas about the finite map of the entries at the indexes below a bound: its size, lookups in it, and the map after
+-- one entry changes.
 use Rattle.std.proofs.Common.{◌≡◌, ◌≢◌, ℕ, zero, suc, ◌+◌, ◌-◌, ◌<◌, ◌≤◌, Bool, true, false, cond, Option, Some, None, refl, sym, ap, ◌∙◌, subst, ⊎_elim, arith}
 use Rattle.std.specs.Prelude.{is_some}
 use Rattle.std.specs.Cmp.{nat_cmp_total, unsigned_tied}

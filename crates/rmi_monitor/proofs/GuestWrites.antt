@@ -1,4 +1,4 @@
--- Proofs on a guest's write: the cases in which it is refused, and its effect on the fields of an RMM.
+-- Proofs about a guest's write: the cases in which it is refused, and its effect on the fields of an RMM.
 use Rattle.std.proofs.Common.{◌≡◌, ℕ, Bool, true, false, List, [], ◌∷◌, Ok, Err, Some, None, refl, sym, ap, ◌∙◌, subst}
 use Rattle.std.specs.Prelude.{not}
 use Rattle.granule_addr.specs.Ipa.{is_protected_at}

@@ -1,5 +1,5 @@
--- Proofs that a change of a granule that is UNDELEGATED or DELEGATED before and after keeps the invariant and changes
--- one cell.
+-- Proofs about a change of a granule that is UNDELEGATED or DELEGATED before and after it: the RMM's invariant is kept,
+-- and no other granule's cell changes.
 use Rattle.std.proofs.Common.{◌≡◌, ◌≢◌, ℕ, ◌<◌, Bool, true, false, List, [], length, set, None, refl, sym, ap, ◌∙◌, subst, arith}
 use Rattle.std.specs.Prelude.{◌==◌}
 use Rattle.std.proofs.lemmas.Bool.{eqb-true, eqb-false, ne_eqb}

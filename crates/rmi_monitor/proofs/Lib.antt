@@ -1,4 +1,4 @@
--- Proofs on the simulated RMM, by topic. The first topic: lemmas on lists and tests.
+-- Proofs about the simulated RMM, by topic. The first topic: lemmas about lists and tests.
 pub mod Comparisons
 pub mod Protected
 pub mod Listed

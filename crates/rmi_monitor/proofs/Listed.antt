@@ -1,4 +1,4 @@
--- Lemmas on lists: properties of each element, distinct elements, and an element that is read and written back.
+-- Lemmas about lists: properties of each element, distinct elements, and an element that is read and written back.
 use Rattle.std.proofs.Common.{◌≡◌, ℕ, zero, suc, ◌<◌, true, not, List, [], ◌∷◌, length, set, get_or, All, Option, Some, None, refl, sym, ap, ◌∙◌, subst, arith}
 use Rattle.std.specs.Prelude.{slice_get}
 use Rattle.std.proofs.lemmas.Bool.{and_parts, and_from}

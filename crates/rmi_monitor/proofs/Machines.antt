@@ -1,5 +1,5 @@
--- Lemmas on the machine that the fields of an RMM represent: each granule's cell, and the machine after some granules
--- change.
+-- Lemmas about the machine that the fields of an RMM represent: each granule's cell, and the machine after some
+-- granules change.
 use Rattle.std.proofs.Common.{◌≡◌, ℕ, ◌<◌, true, false, List, length, set, Option, Some, None, option_map, refl, sym, ap, ◌∙◌, subst, arith}
 use Rattle.std.specs.Prelude.{◌==◌}
 use Rattle.std.proofs.lemmas.Bool.{eqb-true, eqb-false}

@@ -1,4 +1,4 @@
--- Proofs that an operation on a REC has the model's outcome, both if the REC exists and if it does not.
+-- Proofs that an operation on a REC has the model's outcome, whether or not the REC exists.
 use Rattle.std.proofs.Common.{◌≡◌, ℕ, true, Option, Some, None, Err, refl, sym, subst}
 use Rattle.std.specs.Prelude.{Result, is_some, option_map, option_and_then}
 use Rattle.std.specs.FinMap.{get}

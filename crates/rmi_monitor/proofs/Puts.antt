@@ -1,4 +1,5 @@
--- Lemmas on a machine after several granules are written, one after another: the written cells, and those that stay.
+-- Lemmas about a machine after several granules are written, one after another: the written cells, and the cells that
+-- stay unchanged.
 use Rattle.std.proofs.Common.{◌≡◌, ◌≢◌, ℕ, ◌<◌, true, false, ◌||◌, List, [], ◌∷◌, ◌++◌, length, map, set, get_or, refl, sym, ap, ◌∙◌, subst}
 use Rattle.std.specs.Prelude.{◌==◌}
 use Rattle.std.proofs.lemmas.Bool.{eqb-true, eqb-false, ne_eqb}

@@ -1,4 +1,5 @@
--- The proof that an operation that meets the requirements on its command can be performed.
+-- The proof that an operation that meets both requirements on a build's command (`IsAsked`, `HasFewEvents`) can be
+-- performed.
 use Rattle.std.proofs.Common.{◌≡◌, ℕ, ◌<◌, Bool, List, [], ◌∷◌, length, Option, Some, None, refl, sym, ap, ◌∙◌, subst, arith}
 use Rattle.std.specs.Prelude.{option_map, slice_get}
 use Rattle.std.specs.List.{All}

@@ -1,4 +1,5 @@
--- Proofs that a command on a realm changes the RMM as the model says, derived from the call on the realm's tables.
+-- Proofs that a command on a realm changes the RMM as the model says, if the command's call on the realm's tables meets
+-- its postcondition.
 use Rattle.std.proofs.Common.{◌≡◌, ℕ, ◌<◌, Bool, true, List, [], ◌∷◌, length, set, Option, Some, None, Result, Ok, Err, refl, sym, ap, ◌∙◌, subst, get_or}
 use Rattle.std.specs.Result.{IsErrAnd}
 use Rattle.rtt.specs.Granules.{granule_at, IsIn}

@@ -1,4 +1,5 @@
--- Proofs that the map of a realm's RECs, collected from the granules, has the REC with a given number, if there is one.
+-- Proofs that the map of a realm's RECs, collected from the granules, has an entry for a number if and only if a REC of
+-- the realm has that number.
 use Rattle.std.proofs.Common.{◌≡◌, ℕ, ◌<◌, true, List, length, get_or, Option, Some, None, refl, sym, ap, ◌∙◌}
 use Rattle.std.specs.FinMap.{get, empty}
 use Rattle.std.proofs.lemmas.Option.{none-some}

@@ -1,4 +1,5 @@
--- The proof that a change of a REC that keeps its number and its auxiliaries changes only the REC's row in the machine.
+-- The proof that a change of a REC that keeps the REC's number and auxiliaries changes only the REC's row in the
+-- machine.
 use Rattle.std.proofs.Common.{◌≡◌, ◌≢◌, ℕ, ◌<◌, false, List, [], ◌∷◌, length, set, get_or, Ok, Option, Some, None, option_map, refl, sym, ap, ◌∙◌, subst, ⊎_elim}
 use Rattle.std.specs.Prelude.{is_some, slice_get, if◌then◌else◌}
 use Rattle.std.specs.FinMap.{insert, len}

@@ -1,4 +1,4 @@
--- Lemmas on the entry of one granule among a realm's RECs, and the proof that a realm's RECs have distinct numbers.
+-- Lemmas about the entry of one granule among a realm's RECs, and the proof that a realm's RECs have distinct numbers.
 use Rattle.std.proofs.Common.{◌≡◌, ◌≢◌, ℕ, true, false, List, get_or, Option, Some, None, option_map, refl, sym, ap, ◌∙◌, Bool, cond}
 use Rattle.std.specs.Prelude.{nat_eq}
 use Rattle.std.specs.Option.{option_eq}

@@ -1,4 +1,4 @@
--- Proofs on the state after the removal of a REC: the other RECs keep their invariant, and the machine is as the
+-- Proofs about the state after the removal of a REC: the other RECs keep their invariant, and the machine is as the
 -- command says.
 use Rattle.std.proofs.Common.{◌≡◌, ◌≢◌, ℕ, ◌-◌, ◌<◌, true, false, List, [], ◌∷◌, ◌++◌, length, map, Some, None, refl, sym, ap, ◌∙◌, subst}
 use Rattle.std.specs.Prelude.{◌==◌, slice_get}

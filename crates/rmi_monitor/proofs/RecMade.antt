@@ -1,5 +1,5 @@
--- Proofs on the granules that the creation of a REC moves: they are zero and satisfy the invariant, if the command's
--- checks pass.
+-- Proofs that the granules of a new REC are zero and satisfy the invariant, if the checks of the command that creates
+-- the REC pass.
 use Rattle.std.proofs.Common.{◌≡◌, ℕ, ◌+◌, ◌<◌, true, false, List, ◌∷◌, length, set, Some, None, refl, sym, ap, ◌∙◌, subst, arith}
 use Rattle.std.specs.Prelude.{◌==◌, is_some, slice_get}
 use Rattle.std.proofs.lemmas.Bool.{eqb-true}

@@ -1,4 +1,5 @@
--- Lemmas on the granules that move when a REC is created or destroyed: all other RECs and the realm's tables stay.
+-- Lemmas about the granules that change state when a REC is created or destroyed: all other RECs and all tables stay
+-- the same.
 use Rattle.std.proofs.Common.{◌≡◌, ◌≢◌, ℕ, ◌<◌, Bool, true, false, cond, List, ◌∷◌, length, set, get_or, Option, Some, None, option_map, refl, sym, ap, ◌∙◌, subst}
 use Rattle.std.specs.Prelude.{◌==◌, nat_eq}
 use Rattle.std.specs.Option.{option_eq}

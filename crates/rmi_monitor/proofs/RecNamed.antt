@@ -1,4 +1,4 @@
--- The proof that the search of the machine for the REC in a granule finds a REC if and only if there is one.
+-- The proof that a search of the machine for the REC in a granule finds that REC if and only if the granule holds one.
 use Rattle.std.proofs.Common.{◌≡◌, ℕ, ◌+◌, zero, suc, ◌<◌, ◌≤◌, Bool, true, false, cond, List, [], ◌∷◌, length, Option, Some, None, option_map, refl, sym, ap, ◌∙◌, arith, ◌⊎◌, inl, inr, ⊎_elim}
 use Rattle.std.specs.Prelude.{◌==◌, ◌||◌, is_some, option_and_then}
 use Rattle.std.specs.List.{find, list_any, range_with_len}

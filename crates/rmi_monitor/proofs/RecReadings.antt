@@ -1,4 +1,4 @@
--- Proofs that queries of a REC by its granule, which read the fields of an RMM, return what the machine has.
+-- The proof that the fields of an RMM agree with its machine on the attributes of the REC in a granule.
 use Rattle.std.proofs.Common.{◌≡◌, ℕ, Option, Some, None, option_map, refl, sym, ap, ◌∙◌}
 use Rattle.std.specs.Prelude.{option_and_then}
 use Rattle.std.specs.FinMap.{get}

@@ -1,4 +1,5 @@
--- Proofs on the values that code reads at a granule's index: the REC in the granule, and the REC's realm, which exists.
+-- Proofs about the values that code reads at a granule's index: the REC in the granule, the REC's realm, which exists,
+-- and the number of a realm's RECs.
 use Rattle.std.proofs.Common.{◌≡◌, ℕ, ◌+◌, ◌<◌, ◌≤◌, true, length, get_or, Option, Some, None, refl, sym, ap, ◌∙◌, subst, arith}
 use Rattle.std.specs.Prelude.{is_some}
 use Rattle.std.proofs.lemmas.Option.{same_Some}

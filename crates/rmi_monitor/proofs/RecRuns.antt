@@ -1,4 +1,4 @@
--- Proofs on the commands that enter and stop a REC: the cases of refusal, and the effects on the fields of an RMM.
+-- Proofs about the commands that enter and stop a REC: the cases of refusal, and the effects on the fields of an RMM.
 use Rattle.std.proofs.Common.{◌≡◌, ℕ, ◌<◌, Bool, true, false, List, [], ◌∷◌, length, set, get_or, Ok, Err, Option, Some, None, refl, sym, ap, ◌∙◌}
 use Rattle.std.specs.Prelude.{not}
 use Rattle.realm_model.specs.declared.rmi.Rmi.{Rmi}

@@ -1,4 +1,5 @@
--- The proof that an operation that destroys a REC names the granule of that REC.
+-- The proof that an operation that destroys a REC names the granule of that REC, if the operation meets the
+-- requirements on a build's command.
 use Rattle.std.proofs.Common.{◌≡◌, ℕ, Bool, true, false, ◌&&◌, ◌==◌, Option, Some, None, refl, ap}
 use Rattle.std.specs.Prelude.{option_map, option_and_then}
 use Rattle.std.specs.FinMap.{get}

@@ -1,4 +1,5 @@
--- Proofs that a command goes on if and only if it finds a row at the required level that passes its test.
+-- Proofs that a command goes on if and only if its walk ends at the required level, in a row that passes the command's
+-- test.
 use Rattle.std.proofs.Common.{◌≡◌, ℕ, Bool, true, false, List, Option, Some, None, Ok, Err, refl, ◌∙◌}
 use Rattle.std.specs.Prelude.{◌==◌}
 use Rattle.std.proofs.lemmas.Bool.{eqb-true, eq-eqb}

@@ -1,4 +1,5 @@
--- Proofs that a test holds for all starting tables of a realm if and only if it holds for the one with each index.
+-- Proofs that a test holds for all starting tables of a realm if and only if it holds for the starting table at each
+-- index.
 use Rattle.std.proofs.Common.{◌≡◌, ℕ, zero, suc, ◌+◌, ◌<◌, Bool, true, false, Some, refl, sym, ap, ◌∙◌, subst, arith}
 use Rattle.std.specs.List.{list_all, range_with_len}
 use Rattle.std.proofs.lemmas.Bool.{and_from}

@@ -1,4 +1,4 @@
--- Proofs that the sum of a granule's bytes is that of its page, or 0 for a table.
+-- Proofs that the sum of a granule's bytes is the sum of its page's bytes, or 0 for a table.
 use Rattle.std.proofs.Common.{◌≡◌, ℕ, zero, suc, List, replicate, refl, sym, ap, ◌∙◌}
 use Rattle.std.specs.Prelude.{sum}
 use Rattle.rtt.specs.Granules.{granule_at}

@@ -1,4 +1,5 @@
--- Lemmas on loops that change each granule of a list in turn: the granules that remain at each step.
+-- Lemmas about loops that change the granules of a list one after another, and about the granules that remain to be
+-- changed.
 use Rattle.std.proofs.Common.{◌≡◌, ◌≢◌, ℕ, suc, ◌+◌, ◌<◌, ◌≤◌, Bool, true, false, List, [], ◌∷◌, length, set, get_or, drop, Some, All, IsTrue, sym, ap, ◌∙◌, subst, add-one, arith}
 use Rattle.std.proofs.Math.Seq.{drop-cons}
 use Rattle.std.proofs.lemmas.Bool.{and_parts}

@@ -1,4 +1,5 @@
--- The proof that RMI_RTT_CREATE, on the fields of an RMM, turns a DELEGATED granule into a table of a realm.
+-- Proofs that RMI_RTT_CREATE, on the fields of an RMM, is refused as the model says, or turns a DELEGATED granule into
+-- a table of a realm.
 use Rattle.std.proofs.Common.{◌≡◌, ℕ, ◌-◌, Bool, true, false, List, [], ◌∷◌, Some, Ok, Err, refl, sym, ap, ◌∙◌, subst}
 use Rattle.std.specs.Prelude.{◌&&◌, not}
 use Rattle.std.proofs.lemmas.Bool.{and_from, and_left, and_right}

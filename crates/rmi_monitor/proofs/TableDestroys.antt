@@ -1,4 +1,4 @@
--- The proof that RMI_RTT_DESTROY, on the fields of an RMM, removes a table of a realm.
+-- Proofs that RMI_RTT_DESTROY, on the fields of an RMM, is refused as the model says, or removes a table of a realm.
 use Rattle.std.proofs.Common.{◌≡◌, ℕ, ◌-◌, Bool, true, false, List, [], ◌∷◌, Some, None, Ok, Err, refl, sym, ◌∙◌, subst, arith}
 use Rattle.std.specs.Prelude.{◌&&◌}
 use Rattle.std.proofs.lemmas.Bool.{and_from, and_left, and_right}

@@ -1,4 +1,5 @@
--- Proofs that the invariant of an RMM's fields holds after a call on a realm's tables that moves at most one granule.
+-- Proofs that the invariant of an RMM's fields holds after a call on a realm's tables that changes the state of at most
+-- one granule.
 use Rattle.std.proofs.Common.{◌≡◌, ◌≢◌, ℕ, ◌<◌, ◌≤◌, Bool, true, false, List, length, set, Option, Some, None, refl, sym, ap, ◌∙◌, subst}
 use Rattle.std.specs.Prelude.{◌==◌, is_some}
 use Rattle.std.proofs.lemmas.Bool.{eqb-true, eqb-false, ne_eqb}

@@ -1,4 +1,5 @@
--- The proof that RMI_RTT_INIT_RIPAS, on the fields of an RMM, sets the RIPAS of pages of a NEW realm to RAM.
+-- Proofs that RMI_RTT_INIT_RIPAS, on the fields of an RMM, is refused as the model says, or sets the RIPAS of a NEW
+-- realm's IPA granules to RAM.
 use Rattle.std.proofs.Common.{◌≡◌, ℕ, Bool, true, false, List, [], ◌∷◌, set, get_or, cond, Option, option_map, Some, None, Ok, Err, refl, sym, ap, ◌∙◌, subst, arith}
 use Rattle.std.specs.Prelude.{◌&&◌}
 use Rattle.std.proofs.lemmas.Bool.{and_from, and_parts}

@@ -1,4 +1,4 @@
--- Proofs that an RTT walk for an IPA granule, on the fields of an RMM, ends as a walk of the machine does.
+-- Proofs that the RTT walk of an IPA granule has the same end in the fields of an RMM as in its machine.
 use Rattle.std.proofs.Common.{◌≡◌, ℕ, ◌<◌, ◌≤◌, ◌&&◌, true, cond, length, Some, None, option_map, refl, sym, ap, ◌∙◌, subst}
 use Rattle.std.specs.Prelude.{option_and_then}
 use Rattle.std.proofs.lemmas.Bool.{and_from, and_parts, le-leb, ltb-true}

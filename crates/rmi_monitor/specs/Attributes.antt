@@ -9,7 +9,8 @@ use Rattle.realm_model.specs.declared.states.RecState.{RecState}
 use Rattle.realm_model.specs.Rows.{Rows}
 use Rattle.realm_model.specs.Machine.{RealmRow, RecRow}
 
--- A realm's own attributes: state, VMID, starting tables and IPA width, the number of its next REC, measurement.
+-- A realm's own attributes: its state, VMID, starting tables and IPA width, the number of its next REC, and its
+-- measurement.
 pub record RealmAttributes : Type 0 where
   pub state : RealmState
   pub vmid : ℕ
@@ -17,13 +18,13 @@ pub record RealmAttributes : Type 0 where
   pub next : ℕ
   pub measurement : List ℕ
 
--- A REC's own attributes: its number in the realm, state, and auxiliary granules.
+-- A REC's own attributes: its number in the realm, its state, and its auxiliary granules.
 pub record RecAttributes : Type 0 where
   pub number : ℕ
   pub state : RecState
   pub auxiliaries : List ℕ
 
--- the row of a realm that has these RECs and this translation
+-- the row of a realm with the given attributes, RECs and translation
 abbrev pub realm_row : RealmAttributes → FinMap nat_cmp RecRow → Rows → RealmRow
 realm_row realm recs rows = record {
   state = realm.state;
@@ -35,6 +36,6 @@ realm_row realm recs rows = record {
   rows = rows;
 }
 
--- the row of a REC in that granule
+-- the row of a REC with the given granule and attributes
 abbrev pub rec_row : ℕ → RecAttributes → RecRow
 rec_row granule rec = record { granule = granule; auxiliaries = rec.auxiliaries; state = rec.state }

@@ -1,4 +1,5 @@
--- The encoding of the view that contracts have of an RMM.
+-- An injective encoding of an RMM's view: the numbers of VMIDs and of auxiliary granules, the machine, and which
+-- granules are free.
 use Rattle.std.specs.Prelude.{ℕ, Bool, List, refl}
 use Rattle.std.specs.Coded.{Coded, code_by, coded×, coded_ℕ, coded_bool, coded_list}
 use Rattle.realm_model.specs.Machine.{Machine}

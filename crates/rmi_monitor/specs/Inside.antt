@@ -20,8 +20,9 @@ use Rattle.rmi_monitor.specs.Gathered.{gathered, IsOnce}
 use Rattle.rmi_monitor.specs.Places.{is_realm_with}
 use Rattle.granule_addr.specs.Vmids.{is_used}
 
--- The VMIDs in use. For each granule: its state and realm, the bytes of its page, whether it is free, and the realm or
--- the REC that it is. And for each realm the number of its RECs.
+-- The fields of an RMM: two settings, the VMIDs in use, and lists with one element for each granule. The lists have its
+-- state and realm, the bytes of its page, and whether it is free. They also have the realm or the REC that it is, and
+-- the number of that realm's RECs.
 pub record Fields : Type 0 where
   pub vmids : ℕ
   pub aux : ℕ
@@ -46,49 +47,50 @@ fields_of vmids aux used granules pages free realms rec_counts recs = record {
   recs = recs;
 }
 
--- the attributes of the realm whose RD is the granule
+-- the attributes of the realm whose RD is the granule, if there is one
 abbrev pub realm_at : Fields → ℕ → Option RealmAttributes
 realm_at fields rd = slice_index_or fields.realms rd None
 
--- the number of RECs of that realm, as the RMM keeps it
+-- the number of RECs of the realm whose RD is the granule, as the RMM keeps it
 abbrev pub rec_count_at : Fields → ℕ → ℕ
 rec_count_at fields rd = slice_index_or fields.rec_counts rd 0
 
--- the REC that a granule is
+-- the attributes of the REC that the granule holds, if it holds one
 abbrev pub rec_at : Fields → ℕ → Option RecAttributes
 rec_at fields granule = slice_index_or fields.recs granule None
 
--- ---- the machine
+-- ---- the machine that the fields represent
 
+-- the granule belongs to the realm whose RD is `rd`
 abbrev pub is_of_realm : List Granule → ℕ → ℕ → Bool
 is_of_realm granules rd granule = option_eq nat_eq (granule_at granules granule).realm (Some rd)
 
--- the number and the row of the REC that the granule holds, if the granule belongs to the realm
+-- the number and the row of the REC that the granule holds, if it holds a REC of the realm
 abbrev pub rec_of : List Granule → List (Option RecAttributes) → ℕ → ℕ → Option (ℕ × RecRow)
 rec_of granules recs rd granule =
     if is_of_realm granules rd granule then option_map (λ rec. (rec.number, rec_row granule rec)) (slice_index_or recs granule None) else None
 
--- a realm's RECs by number
+-- the map from the numbers of a realm's RECs to their rows
 unfoldable pub recs_of : List Granule → List (Option RecAttributes) → ℕ → FinMap nat_cmp RecRow
 recs_of granules recs rd = gathered (rec_of granules recs rd) (length granules)
 
--- no two granules hold RECs of the realm with one number
+-- no two granules hold RECs of the realm with the same number
 abbrev pub IsNumbered : List Granule → List (Option RecAttributes) → ℕ → Type 0
 IsNumbered granules recs rd = IsOnce (rec_of granules recs rd) (length granules)
 
--- the granule holds the realm's REC of that number
+-- the granule holds the realm's REC with the given number
 pub record IsRecAt (granules : List Granule) (recs : List (Option RecAttributes)) (rd number granule : ℕ) : Type 0 where
   pub inside : granule < length granules
   pub row : RecRow
   pub at : rec_of granules recs rd granule ≡ Some (number, row)
   pub found : get (recs_of granules recs rd) number ≡ Some row
 
--- the row of the realm whose RD is the granule, with its RECs and its translation
+-- the row of the realm whose RD is the granule, if there is one, with the realm's RECs and translation
 abbrev pub descriptor_of : Fields → ℕ → Option RealmRow
 descriptor_of fields rd =
     option_map (λ realm. realm_row realm (recs_of fields.granules fields.recs rd) (rows fields.pages realm.root)) (realm_at fields rd)
 
--- the bytes of a granule: those of its page, or zeros for a table, whose contents are rows
+-- the bytes of a granule: its page's bytes, or zeros for a table, whose contents are rows
 abbrev pub bytes_of : GranuleState → List ℕ → List ℕ
 bytes_of InRtt page = zero_page
 bytes_of _ page = page
@@ -104,25 +106,27 @@ cell_of fields granule = record {
 unfoldable pub machine_of : Fields → Machine
 machine_of fields = map (cell_of fields) (range_with_len 0 (length fields.granules))
 
--- the view of an RMM with these fields
+-- the view of an RMM that has the given fields
 abbrev pub seen_as : Fields → MonitorView
 seen_as fields = record { vmids = fields.vmids; aux = fields.aux; machine = machine_of fields; free = fields.free }
 
 -- ---- the invariant
 
+-- the state is REC
 abbrev pub is_rec_state : GranuleState → Bool
 is_rec_state InRec = true
 is_rec_state _ = false
 
--- An UNDELEGATED or DELEGATED granule belongs to no realm, and a DELEGATED one is zero. A granule has a realm exactly
--- when it is in RD, and a REC exactly when it is in REC.
+-- What the fields of an RMM have for a granule agrees with the granule's state. If the granule is UNDELEGATED or
+-- DELEGATED, it belongs to no realm, and if it is DELEGATED, it is zero. There is a realm at it exactly when it is in
+-- RD, and a REC exactly when it is in REC.
 pub record IsSoundAt (fields : Fields) (granule : ℕ) : Type 0 where
   pub host : is_host_state (granule_at fields.granules granule).state ≡ true → (granule_at fields.granules granule).realm ≡ None
   pub zero : (granule_at fields.granules granule).state ≡ Delegated → page_at fields.pages granule ≡ zero_page
   pub rd : is_some (realm_at fields granule) ≡ is_rd_state (granule_at fields.granules granule).state
   pub rec : is_some (rec_at fields granule) ≡ is_rec_state (granule_at fields.granules granule).state
 
--- the REC's granule belongs to an existing realm, and the REC's number is below the realm's next
+-- the REC's granule belongs to an existing realm, and the REC's number is below the number of that realm's next REC
 pub record IsRecOf (fields : Fields) (granule : ℕ) (rec : RecAttributes) : Type 0 where
   pub rd : ℕ
   pub of : (granule_at fields.granules granule).realm ≡ Some rd

@@ -12,7 +12,8 @@ pub record IsLocated (realm : RealmAttributes) (rd ipa : ℕ) (at : Tables × �
   pub same : at.1 ≡ ipa
   pub protected : is_protected_at ipa realm.root.width ≡ true
 
--- the same, for the realm whose RD is granule `rd` of the machine
+-- `at` has the tables of the realm whose RD is granule `rd` of the machine, and the IPA granule, which is protected in
+-- that realm
 pub record Locates (machine : Machine) (rd ipa : ℕ) (at : Tables × ℕ) : Type 0 where
   pub row : RealmRow
   pub there : (cell_at machine rd).descriptor ≡ Some row
@@ -20,11 +21,11 @@ pub record Locates (machine : Machine) (rd ipa : ℕ) (at : Tables × ℕ) : Typ
   pub same : at.1 ≡ ipa
   pub protected : is_protected row ipa ≡ true
 
--- the same, and the realm is NEW
+-- `at` is as in `Locates`, and the realm is NEW
 pub record LocatesNew (machine : Machine) (rd ipa : ℕ) (at : Tables × ℕ) : Type 0 where
   pub place : Locates machine rd ipa at
   pub is_fresh : is_new place.row.state ≡ true
 
--- granule `rd` is no realm's RD, or the IPA granule is not protected in that realm
+-- granule `rd` is not an RD, or the IPA granule is not protected in its realm
 abbrev pub IsNowhere : Machine → ℕ → ℕ → Type 0
 IsNowhere machine rd ipa = (row : RealmRow) → (cell_at machine rd).descriptor ≡ Some row → is_protected row ipa ≡ false

@@ -20,8 +20,8 @@ use Rattle.realm_model.specs.declared.act.RealmAndRec.{RealmAndRec}
 use Rattle.rmi_monitor.specs.Performing.{outcome_on, IsReady}
 use Rattle.realm_model.specs.Places.{IsPlaceOf, rec_granule}
 
--- The history is legal and leads to the world. The RMM has the world's machine, and the numbers of VMIDs and auxiliary
--- granules of the limits. A granule is free exactly when nobody leases it.
+-- The history is legal and leads to the world, and the RMM agrees with that world. The RMM has the world's machine, and
+-- the numbers of VMIDs and auxiliary granules of the limits. A granule is free exactly when nobody leases it.
 pub record IsMirror (limits : Limits) (history : List Event) (world : World) (monitor : MonitorView) : Type 0 where
   pub legal : IsLegal limits history
   pub world_is : replay limits history ≡ Some world
@@ -30,7 +30,7 @@ pub record IsMirror (limits : Limits) (history : List Event) (world : World) (mo
   pub machine : monitor.machine ≡ world.machine
   pub free : monitor.free ≡ map is_none world.leases
 
--- An RMM that has just been built mirrors the empty history.
+-- An RMM that has just been built agrees with the world of the empty history.
 abbrev pub FreshIsMirror : Limits → Type 0
 FreshIsMirror limits = IsMirror limits [] (opening limits) (fresh limits.vmids limits.aux limits.pages)
 
@@ -50,13 +50,14 @@ abbrev pub HasFewEvents : List Event → ℕ → Act → Type 0
 HasFewEvents history build (Rec granule auxiliaries number) = length (acts_of build history) < 65535
 HasFewEvents history build _ = Unit {0}
 
--- An operation that meets these requirements can be performed on an RMM that mirrors the history.
+-- An operation that meets both requirements (`IsAsked`, `HasFewEvents`) can be performed on an RMM that agrees with the
+-- world.
 abbrev pub AskedIsReady : Limits → List Event → World → MonitorView → ℕ → Act → RealmAndRec → Type 0
 AskedIsReady limits history world monitor build act place =
     IsMirror limits history world monitor → IsPlaceOf world build act place → IsAsked limits world build act → HasFewEvents history build act
     → IsReady monitor place act
 
--- If an operation that destroys a REC meets the requirements, it names that REC's granule.
+-- If an operation that destroys a REC meets the requirements on a build's command, it names that REC's granule.
 abbrev pub UnRecNamesItsRec : Limits → World → ℕ → Act → Type 0
 UnRecNamesItsRec limits world build (UnRec granule auxiliaries number) =
     IsAsked limits world build (UnRec granule auxiliaries number) → rec_granule (realm_of build world) number ≡ Some granule
@@ -64,20 +65,22 @@ UnRecNamesItsRec limits world build _ = Unit {0}
 
 -- ---- the effect
 
--- An operation that is done is a step: the history with its event is legal, and leads to the world that the RMM has
--- then. The leases are changed as the operation says.
+-- A performed operation is a step: the history with the operation's event is legal and leads to a world, and the RMM
+-- then agrees with that world. The leases are changed as the operation says.
 pub record IsPerformed (limits : Limits) (history : List Event) (world : World) (build : ℕ) (act : Act) (new : MonitorView) : Type 0 where
   pub next : World
   pub stepped : step limits world (by build act) ≡ Some next
   pub leases : next.leases ≡ leases_after build act world.leases
   pub mirror : IsMirror limits (history ++ by build act ∷ []) next new
 
--- The operation is done, as a step; or it is refused with its outcome in the world, and nothing changes.
+-- Either the operation is performed and is a step, or it is refused with the error of its outcome in the world, and
+-- nothing changes.
 abbrev pub IsStepOrRefusal : Limits → List Event → World → MonitorView → ℕ → Act → Result (Unit {0}) Rmi → MonitorView → Type 0
 IsStepOrRefusal limits history world old build act (Ok done) new = IsPerformed limits history world build act new
 IsStepOrRefusal limits history world old build act (Err rmi) new = (outcome_in limits world (by build act) ≡ Err rmi) × (new ≡ old)
 
--- for an operation asked for in turn, each possible result of `perform` is a step or a refusal
+-- if the operation meets the requirements `IsAsked` and `IsInTurn`, each possible result of `perform` is a step or a
+-- refusal
 abbrev pub PerformedIsStep : Limits → List Event → World → MonitorView → ℕ → Act → RealmAndRec → Type 0
 PerformedIsStep limits history world monitor build act place =
     IsMirror limits history world monitor → IsPlaceOf world build act place → IsAsked limits world build act → IsInTurn history (by build act)
@@ -87,7 +90,7 @@ PerformedIsStep limits history world monitor build act place =
 
 -- ---- back
 
--- The reverse of the newest open operation is asked for and in turn, and the RMM does not refuse it.
+-- The reverse of the newest open operation meets the requirements on a build's command, and the RMM accepts it.
 pub record IsAccepted (limits : Limits) (history : List Event) (world : World) (monitor : MonitorView) (build : ℕ) (back : Act) (place : RealmAndRec) : Type 0 where
   pub asked : IsAsked limits world build back
   pub turn : IsInTurn history (by build back)
@@ -95,7 +98,7 @@ pub record IsAccepted (limits : Limits) (history : List Event) (world : World) (
   pub accepted : outcome_on monitor place.realm back ≡ Ok updates
 
 -- The newest operation that the build has open can be undone by a command of the RMM. Its reverse is a command, and the
--- operation created no REC that runs.
+-- operation did not create a REC that is running.
 pub record CanBeUndone (history : List Event) (world : World) (build : ℕ) (act back : Act) : Type 0 where
   pub newest : last_or None (open_entries build history) ≡ Some act
   pub reverse : reverse_of act ≡ Some back

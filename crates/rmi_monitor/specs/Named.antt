@@ -6,7 +6,7 @@ use Rattle.realm_model.specs.Machine.{RecRow, Machine, cell_at}
 use Rattle.rmi_monitor.specs.Attributes.{RecAttributes}
 use Rattle.rmi_monitor.specs.View.{rec_in}
 
--- the granule holds the REC with that number in the realm whose RD is `rd`
+-- the granule holds the REC with the given number in the realm whose RD is `rd`
 unfoldable pub is_rec_at : Machine → ℕ → ℕ → ℕ → Bool
 is_rec_at machine granule rd number = elim (rec_in machine rd number) [ Some rec ↦ rec.granule == granule | None ↦ false ]
 
@@ -18,17 +18,17 @@ numbers_in machine rd = elim (cell_at machine rd).descriptor [ Some realm ↦ ke
 unfoldable pub number_in : Machine → ℕ → ℕ → Option ℕ
 number_in machine granule rd = find (is_rec_at machine granule rd) (numbers_in machine rd)
 
--- for the REC that the granule holds, the RD of its realm and its number
+-- the REC that the granule holds, as its realm's RD and its number; none if the granule holds no REC
 unfoldable pub rec_named : Machine → ℕ → Option (ℕ × ℕ)
 rec_named machine granule =
     option_and_then (λ rd. option_map (λ number. (rd, number)) (number_in machine granule rd))
     (find (λ rd. is_some (number_in machine granule rd)) (range_with_len 0 (length machine)))
 
--- a REC's own attributes
+-- a REC's own attributes, from its number and its row
 abbrev pub rec_attributes_of : ℕ → RecRow → RecAttributes
 rec_attributes_of number row = record { number = number; state = row.state; auxiliaries = row.auxiliaries }
 
--- the attributes of the REC that the granule holds
+-- the attributes of the REC that the granule holds, if it holds one
 abbrev pub rec_attributes_at : Machine → ℕ → Option RecAttributes
 rec_attributes_at machine granule =
     option_and_then (λ named. option_map (rec_attributes_of named.1) (rec_in machine named.0 named.1)) (rec_named machine granule)

@@ -15,7 +15,7 @@ use Rattle.realm_model.specs.declared.act.RealmAndRec.{RealmAndRec}
 
 -- ---- operations
 
--- the operation is a command on the realm of its build
+-- the operation is a command on its build's realm, but neither creates nor destroys the realm
 abbrev pub is_in_realm : Act → Bool
 is_in_realm Activate = true
 is_in_realm (Rtt granule ipa level) = true
@@ -33,23 +33,23 @@ is_in_realm _ = false
 
 -- ---- the outcome of an operation
 
--- a realm's RD as a command sees it, if there is one
+-- a realm's RD as a command sees it, if there is a realm
 abbrev pub realm_on : MonitorView → Option ℕ → Option Seen
 realm_on monitor rd = option_map (seen_in monitor) rd
 
--- The outcome on the RMM of an operation by a build whose realm has that RD.
+-- The outcome of a build's operation on the RMM, given the RD of the build's realm, if the build has one.
 abbrev pub outcome_on : MonitorView → Option ℕ → Act → Outcome
 outcome_on monitor rd act =
     outcome_of monitor.vmids monitor.aux (used_vmids monitor.machine) act (realm_on monitor rd) (map (seen_in monitor) (named act))
 
--- The answer and the new RMM follow from the command's outcome.
+-- The answer and the new RMM are as the command's outcome says.
 pub record IsDone (old : MonitorView) (outcome : Outcome) (result : Result (Unit {0}) Rmi) (new : MonitorView) : Type 0 where
   pub answer : Answers result outcome
   pub machine : new ≡ after_command outcome old
 
 -- ---- the conditions
 
--- the granule is taken, if there is one
+-- the granule is taken, if one is given
 abbrev pub IsTakenAt : MonitorView → Option ℕ → Type 0
 IsTakenAt monitor None = Unit {0}
 IsTakenAt monitor (Some granule) = IsTaken monitor granule
@@ -59,23 +59,24 @@ abbrev pub HasNextNumber : MonitorView → Option ℕ → Type 0
 HasNextNumber monitor None = Unit {0}
 HasNextNumber monitor (Some rd) = (realm : RealmRow) → (cell_at monitor.machine rd).descriptor ≡ Some realm → realm.next < 65535
 
--- an operation that creates a REC has a number for it
+-- if the operation creates a REC, the realm has a number for it
 abbrev pub IsNumberReady : MonitorView → Option ℕ → Act → Type 0
 IsNumberReady monitor realm (Rec granule auxiliaries number) = HasNextNumber monitor realm
 IsNumberReady monitor realm _ = Unit {0}
 
--- `rec` is the taken granule of the realm's REC with that number, or None if there is no such REC
+-- `rec` is the taken granule of the realm's REC with the given number, or None if there is no such REC
 pub record IsRecReady (monitor : MonitorView) (realm : Option ℕ) (number : ℕ) (rec : Option ℕ) : Type 0 where
   pub is : rec ≡ rec_granule (realm_on monitor realm) number
   pub taken : IsTakenAt monitor rec
 
--- the REC that an operation names, if it names one, is ready
+-- if the operation names a REC by its number, `rec` is the granule of that REC, or None if there is no such REC
 abbrev pub IsRecReadyAt : MonitorView → Option ℕ → Option ℕ → Option ℕ → Type 0
 IsRecReadyAt monitor realm None rec = Unit {0}
 IsRecReadyAt monitor realm (Some number) rec = IsRecReady monitor realm number rec
 
--- The operation can be performed: it is a command, and the granules that it names and its build's realm are taken.
--- There is a number for the REC that it creates, and the REC that it names is ready.
+-- The operation can be performed: it is a command, and the granules that it names and the RD of its build's realm are
+-- taken. There is a number for the REC that it creates, and `place` has the granule of the REC that it names, if there
+-- is such a REC.
 pub record IsReady (monitor : MonitorView) (place : RealmAndRec) (act : Act) : Type 0 where
   pub command : is_command act ≡ true
   pub granules : All (IsTaken monitor) (named act)

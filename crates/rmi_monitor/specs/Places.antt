@@ -1,4 +1,4 @@
--- The tests that commands make of the granules, realms and RECs of an RMM.
+-- The tests that commands make of an RMM's granules, realms and RECs, and two changes of a realm's attributes.
 use Rattle.std.specs.Prelude.{◌≡◌, ℕ, ◌+◌, ◌%◌, ◌==◌, ◌<◌, List, ◌∷◌, length, Bool, true, false, not, ◌&&◌, nat_le, Option, Some, None}
 use Rattle.std.specs.List.{list_all}
 use Rattle.granule_addr.specs.Root.{start_count, starting_tables}
@@ -16,7 +16,8 @@ use Rattle.rmi_monitor.specs.Attributes.{RealmAttributes}
 abbrev pub measured_by : List ℕ → RealmAttributes → RealmAttributes
 measured_by event realm = record realm { measurement = measurement_after realm.measurement event }
 
--- a realm's attributes with one more REC, by whose number the measurement is extended
+-- a realm's attributes after the creation of a REC: the next number rises by one, and the measurement is extended by
+-- the REC
 abbrev pub with_rec_more : RealmAttributes → RealmAttributes
 with_rec_more realm = record realm { next = realm.next + 1; measurement = measurement_after realm.measurement (rec_event realm.next) }
 
@@ -38,7 +39,7 @@ are_fit_for_realm granules rd root vmid vmids =
     root.first % start_count root.width == 0 && is_delegated_at granules rd
     && list_all (is_fit_to_start granules rd) (starting_tables root) && nat_le 1 vmid && nat_le vmid vmids
 
--- a realm with the VMID
+-- there is a realm, and it has the given VMID
 abbrev pub is_realm_with : ℕ → Option RealmAttributes → Bool
 is_realm_with vmid place = elim place [ Some realm ↦ realm.vmid == vmid | None ↦ false ]
 
@@ -47,12 +48,12 @@ abbrev pub are_fit_for_rec : List Granule → ℕ → List ℕ → ℕ → Bool
 are_fit_for_rec granules first others count =
     list_all (is_delegated_at granules) (first ∷ others) && are_distinct (first ∷ others) && length others == count
 
--- a granule of the machine is in a state
+-- the granule is inside the machine, and in the given state
 pub record IsInState (granules : List Granule) (state : GranuleState) (granule : ℕ) : Type 0 where
   pub inside : granule < length granules
   pub is : (granule_at granules granule).state ≡ state
 
--- a granule has a page, and it is taken
+-- the granule has a page, and is taken
 pub record HasPage (pages : List (List ℕ)) (flags : List Bool) (granule : ℕ) : Type 0 where
   pub inside : granule < length pages
   pub taken : is_free flags granule ≡ false

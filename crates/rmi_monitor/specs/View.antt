@@ -14,7 +14,8 @@ use Rattle.realm_model.specs.Command.Realm.{realm_create}
 use Rattle.realm_model.specs.Step.{used_vmids}
 use Rattle.rmi_monitor.specs.Attributes.{RealmAttributes}
 
--- An RMM's numbers of VMIDs and of auxiliary granules per REC, its machine, and for each granule whether it is free.
+-- The view of an RMM: its numbers of VMIDs and of auxiliary granules per REC, its machine, and for each granule whether
+-- it is free.
 pub record MonitorView : Type 0 where
   pub vmids : ℕ
   pub aux : ℕ
@@ -31,29 +32,29 @@ pub record AreAllTaken (monitor : MonitorView) (count : ℕ) : Type 0 where
   pub size : length monitor.machine ≡ count
   pub each : (granule : ℕ) → granule < count → IsTaken monitor granule
 
--- a granule as a command sees it
+-- what a command sees of a granule: its number, and its cell in the machine
 abbrev pub seen_in : MonitorView → ℕ → Seen
 seen_in monitor granule = seen monitor.machine granule
 
--- The answer is the outcome of the command: done, or the first check that fails.
+-- The answer is as the command's outcome says: success, or the error of the first check that fails.
 abbrev pub Answers : {A : Type 0} → Result A Rmi → Outcome → Type 0
 Answers (Ok value) (Ok updates) = Unit {0}
 Answers (Ok value) (Err rmi) = ⊥
 Answers (Err refusal) (Ok updates) = ⊥
 Answers (Err refusal) (Err rmi) = refusal ≡ rmi
 
--- the RMM after a command
+-- the RMM after a command with the given outcome
 abbrev pub after_command : Outcome → MonitorView → MonitorView
 after_command outcome monitor = record monitor { machine = machine_after_command outcome monitor.machine }
 
 -- ---- realms
 
--- the outcome of creating a realm, given the RMM's granules and the VMIDs in use
+-- the outcome of RMI_REALM_CREATE on an RMM, for the given RD, starting tables and VMID
 abbrev pub make_realm : MonitorView → ℕ → Root → ℕ → Outcome
 make_realm monitor rd root vmid =
     realm_create monitor.vmids (used_vmids monitor.machine) (seen_in monitor rd) (map (seen_in monitor) (starting_tables root)) root vmid
 
--- a realm's own attributes
+-- a realm's own attributes, from its row
 abbrev pub attributes_of : RealmRow → RealmAttributes
 attributes_of realm = record {
   state = realm.state;
@@ -63,7 +64,7 @@ attributes_of realm = record {
   measurement = realm.measurement;
 }
 
--- the granule holds the REC with that number in the realm whose RD is `rd`
+-- the granule holds the REC with the given number in the realm whose RD is `rd`
 pub record IsRec (machine : Machine) (rd number granule : ℕ) : Type 0 where
   pub realm : RealmRow
   pub there : (cell_at machine rd).descriptor ≡ Some realm
@@ -71,12 +72,12 @@ pub record IsRec (machine : Machine) (rd number granule : ℕ) : Type 0 where
   pub numbered : get realm.recs number ≡ Some rec
   pub is : rec.granule ≡ granule
 
--- the REC of that number in the realm of that RD
+-- the REC with the given number in the realm with the given RD, if there is one
 abbrev pub rec_in : Machine → ℕ → ℕ → Option RecRow
 rec_in machine rd number = option_and_then (λ realm. get realm.recs number) (cell_at machine rd).descriptor
 
--- A command on the granule's REC has the outcome that its definition gives for the realm and the number. If the granule
--- is the REC of no realm, the command is refused with an input error and nothing changes.
+-- A command on the REC in a granule has the outcome that its definition gives for the REC's realm and number. If the
+-- granule is the REC of no realm, the command is refused with an input error and nothing changes.
 pub record IsOnRec {A : Type 0} (command : Seen → ℕ → Outcome) (old : MonitorView) (granule : ℕ) (result : Result A Rmi) (new : MonitorView) : Type 0 where
   pub answer : (rd number : ℕ) → IsRec old.machine rd number granule → Answers result (command (seen_in old rd) number)
   pub machine : (rd number : ℕ) → IsRec old.machine rd number granule → new ≡ after_command (command (seen_in old rd) number) old
@@ -104,6 +105,6 @@ without_block monitor order first = record monitor {
 abbrev pub fresh : ℕ → ℕ → ℕ → MonitorView
 fresh vmids aux pages = record { vmids = vmids; aux = aux; machine = replicate pages blank; free = replicate pages true }
 
--- the bytes are those of the cell, unless it is a table
+-- the bytes are the cell's, unless the cell is a table
 abbrev pub IsPageOf : Cell → List ℕ → Type 0
 IsPageOf cell bytes = cell.state ≢ Rtt → bytes ≡ cell.bytes

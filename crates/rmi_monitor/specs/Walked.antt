@@ -4,10 +4,11 @@ use Rattle.granule_addr.specs.Ipa.{is_in_space}
 use Rattle.realm_model.specs.Rows.{Walk, walk}
 use Rattle.realm_model.specs.Machine.{Machine, RealmRow, cell_at}
 
--- the end of the walk for an IPA granule towards a level, if the realm's address space has it
+-- the end of the walk of an IPA granule towards a level, if the IPA granule is in the realm's address space
 abbrev pub walk_of : RealmRow → ℕ → ℕ → Option Walk
 walk_of realm ipa level = if is_in_space ipa realm.root.width then walk realm.rows ipa level else None
 
--- the end of the walk in the realm whose RD is the granule, if there is such a realm
+-- the end of the walk of an IPA granule in the realm whose RD is `rd`; none without such a realm or beyond its address
+-- space
 abbrev pub walk_in : Machine → ℕ → ℕ → ℕ → Option Walk
 walk_in machine rd ipa level = option_and_then (λ realm. walk_of realm ipa level) (cell_at machine rd).descriptor

@@ -17,8 +17,8 @@ impl<S: PageStore> Monitor<S> {
     /// Maps a DELEGATED granule into a NEW realm as a data page. The page gets the bytes of an UNDELEGATED granule, and
     /// the realm's measurement is extended.
     ///
-    /// RMM 1.0, RMI_DATA_CREATE. The error is RMI_ERROR_INPUT if `rd` is no RD, `page` is not DELEGATED, `source` is
-    /// not UNDELEGATED, or the IPA granule `ipa` is not protected. The error is RMI_ERROR_REALM if the realm is not
+    /// RMM 1.0, RMI_DATA_CREATE. The error is RMI_ERROR_INPUT if `rd` is not an RD, `page` is not DELEGATED, `source`
+    /// is not UNDELEGATED, or the IPA granule `ipa` is not protected. The error is RMI_ERROR_REALM if the realm is not
     /// NEW. The error is RMI_ERROR_RTT, with the level at which the walk ended, unless that is 3 and the entry there is
     /// UNASSIGNED.
     pub fn data_create(&mut self, rd: Gran, page: Gran, ipa: u32, source: Gran) -> Result<(), Rmi>
@@ -80,9 +80,9 @@ impl<S: PageStore> Monitor<S> {
 
     /// Maps a DELEGATED granule into a realm as a data page whose bytes are zero. The RIPAS stays unchanged.
     ///
-    /// RMM 1.0, RMI_DATA_CREATE_UNKNOWN. The error is RMI_ERROR_INPUT if `rd` is no RD, `page` is not DELEGATED, or the
-    /// IPA granule `ipa` is not protected. The error is RMI_ERROR_RTT, with the level at which the walk ended, unless
-    /// that is 3 and the entry there is UNASSIGNED.
+    /// RMM 1.0, RMI_DATA_CREATE_UNKNOWN. The error is RMI_ERROR_INPUT if `rd` is not an RD, `page` is not DELEGATED, or
+    /// the IPA granule `ipa` is not protected. The error is RMI_ERROR_RTT, with the level at which the walk ended,
+    /// unless that is 3 and the entry there is UNASSIGNED.
     pub fn data_create_unknown(&mut self, rd: Gran, page: Gran, ipa: u32) -> Result<(), Rmi>
         requires rd_taken { IsTaken self.old rd }
         requires page_taken { IsTaken self.old page }
@@ -101,7 +101,7 @@ impl<S: PageStore> Monitor<S> {
     /// Unmaps a data page of a realm. The page's granule becomes zero and DELEGATED. If the RIPAS of the IPA granule
     /// was RAM, it becomes DESTROYED.
     ///
-    /// RMM 1.0, RMI_DATA_DESTROY. The error is RMI_ERROR_INPUT if `rd` is no RD, or the IPA granule `ipa` is not
+    /// RMM 1.0, RMI_DATA_DESTROY. The error is RMI_ERROR_INPUT if `rd` is not an RD, or the IPA granule `ipa` is not
     /// protected. The error is RMI_ERROR_RTT, with the level at which the walk ended, unless that is 3 and the entry
     /// there is ASSIGNED.
     pub fn data_destroy(&mut self, rd: Gran, ipa: u32) -> Result<(), Rmi>

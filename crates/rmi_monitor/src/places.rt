@@ -1,5 +1,6 @@
 //! Functions that check and change the states of granules. The checks are on granules that are to become an RD, a
-//! table, a page or a REC, or that are to be copied.
+//! table, a page or a REC, or that are to be copied. Two other functions give a realm's tables, and extend its
+//! measurement.
 ghost use Rattle.std.specs.Prelude.{◌≡◌, ◌<◌, ◌&&◌, ◌∷◌, All, IsTrue, length, Some, None, option_map, slice_set};
 ghost use Rattle.std.specs.List.{list_all};
 ghost use Rattle.granule_addr.specs.Page.{zero_page};

@@ -1,4 +1,4 @@
-//! Queries of granules, RECs and translation tables, which change nothing.
+//! Queries about granules, RECs and translation tables, which change nothing.
 ghost use Rattle.std.specs.Prelude.{◌≡◌, ◌<◌, length};
 ghost use Rattle.std.specs.Option.{option_copied};
 ghost use Rattle.realm_model.specs.Machine.{cell_at};
@@ -12,7 +12,7 @@ use page_arena::PageStore;
 use rtt::Walk;
 
 impl<S: PageStore> Monitor<S> {
-    /// Returns the RD of a granule's realm. It is `None` if the granule belongs to no realm. An RD belongs to its own
+    /// Returns the RD of a granule's realm, or `None` if the granule belongs to no realm. An RD belongs to its own
     /// realm.
     pub fn realm_of(&self, granule: Gran) -> Option<Gran>
         requires { granule < length self.now.machine }
@@ -21,8 +21,8 @@ impl<S: PageStore> Monitor<S> {
         self.granules.realm_of(granule)
     }
 
-    /// Returns the REC in a granule, or `None` if the granule is no REC. A REC has its number in the realm, its state
-    /// and its auxiliaries.
+    /// Returns the REC in a granule, or `None` if the granule is not a REC. A REC has its number in the realm, its
+    /// state and its auxiliaries.
     pub fn rec_at(&self, granule: Gran) -> Option<&Rec>
         requires { granule < length self.now.machine }
         ensures { option_copied result ≡ rec_attributes_at self.now.machine granule }
@@ -30,9 +30,9 @@ impl<S: PageStore> Monitor<S> {
         self.recs[granule.number() as usize].as_ref()
     }
 
-    /// Walks the RTT of a realm to an IPA granule. The realm has RD `rd`, and the walk goes to level `to`. Returns the
-    /// level and the entry at which the walk ends. Returns `None` if granule `rd` is no RD, or if the IPA granule is
-    /// not in the realm's address space.
+    /// Walks the translation tables of a realm down to an IPA granule. The realm has RD `rd`, and the walk goes to
+    /// level `to`. Returns the level and the entry at which the walk ends. Returns `None` if granule `rd` is not an RD,
+    /// or if the IPA granule is not in the realm's address space.
     ///
     /// `ipa` is the number of an IPA granule, of either half of the address space. RMM 1.0, RTT walk.
     pub fn walk(&self, rd: Gran, ipa: u32, to: Level) -> Option<Walk>

@@ -51,8 +51,8 @@ fn can_be_realm(granules: &GranuleTable, tables: &Tables, vmid: Vmid, vmids: u8)
 impl<S: PageStore> Monitor<S> {
     /// Makes a NEW realm ACTIVE.
     ///
-    /// RMM 1.0, RMI_REALM_ACTIVATE. The error is RMI_ERROR_INPUT if the granule is no RD, and RMI_ERROR_REALM if the
-    /// realm is not NEW.
+    /// RMM 1.0, RMI_REALM_ACTIVATE. The error is RMI_ERROR_INPUT if the granule is not an RD, and RMI_ERROR_REALM if
+    /// the realm is not NEW.
     pub fn realm_activate(&mut self, rd: Gran) -> Result<(), Rmi>
         requires { IsTaken self.old rd }
         ensures answer { Answers result (command.realm_activate (seen_in self.old rd)) }
@@ -73,8 +73,8 @@ impl<S: PageStore> Monitor<S> {
     ///
     /// `root` is the first starting table; there are 2^(width - 39), one after another. RMM 1.0, RMI_REALM_CREATE.
     ///
-    /// The error is RMI_ERROR_INPUT if the width is not 39 to 43, `root` is no multiple of their count, or one of the
-    /// granules is not DELEGATED. The error is the same if the RD is a starting table, or the VMID is above the
+    /// The error is RMI_ERROR_INPUT if the width is not 39 to 43, `root` is not a multiple of their count, or one of
+    /// the granules is not DELEGATED. The error is the same if the RD is a starting table, or the VMID is above the
     /// machine's greatest or used by a realm.
     pub fn realm_create(&mut self, rd: Gran, root: Gran, vmid: Vmid, width: u8) -> Result<(), Rmi>
         requires { IsTaken self.old rd }
@@ -106,8 +106,8 @@ impl<S: PageStore> Monitor<S> {
     /// Destroys a realm that has no RECs, and no tables below its starting tables. The starting tables and the RD are
     /// then zero and DELEGATED.
     ///
-    /// RMM 1.0, RMI_REALM_DESTROY. The error is RMI_ERROR_INPUT if the granule is no RD. The error is RMI_ERROR_REALM
-    /// if the realm has a REC, or an entry of a starting table is TABLE.
+    /// RMM 1.0, RMI_REALM_DESTROY. The error is RMI_ERROR_INPUT if the granule is not an RD. The error is
+    /// RMI_ERROR_REALM if the realm has a REC, or an entry of a starting table is TABLE.
     pub fn realm_destroy(&mut self, rd: Gran) -> Result<(), Rmi>
         requires { IsTaken self.old rd }
         ensures answer { Answers result (command.realm_destroy (seen_in self.old rd)) }

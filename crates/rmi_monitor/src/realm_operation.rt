@@ -1,4 +1,4 @@
-//! Operations on the tables, pages and RECs of a realm.
+//! Operations on a realm: its activation, and changes of its tables, pages and RECs.
 ghost use Rattle.std.specs.Prelude.{◌≡◌, Some, true, is_some};
 ghost use Rattle.rmi_monitor.specs.View.{Answers, after_command};
 ghost use Rattle.rmi_monitor.specs.Performing.{IsReady, is_in_realm, outcome_on, IsDone};
@@ -9,7 +9,7 @@ use granule_addr::Gran;
 use page_arena::PageStore;
 use realm_model::{Act, Rmi, clone_granules};
 
-// Performs an operation on the tables, the pages or the RECs of a realm. If the operation names a REC, `rec` is the
+// Activates a realm, or performs an operation on its tables, pages or RECs. If the operation names a REC, `rec` is the
 // REC's granule.
 #[tactic(auto, unfolding(realm_model::specs::Act::named, realm_model::specs::Outcome::outcome_of))]
 pub(crate) fn in_realm<S: PageStore>(

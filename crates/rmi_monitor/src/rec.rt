@@ -29,8 +29,8 @@ fn number_rec(realm: &mut RealmDesc) -> RecNo
 }
 
 impl<S: PageStore> Monitor<S> {
-    /// Returns the number of auxiliary granules of a REC. RMM 1.0, RMI_REC_AUX_COUNT; that it is the same for each
-    /// realm is this profile's own.
+    /// Returns the number of auxiliary granules that each REC needs. RMM 1.0, RMI_REC_AUX_COUNT; that it is the same
+    /// for each realm is this profile's own.
     pub fn rec_aux_count(&self) -> u8
         ensures { result ≡ self.now.aux }
     {
@@ -40,7 +40,7 @@ impl<S: PageStore> Monitor<S> {
     /// Creates a REC of a NEW realm from DELEGATED granules. One granule is for the REC, and the others are auxiliary.
     /// Returns the REC's number.
     ///
-    /// RMM 1.0, RMI_REC_CREATE. The error is RMI_ERROR_INPUT if `rd` is no RD, one of the other granules is not
+    /// RMM 1.0, RMI_REC_CREATE. The error is RMI_ERROR_INPUT if `rd` is not an RD, one of the other granules is not
     /// DELEGATED, or two of these are the same. The error is the same if there are not as many auxiliaries as each REC
     /// has. The error is RMI_ERROR_REALM if the realm is not NEW.
     pub fn rec_create(
@@ -86,8 +86,8 @@ impl<S: PageStore> Monitor<S> {
     /// Destroys a READY REC. Its granule and its auxiliary granules are cleared and become DELEGATED. The number of the
     /// REC is not used again.
     ///
-    /// RMM 1.0, RMI_REC_DESTROY. The error is RMI_ERROR_INPUT if the granule is no REC, and RMI_ERROR_REC if the REC is
-    /// not READY.
+    /// RMM 1.0, RMI_REC_DESTROY. The error is RMI_ERROR_INPUT if the granule is not a REC, and RMI_ERROR_REC if the REC
+    /// is not READY.
     pub fn rec_destroy(&mut self, rec: Gran) -> Result<(), Rmi>
         requires { IsTaken self.old rec }
         ensures { IsOnRec command.rec_destroy self.old rec result self.new }

@@ -12,8 +12,8 @@ use rtt::Rtt;
 impl<S: PageStore> Monitor<S> {
     /// Enters a READY REC of an ACTIVE realm. The REC becomes RUNNING.
     ///
-    /// RMM 1.0, RMI_REC_ENTER. The error is RMI_ERROR_INPUT if the granule is no REC, RMI_ERROR_REALM if its realm is
-    /// not ACTIVE, and RMI_ERROR_REC if the REC is not READY.
+    /// RMM 1.0, RMI_REC_ENTER. The error is RMI_ERROR_INPUT if the granule is not a REC, RMI_ERROR_REALM if its realm
+    /// is not ACTIVE, and RMI_ERROR_REC if the REC is not READY.
     pub fn rec_enter(&mut self, rec: Gran) -> Result<(), Rmi>
         requires { IsTaken self.old rec }
         ensures { IsOnRec command.rec_enter self.old rec result self.new }
@@ -36,9 +36,9 @@ impl<S: PageStore> Monitor<S> {
     /// Writes a byte to a realm's page, as the guest of a RUNNING REC. The RIPAS of the page's IPA does not matter. The
     /// command is this profile's own, for guest instructions.
     ///
-    /// `ipa` is the number of an IPA granule. The error is RMI_ERROR_INPUT if the granule is no REC or the IPA is not
-    /// protected, and RMI_ERROR_REC if the REC is not RUNNING. The error is RMI_ERROR_RTT, with the level at which the
-    /// walk ended, unless the entry there is ASSIGNED.
+    /// `ipa` is the number of an IPA granule. The error is RMI_ERROR_INPUT if the granule is not a REC or the IPA is
+    /// not protected, and RMI_ERROR_REC if the REC is not RUNNING. The error is RMI_ERROR_RTT, with the level at which
+    /// the walk ended, unless the entry there is ASSIGNED.
     pub fn guest_write(
         &mut self,
         rec: Gran,
@@ -71,7 +71,7 @@ impl<S: PageStore> Monitor<S> {
     /// Stops a RUNNING REC. It becomes READY.
     ///
     /// RMM 1.0, REC exit; as a command of its own it is this profile's. The error is RMI_ERROR_INPUT if the granule is
-    /// no REC, and RMI_ERROR_REC if the REC is not RUNNING.
+    /// not a REC, and RMI_ERROR_REC if the REC is not RUNNING.
     pub fn rec_exit(&mut self, rec: Gran) -> Result<(), Rmi>
         requires { IsTaken self.old rec }
         ensures { IsOnRec command.rec_exit self.old rec result self.new }

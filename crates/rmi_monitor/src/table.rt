@@ -18,8 +18,8 @@ impl<S: PageStore> Monitor<S> {
     /// Creates a realm's table of level 2 or 3 in a DELEGATED granule.
     ///
     /// `ipa` is the first IPA granule that the table serves. RMM 1.0, RMI_RTT_CREATE. The error is RMI_ERROR_INPUT if
-    /// `rd` is no RD, `table` is not DELEGATED, no table of that level starts at `ipa`, or `ipa` is not protected. The
-    /// error is RMI_ERROR_RTT, with the level at which the walk ended, unless that is the level above and the entry
+    /// `rd` is not an RD, `table` is not DELEGATED, no table of that level starts at `ipa`, or `ipa` is not protected.
+    /// The error is RMI_ERROR_RTT, with the level at which the walk ended, unless that is the level above and the entry
     /// there is not TABLE.
     pub fn rtt_create(&mut self, rd: Gran, table: Gran, ipa: u32, level: u8) -> Result<(), Rmi>
         requires rd_taken { IsTaken self.old rd }
@@ -41,10 +41,12 @@ impl<S: PageStore> Monitor<S> {
 
     /// Destroys a realm's table of level 2 or 3. Its granule is cleared and becomes DELEGATED.
     ///
-    /// `ipa` is the first IPA granule that the table serves. RMM 1.0, RMI_RTT_DESTROY. The error is RMI_ERROR_INPUT if
-    /// `rd` is no RD, no table of that level starts at `ipa`, or `ipa` is not protected. The error is RMI_ERROR_RTT,
-    /// with the level at which the walk ended, unless that is the level above and the entry there is TABLE. In that
-    /// case, the error is RMI_ERROR_RTT, with `level`, if an entry of the table is ASSIGNED or TABLE.
+    /// `ipa` is the first IPA granule that the table serves. RMM 1.0, RMI_RTT_DESTROY.
+    ///
+    /// The error is RMI_ERROR_INPUT if `rd` is not an RD, no table of that level starts at `ipa`, or `ipa` is not
+    /// protected. The error is RMI_ERROR_RTT, with the level at which the walk ended, unless that is the level above
+    /// and the entry there is TABLE. In that case, it is RMI_ERROR_RTT, with `level`, if an entry of the table is
+    /// ASSIGNED or TABLE.
     pub fn rtt_destroy(&mut self, rd: Gran, ipa: u32, level: u8) -> Result<(), Rmi>
         requires { IsTaken self.old rd }
         ensures answer { Answers result (command.rtt_destroy (seen_in self.old rd) ipa level) }
@@ -61,10 +63,10 @@ impl<S: PageStore> Monitor<S> {
     /// Sets the RIPAS of `count` IPA granules of a NEW realm to RAM. The granules are those from `ipa` on, and all or
     /// none of them are set. The realm's measurement is extended.
     ///
-    /// RMM 1.0, RMI_RTT_INIT_RIPAS. The error is RMI_ERROR_INPUT if `rd` is no RD, `count` is not 1 to 512, no table of
-    /// level 3 serves all of them, or `ipa` is not protected. The error is RMI_ERROR_REALM if the realm is not NEW. The
-    /// error is RMI_ERROR_RTT, with the level at which the walk ended, unless that is 3 and all the entries are
-    /// UNASSIGNED.
+    /// RMM 1.0, RMI_RTT_INIT_RIPAS. The error is RMI_ERROR_INPUT if `rd` is not an RD, `count` is not 1 to 512, no
+    /// table of level 3 serves all of them, or `ipa` is not protected. The error is RMI_ERROR_REALM if the realm is not
+    /// NEW. The error is RMI_ERROR_RTT, with the level at which the walk ended, unless that is 3 and all the entries
+    /// are UNASSIGNED.
     pub fn rtt_init_ripas(&mut self, rd: Gran, ipa: u32, count: u16) -> Result<(), Rmi>
         requires { IsTaken self.old rd }
         ensures answer { Answers result (command.rtt_init_ripas (seen_in self.old rd) ipa count) }

@@ -1,6 +1,6 @@
-//! The `rmitrace` program, which answers, checks, explains or names the RMI calls of a trace. The lines of a trace come
-//! from a file or from standard input. They go to standard output with their answers, by names, or with the reasons of
-//! refusals; or they are compared.
+//! The `rmitrace` program, which answers the RMI calls of a trace, checks its answers, explains its refused calls, or
+//! prints its calls by name. The lines of a trace come from a file or from standard input. They go to standard output
+//! with their answers, by names, or with the reasons of refusals; or they are compared.
 #![tactic(auto)]
 
 ghost use Rattle.std.specs.Prelude.{◌≡◌, IfErr};
@@ -12,8 +12,8 @@ use command_line::{Ended, Input, Output, Stop, TextKind, arguments};
 use std::process::ExitCode;
 use trace_program::{TraceError, TraceSubcommand, TraceVerdict, run};
 
-/// Returns the kind of a subcommand's output, which decides its colours on a terminal, or `None` for output without
-/// colour.
+/// Returns the kind of text that a subcommand prints, which decides the colours on a terminal. The result is `None` for
+/// output without colour.
 fn painting(asked: &TraceSubcommand) -> Option<TextKind> {
     match asked {
         TraceSubcommand::Answer | TraceSubcommand::Names => None,

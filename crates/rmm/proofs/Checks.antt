@@ -1,4 +1,4 @@
--- Proofs that the first failing list among concatenated lists of checks decides the refusal.
+-- Proofs that, among concatenated lists of checks, the first list with a failed check decides the refusal.
 use Rattle.std.proofs.Common.{◌≡◌, Bool, true, false, cond, List, [], ◌∷◌, ◌++◌, Option, Some, None, refl, ◌∙◌}
 use Rattle.rmm_model.specs.declared.answer.FailedCondition.{FailedCondition}
 use Rattle.rmm_model.specs.Check.{Check, first_failing}

@@ -1,5 +1,4 @@
--- A proof that the change that the RMM makes to a REC at a guest step's exit gives the attributes that the model
--- prescribes.
+-- A proof that the RMM's edit of a REC at an exit gives the REC the attributes that the model prescribes.
 use Rattle.std.proofs.Common.{◌≡◌, refl}
 use Rattle.rmm_model.specs.declared.rec.RmmRec.{RmmRec}
 use Rattle.rmm_model.specs.declared.step.GuestStep.{GuestStep}

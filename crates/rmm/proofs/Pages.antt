@@ -1,5 +1,5 @@
--- Proofs that writing words to a granule's page one by one gives the same machine as writing the page with all these
--- words at once.
+-- Proofs that writing words to a granule's page one by one gives the same machine as writing all of them at once, and
+-- leaves other pages unchanged.
 use Rattle.std.proofs.Common.{◌≡◌, ◌≢◌, ℕ, zero, suc, ◌+◌, ◌<◌, ◌≤◌, List, [], length, set, refl, ap, sym, ◌∙◌, add-one, arith}
 use Rattle.std.proofs.lemmas.List.{get_or-set_same, get_or-set_other, set-set, set-get_or, length-set}
 use Rattle.page_arena.specs.Word.{page_with_word}

@@ -1,4 +1,5 @@
--- Proofs that the outcome of each guest step continues or ends the run of a REC, which has at most 16 steps.
+-- Proofs about a REC's run: the outcome of a guest step continues or ends it, and an IRQ exit ends it after 16 steps,
+-- or if no step is queued.
 use Rattle.std.proofs.Common.{◌≡◌, ℕ, suc, ◌+◌, ◌-◌, ◌<◌, ◌==◌, true, refl, sym, ap, ◌∙◌, arith}
 use Rattle.rmi_abi.specs.declared.rec_run.ExitReason.TheVariants.{Irq}
 use Rattle.rmi_abi.specs.RecRun.{only_reason}

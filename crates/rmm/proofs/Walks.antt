@@ -1,4 +1,5 @@
--- A proof that a value computed from a walk's end and the entry there agrees with the model's walk of the same realm.
+-- A proof that any value computed from the found end of a walk, and from the entry there, equals the value computed
+-- from the model's walk.
 use Rattle.std.proofs.Common.{◌≡◌, ℕ, ap, ◌∙◌}
 use Rattle.rmm_model.specs.declared.entry.RmmRttEntry.{RmmRttEntry}
 use Rattle.rmm_model.specs.declared.realm.RmmRealm.{RmmRealm}

@@ -1,4 +1,5 @@
--- The conditions on the granules, realms and walks that a command's operands name after its checks have passed.
+-- The conditions that the granules, entries and walk ends found by a command's checks are those that the command's
+-- operands name.
 use Rattle.std.specs.Prelude.{◌≡◌, ◌≢◌, ℕ, ◌-◌, ◌^◌, ◌<◌, ◌≤◌, Some}
 use Rattle.rmm_model.specs.Entry.{descriptor_of}
 use Rattle.rmm_model.specs.Machine.{Machine, granule_count, number_of}
@@ -23,7 +24,7 @@ use Rattle.rmm.specs.declared.rtt_create.Vacancy.{Vacancy}
 use Rattle.rmm.specs.declared.rtt_destroy.Unused.{Unused}
 use Rattle.rmm.specs.declared.set_ripas.RequestedRange.{RequestedRange}
 
--- the place of a new table
+-- the found RD, the new table, and the entry that is to lead to it are those that the operands of RMI_RTT_CREATE name
 pub record IsVacancy (m : Machine) (rd rtt ipa level : ℕ) (vacancy : Vacancy) : Type 0 where
   pub owner : vacancy.rd ≡ number_of m rd
   pub table : vacancy.table ≡ number_of m rtt
@@ -34,7 +35,7 @@ pub record IsVacancy (m : Machine) (rd rtt ipa level : ℕ) (vacancy : Vacancy) 
   pub parent : vacancy.parent ≡ entry_at m vacancy.found ipa
   pub fits : descriptor_of vacancy.parent < 2 ^ 48
 
--- a table that can be destroyed
+-- the found table, its realm, and the entry that leads to it are those that the operands of RMI_RTT_DESTROY name
 pub record IsUnused (m : Machine) (rd ipa level : ℕ) (unused : Unused) : Type 0 where
   pub realm : unused.realm ≡ realm_at m rd
   pub width : unused.realm.s2sz ≤ 48
@@ -45,7 +46,7 @@ pub record IsUnused (m : Machine) (rd ipa level : ℕ) (unused : Unused) : Type 
   pub inside : unused.table < granule_count m
   pub low : ipa < 2 ^ 48
 
--- a table that can be folded
+-- the found table and the entry that leads to it are those that the operands of RMI_RTT_FOLD name
 pub record IsFoldable (m : Machine) (rd ipa level : ℕ) (foldable : Foldable) : Type 0 where
   pub place : foldable.found ≡ walk m (realm_at m rd) ipa (level - 1)
   pub above : foldable.found.table < granule_count m
@@ -53,7 +54,8 @@ pub record IsFoldable (m : Machine) (rd ipa level : ℕ) (foldable : Foldable) :
   pub table : table_below m foldable.parent ≡ Some foldable.table
   pub inside : foldable.table < granule_count m
 
--- the place of a new page
+-- the found RD, the new page's granule, and the page's entry are those that the operands of RMI_DATA_CREATE_UNKNOWN
+-- name
 pub record IsPageVacancy (m : Machine) (rd page ipa : ℕ) (vacancy : PageVacancy) : Type 0 where
   pub owner : vacancy.rd ≡ number_of m rd
   pub granule : vacancy.data ≡ number_of m page
@@ -62,7 +64,8 @@ pub record IsPageVacancy (m : Machine) (rd page ipa : ℕ) (vacancy : PageVacanc
   pub above : vacancy.found.table < granule_count m
   pub entry : vacancy.entry ≡ entry_at m vacancy.found ipa
 
--- a page of the host, and a DELEGATED granule
+-- the found granules are those that RMI_DATA_CREATE names: the host's page to copy, and the granule that becomes the
+-- page of data
 pub record IsSource (m : Machine) (page source : ℕ) (found : Source) : Type 0 where
   pub content : found.page ≡ number_of m source
   pub content_inside : found.page < granule_count m
@@ -70,7 +73,7 @@ pub record IsSource (m : Machine) (page source : ℕ) (found : Source) : Type 0 
   pub inside : found.granule < granule_count m
   pub apart : found.granule ≢ found.page
 
--- the realm and the table of a new page
+-- the found RD and realm are those that RMI_DATA_CREATE names, and the found walk end is that for the new page's IPA
 pub record IsTarget (m : Machine) (rd ipa : ℕ) (target : Target) : Type 0 where
   pub owner : target.owner.granule ≡ number_of m rd
   pub inside : target.owner.granule < granule_count m
@@ -79,7 +82,8 @@ pub record IsTarget (m : Machine) (rd ipa : ℕ) (target : Target) : Type 0 wher
   pub place : target.found ≡ walk m (realm_at m rd) ipa 3
   pub above : target.found.table < granule_count m
 
--- a page of data that can be made
+-- the new page has the source, the granule and the realm that RMI_DATA_CREATE names, and its entry is where the walk
+-- for its IPA ends
 pub record IsNewPage (m : Machine) (rd page ipa source : ℕ) (new : NewPage) : Type 0 where
   pub content : new.source ≡ number_of m source
   pub content_inside : new.source < granule_count m
@@ -93,7 +97,7 @@ pub record IsNewPage (m : Machine) (rd page ipa source : ℕ) (new : NewPage) : 
   pub place : new.found ≡ walk m (realm_at m rd) ipa 3
   pub above : new.found.table < granule_count m
 
--- the realm and the table of a range
+-- the found realm is the one that RMI_RTT_INIT_RIPAS names, and the found walk end is that for the range's base
 pub record IsRipasRange (m : Machine) (rd base : ℕ) (range : RipasRange) : Type 0 where
   pub owner : range.owner.granule ≡ number_of m rd
   pub inside : range.owner.granule < granule_count m
@@ -103,7 +107,8 @@ pub record IsRipasRange (m : Machine) (rd base : ℕ) (range : RipasRange) : Typ
   pub above : range.found.table < granule_count m
   pub low : base < 2 ^ 48
 
--- a REC that asked for a range, and the table of the range
+-- the found REC is the one that RMI_RTT_SET_RIPAS names, the found request is that REC's, and the found walk end is
+-- that for the range's base
 pub record IsRequestedRange (m : Machine) (rd rec base : ℕ) (range : RequestedRange) : Type 0 where
   pub named : range.granule ≡ number_of m rec
   pub inside : range.granule < granule_count m
@@ -112,7 +117,7 @@ pub record IsRequestedRange (m : Machine) (rd rec base : ℕ) (range : Requested
   pub above : range.found.table < granule_count m
   pub low : base < 2 ^ 48
 
--- a page that is mapped
+-- the found page of data is mapped at the IPA by the found entry
 pub record IsMapped (m : Machine) (rd ipa : ℕ) (mapped : Mapped) : Type 0 where
   pub place : mapped.found ≡ walk m (realm_at m rd) ipa 3
   pub above : mapped.found.table < granule_count m
@@ -121,20 +126,21 @@ pub record IsMapped (m : Machine) (rd ipa : ℕ) (mapped : Mapped) : Type 0 wher
   pub inside : mapped.data < granule_count m
   pub low : ipa < 2 ^ 48
 
--- the end of a walk to an unprotected address
+-- `found` is the end of the walk for an unprotected IPA towards the level that the command names
 pub record IsUnprotected (m : Machine) (rd ipa level : ℕ) (found : RttWalk) : Type 0 where
   pub place : found ≡ walk m (realm_at m rd) ipa level
   pub inside : found.table < granule_count m
   pub low : ipa < 2 ^ 48
 
--- a realm that can be made
+-- the new realm is as the parameters describe it, and the found granule is the one that RMI_REALM_CREATE names for its
+-- RD
 pub record IsNewRealm (m : Machine) (rd params : ℕ) (found : NewRealm) : Type 0 where
   pub place : found.rd ≡ number_of m rd
   pub inside : found.rd < granule_count m
   pub realm : found.realm ≡ realm_for m (params_at m params)
   pub served : IsServed (granule_count m) found.realm
 
--- a REC that can be made
+-- the found granules are those that RMI_REC_CREATE names, and the realm of the RD can have one more REC
 pub record IsNewRec (m : Machine) (rd rec params : ℕ) (found : NewRec) : Type 0 where
   pub place : found.rec ≡ number_of m rec
   pub inside : found.rec < granule_count m
@@ -148,7 +154,8 @@ pub record IsNewRec (m : Machine) (rd rec params : ℕ) (found : NewRec) : Type 
   pub next : found.realm.next_rec < 2 ^ 31
   pub count : found.realm.rec_count < 2 ^ 15
 
--- a PSCI request that can be completed, with its calling REC and its target REC
+-- the found RECs are those that RMI_PSCI_COMPLETE names, the found request is the calling REC's, and `on` says whether
+-- the target is on
 pub record IsCompletion (m : Machine) (calling target : ℕ) (found : Completion) : Type 0 where
   pub place : found.calling ≡ number_of m calling
   pub inside : found.calling < granule_count m
@@ -158,7 +165,7 @@ pub record IsCompletion (m : Machine) (calling target : ℕ) (found : Completion
   pub apart : found.calling ≢ found.target
   pub on : found.on ≡ is_on (rec_at m target)
 
--- a REC that can be entered
+-- the found granules are those that RMI_REC_ENTER names: the REC, and its run page
 pub record IsEntry (m : Machine) (rec address : ℕ) (found : Entering) : Type 0 where
   pub place : found.rec ≡ number_of m rec
   pub inside : found.rec < granule_count m

@@ -12,11 +12,12 @@ use Rattle.rmm_model.specs.Walk.{with_entry}
 use Rattle.rmm_model.specs.Command.DataCreate.{are_flags_valid}
 use Rattle.rmm.specs.declared.data_create.NewPage.{NewPage}
 
--- the first check of the command: the flags are valid
+-- the first check of RMI_DATA_CREATE: the flags are valid
 abbrev pub flags_checks : RmmSettings → ℕ → List Check
 flags_checks s flags = check FlagsValid [] (not (are_flags_valid s flags)) error_input ∷ []
 
--- the machine after a granule becomes DATA with the source's bytes, mapped at an IPA with RIPAS RAM
+-- the machine after the new page's granule becomes DATA with the bytes of its source, and is mapped at an IPA with
+-- RIPAS RAM
 abbrev pub with_data : Machine → NewPage → ℕ → ℕ → Machine
 with_data m new page ipa =
     with_entry (with_page (with_granule m new.granule (of_realm new.owner.granule Data)) new.granule (page_in m new.source)) new.found ipa (Assigned Ram page)

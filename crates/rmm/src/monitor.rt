@@ -69,8 +69,8 @@ impl<S: PageStore> Rmm<S> {
         self.granules.settings()
     }
 
-    /// Returns a reference to the granules of the RMM's platform, with attributes and pages that no call shows to a
-    /// host.
+    /// Returns a reference to the granules of the RMM's platform, including attributes and pages that no call shows to
+    /// a host.
     pub fn granules(&self) -> &Granules<S>
         ensures { result.now ≡ self.now }
     {
@@ -158,7 +158,7 @@ impl<S: PageStore> Rmm<S> {
         interrupt(&mut self.granules, rec)
     }
 
-    /// Performs the call in the given registers. Returns the registers after the call.
+    /// Performs the RMI call in the given registers. Returns the registers after the call.
     #[tactic(auto, unfolding(rmm_model::specs::Call::rmi))]
     pub fn smc(&mut self, regs: Registers) -> Registers
         ensures { (result, self.new) ≡ rmi regs self.old }

@@ -1,4 +1,4 @@
-//! Finds the REC at the address that an RMI command is given.
+//! The REC that an operand of an RMI command names by its address.
 ghost use Rattle.std.specs.Prelude.{◌≡◌, ◌<◌, IfOk};
 ghost use Rattle.rmm_model.specs.Check.{first_failing, refusal_in, error_rec};
 ghost use Rattle.rmm_model.specs.Machine.{granule_count, number_of};

@@ -1,4 +1,4 @@
-//! The command RMI_REC_ENTER.
+//! The command RMI_REC_ENTER, and the host interrupt that ends the run of a REC.
 ghost use Rattle.std.specs.Prelude.{◌≡◌, ◌<◌, ◌≤◌, ◌==◌, ◌&&◌, false, not, IfOk};
 ghost use Rattle.rmi_abi.specs.RecRun.{only_reason};
 ghost use Rattle.rmm_model.specs.declared.rec.LastExit.TheVariants.{RipasChange, HostCall, EmulatableAbort};

@@ -1,5 +1,5 @@
-//! Functions with which the RMM reads and writes the run page of RMI_REC_ENTER. Registers are copied between a REC's
-//! page and its run page, and exits are written to run pages.
+//! Functions that read and write the run page of RMI_REC_ENTER. Registers are copied between a REC's page and its run
+//! page, and exits are written to run pages.
 ghost use Rattle.std.specs.Prelude.{◌≡◌, ◌+◌, ◌<◌, ◌≤◌, ◌⊎◌, length};
 ghost use Rattle.rmi_abi.specs.RecRun.{only_reason};
 ghost use Rattle.rmm_model.specs.Machine.{granule_count, page_in, with_page};

@@ -1,4 +1,4 @@
-//! Writes an RTT entry into the table at which an RTT walk ended.
+//! A function that writes an RTT entry into the table at which an RTT walk ended.
 ghost use Rattle.std.specs.Prelude.{◌≡◌, ◌<◌};
 ghost use Rattle.rmm_model.specs.Machine.{granule_count};
 ghost use Rattle.rmm_model.specs.Walk as walks;

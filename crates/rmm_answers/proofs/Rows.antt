@@ -1,5 +1,5 @@
--- Lemmas on lookups in lists: an index within a list finds its row, a search finds the first match, and a lookup past
--- the end finds nothing.
+-- Lemmas about lookups in lists: an index within a list finds an element, a search finds the first match, and a lookup
+-- past the end finds nothing.
 use Rattle.std.proofs.Common.{◌≡◌, ℕ, zero, suc, ◌+◌, ◌<◌, ◌≤◌, List, [], ◌∷◌, length, get_or, drop, Bool, true, cond, Some, None, refl, sym, ap, ◌∙◌, arith, drop-cons, ◌==◌, if◌then◌else◌}
 use Rattle.std.proofs.Math.ListN.{drop_of_length-le}
 use Rattle.std.specs.List.{position_from}

@@ -25,13 +25,15 @@ use Rattle.rmm_answers.specs.Words.{first_place}
 
 -- ---- calls and fills
 
+-- the answer to a named call after its last round, and the resulting machine
 abbrev pub call_reply_of : ℕ → List TraceWord → LastCall × Machine → TraceReply × Machine
 call_reply_of place call after = (call_reply place (asked call after.0.round) after.0 after.1, after.1)
 
 abbrev pub raw_reply_of : List TraceWord → LastCall × Machine → TraceReply × Machine
 raw_reply_of call after = (raw_reply (asked call 0) after.0, after.1)
 
--- the answer to fills: how many were done before one that faults, if any
+-- the answer to one or more fills: whether the last fill was done, and after a fault the number of earlier fills, if
+-- there were any
 abbrev pub fill_words : ℕ → Bool → List TraceWord
 fill_words round is_done =
     if not is_done && not (round == 0) then ([] ▷ put_word (access_atom is_done) ▷ put_value AFTER (Decimal round)) else ([] ▷ put_word (access_atom is_done))
@@ -39,8 +41,8 @@ fill_words round is_done =
 abbrev pub fill_reply_of : ℕ × Bool × Machine → TraceReply × Machine
 fill_reply_of after = (of_words (fill_words after.0 after.1), after.2)
 
--- The answer to a named call or fill with at most `more` further rounds, and the resulting machine. Any other name
--- is no command.
+-- The answer to a named call or fill with at most `more` further rounds, and the resulting machine. Any other name is
+-- not a command.
 unfoldable pub rounds_answered : List TraceWord → ℕ → Machine → TraceReply × Machine
 rounds_answered call more m =
     let place = first_place call in
@@ -49,10 +51,11 @@ rounds_answered call more m =
 
 -- ---- other questions, by the words after their names
 
+-- an answer of a single word, with the unchanged machine
 abbrev pub single : Atom → Machine → TraceReply × Machine
 single a m = (of_words ([] ▷ put_word a), m)
 
--- the answer to a reading at an address, which leaves the machine unchanged
+-- the answer to a reading at an address, with the unchanged machine
 unfoldable pub reading_answered : ℕ → List TraceWord → Machine → TraceReply × Machine
 reading_answered place ws m =
     let address = operand_at ws 0 0 in
@@ -82,7 +85,8 @@ other_answered place ws m =
 
 -- ---- questions
 
--- The answer to a question on a given machine, and the resulting machine. A platform is no command here.
+-- The answer to a question that is asked of a given machine, and the resulting machine. A `platform` question is not a
+-- command here.
 unfoldable pub answered_on : List TraceWord → Machine → TraceReply × Machine
 answered_on question m =
     let place = first_place question in
@@ -92,6 +96,7 @@ answered_on question m =
 
 -- ---- the machine of a trace
 
+-- the empty answer and the newly opened machine; if none was opened, the answer `no command` and the old machine
 abbrev pub after_opening : Option Machine → Option Machine → TraceReply × Option Machine
 after_opening (Some m) old = (no_answer, Some m)
 after_opening None old = (no_command, old)
@@ -100,8 +105,8 @@ abbrev pub answered_in : List TraceWord → Option Machine → TraceReply × Opt
 answered_in question (Some m) = ((answered_on question m).0, Some (answered_on question m).1)
 answered_in question None = (no_command, None)
 
--- The answer to a question of a trace, and the resulting machine. A platform opens a fresh machine, or is no command
--- and changes nothing. Before the first platform that is opened there is none.
+-- The answer to a question of a trace, and the resulting machine. A `platform` question opens a fresh machine, or is
+-- not a command and changes nothing. Before the first platform that is opened, there is no machine.
 unfoldable pub answered : List TraceWord → Option Machine → TraceReply × Option Machine
 answered question m =
     if first_place question == PLATFORM then after_opening (machine_of_platform (rest_of question)) m else answered_in question m
@@ -116,6 +121,6 @@ abbrev pub checks_in_round : List TraceWord → Machine → Option ℕ → Optio
 checks_in_round question m (Some round) = checks_at (asked (unrepeated question) round) m
 checks_in_round question m None = None
 
--- The evaluated checks, on a machine, of the round that an answer refuses; none if it refuses none.
+-- The checks of the round in which a call was refused, evaluated on a machine; none if no call was refused.
 unfoldable pub refused_checks : List TraceWord → TraceReply → Machine → Option (List EvaluatedCheck)
 refused_checks question reply m = checks_in_round question m reply.refused

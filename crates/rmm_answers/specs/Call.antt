@@ -20,33 +20,35 @@ use Rattle.rmm_answers.specs.Put.{◌▷◌, put_word, put_value}
 
 -- ---- refusals
 
--- X0 refuses a call: it is neither RMI_SUCCESS nor that of a REC that runs on
+-- X0 says that a call is refused: it is neither RMI_SUCCESS nor the value for a REC that runs on
 abbrev pub is_refused : ℕ → Bool
 is_refused x0 = not (x0 == 0) && not (x0 == 0xFFFFFFFFFFFFFFFE)
 
--- the checks of a call by registers on a machine
+-- the checks of the call in these registers, evaluated on a machine; none if the registers hold no call
 unfoldable pub checks_at : Registers → Machine → Option (List EvaluatedCheck)
 checks_at r m = option_map (λ call. evaluated (command_of call m).checks) (call_in r)
 
--- the condition of the first failing check of the call in these registers, on a machine, if any
+-- the condition of the first check that the call in these registers fails on a machine, if it fails any
 unfoldable pub deciding : Registers → Machine → Option Condition
 deciding r m = option_and_then (λ call. option_map (λ refusal. refusal.condition) (first_failing (command_of call m).checks)) (call_in r)
 
--- ---- words
+-- ---- the words of an answer
 
+-- appends the name of the check with this condition, if a condition is given
 abbrev pub put_check_name : Option Condition → List TraceWord → List TraceWord
 put_check_name (Some condition) ws = put_word (Name (179 + condition_number condition)) ws
 put_check_name None ws = ws
 
--- the name of the check that decided, if X0 is a refusal. A refusal leaves the machine unchanged.
+-- appends the name of the check that decided, if X0 says that the call is refused. A refusal leaves the machine
+-- unchanged.
 unfoldable pub put_check : Registers → Machine → ℕ → List TraceWord → List TraceWord
 put_check r m x0 ws = if is_refused x0 then put_check_name (deciding r m) ws else ws
 
--- the number of rounds before one that did not return RMI_SUCCESS, unless it is the first
+-- appends the number of rounds before the last one, if the last one did not return RMI_SUCCESS and is not the first
 unfoldable pub put_after : ℕ → ℕ → List TraceWord → List TraceWord
 put_after x0 round ws = if not (x0 == 0) && not (round == 0) then put_value AFTER (Decimal round) ws else ws
 
--- the exit of a REC that has left
+-- appends the REC exit, if the call is an RMI_REC_ENTER that returned RMI_SUCCESS
 unfoldable pub put_exit_of : ℕ → ℕ → ℕ → Machine → List TraceWord → List TraceWord
 put_exit_of place x0 run m ws = if place == RMI_REC_ENTER && x0 == 0 then put_exit m run ws else ws
 
@@ -54,9 +56,9 @@ put_exit_of place x0 run m ws = if place == RMI_REC_ENTER && x0 == 0 then put_ex
 abbrev pub refused_round : LastCall → Option ℕ
 refused_round it = if is_refused it.after.x0 then Some it.round else None
 
--- The answer to a named call, from its last round. It has the status and the returned outputs. A REC exit follows an
--- RMI_REC_ENTER with RMI_SUCCESS, and the deciding check follows a refusal. The number of earlier rounds, if there are
--- any, follows a round that did not return RMI_SUCCESS.
+-- The answer to a named call, given the call's last round. It has the status and the returned outputs. A REC exit
+-- follows an RMI_REC_ENTER with RMI_SUCCESS, and the deciding check follows a refusal. The number of earlier rounds, if
+-- there are any, follows a round that did not return RMI_SUCCESS.
 unfoldable pub call_reply : ℕ → Registers → LastCall → Machine → TraceReply
 call_reply place r it m = record {
   words = record { items = [] ▷ put_status it.after.x0 ▷ put_outputs place it.after ▷ put_exit_of place it.after.x0 r.x2 m ▷ put_check r m it.after.x0 ▷ put_after it.after.x0 it.round };
@@ -64,7 +66,7 @@ call_reply place r it m = record {
   refused = refused_round it;
 }
 
--- the answer to a raw call: X0, and the output registers of its command
+-- the answer to a raw call, made up of X0 and the output registers of its command
 unfoldable pub raw_reply : Registers → LastCall → TraceReply
 raw_reply r it = record {
   words = record { items = [] ▷ put_registers (command_place r.x0) it.after };

@@ -16,14 +16,14 @@ field m run offset = unwrap_or (loaded m ((run + offset) % 2 ^ 64)) 0
 unfoldable pub put_field : Machine → ℕ → ℕ → ℕ → List TraceWord → List TraceWord
 put_field m run name offset ws = put_output name (field m run offset) ws
 
--- the value of a register, if it is to be shown
+-- appends the value of a register, if it is to be shown
 unfoldable pub put_gpr : Bool → ℕ → List TraceWord → List TraceWord
 put_gpr shown v ws = if shown then put_word (Hexadecimal v) ws else ws
 
 abbrev pub is_some_set : ℕ → ℕ → ℕ → Bool
 is_some_set a b c = not (a == 0) || not (b == 0) || not (c == 0)
 
--- General-purpose registers without the zeros at their end, but one at least. An exit here has four.
+-- Appends general-purpose registers without trailing zeros, but at least the first one. An exit here has four.
 unfoldable pub put_gprs : ℕ → ℕ → ℕ → ℕ → List TraceWord → List TraceWord
 put_gprs gpr0 gpr1 gpr2 gpr3 ws =
     ws ▷ put_value GPRS (Hexadecimal gpr0) ▷ put_gpr (is_some_set gpr1 gpr2 gpr3) gpr1 ▷ put_gpr (is_some_set 0 gpr2 gpr3) gpr2
@@ -32,7 +32,7 @@ put_gprs gpr0 gpr1 gpr2 gpr3 ws =
 unfoldable pub put_gprs_in : Machine → ℕ → List TraceWord → List TraceWord
 put_gprs_in m run ws = put_gprs (field m run 0xA00) (field m run 0xA08) (field m run 0xA10) (field m run 0xA18) ws
 
--- the fields of an exit by its reason: SYNC, PSCI, RIPAS_CHANGE, HOST_CALL
+-- appends the fields of an exit for its reason (SYNC, PSCI, RIPAS_CHANGE or HOST_CALL; no other reason has fields)
 unfoldable pub put_fields : Machine → ℕ → ℕ → List TraceWord → List TraceWord
 put_fields m run reason ws =
     if reason == 0 then (ws ▷ put_field m run ESR 0x900 ▷ put_field m run FAR 0x908 ▷ put_field m run HPFAR 0x910 ▷ put_gprs_in m run) else
@@ -40,6 +40,6 @@ put_fields m run reason ws =
     (if reason == 4 then (ws ▷ put_field m run BASE 0xD00 ▷ put_field m run TOP 0xD08 ▷ put_field m run RIPAS_OUTPUT 0xD10) else
     (if reason == 5 then (ws ▷ put_field m run IMM 0xE00 ▷ put_gprs_in m run) else ws)))
 
--- the REC exit in a run page: its reason, and the fields for that reason
+-- appends the REC exit that a run page holds: its reason, and the fields for that reason
 unfoldable pub put_exit : Machine → ℕ → List TraceWord → List TraceWord
 put_exit m run ws = ws ▷ put_field m run EXIT 0x800 ▷ put_fields m run (field m run 0x800)

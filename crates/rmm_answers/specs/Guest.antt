@@ -29,11 +29,11 @@ use Rattle.rmm_answers.specs.Replies.{of_words, no_command}
 
 -- ---- steps
 
--- the number of the step kind with this name; 15, which is no kind, if there is none
+-- the number, below 15, of the kind of step with this name; 15 if no kind has the name
 unfoldable pub step_kind : ℕ → ℕ
 step_kind name = unwrap_or (position_from (λ step. step == name) 0 STEPS) 15
 
--- a step's fourth operand; for a RIPAS change, 1 if there is a fourth word (`destroyed`), else 0
+-- a step's fourth operand; for a RIPAS change it is 1 if there is a fourth word (`destroyed`), and 0 if not
 abbrev pub last_operand : ℕ → List TraceWord → ℕ
 last_operand name ws = if name == SET_RIPAS then (if nat_lt 3 (length ws) then 1 else 0) else operand_at ws 3 0
 
@@ -58,18 +58,18 @@ abbrev pub stepped : ℕ → Option StepWords → Machine → TraceReply × Mach
 stepped rec (Some step) m = (of_words (queued_words (queued m rec step).0), (queued m rec step).1)
 stepped rec None m = (no_command, m)
 
--- The answer to a guest step, written `REC STEP OPERAND ..`, and the resulting machine.
+-- The answer to the words `REC STEP OPERAND ..` of a guest step, and the resulting machine.
 unfoldable pub guest_answered : List TraceWord → Machine → TraceReply × Machine
 guest_answered [] m = (no_command, m)
 guest_answered (rec ∷ ws) m = stepped (operand_at (rec ∷ ws) 0 0) (step_in ws) m
 
 -- ---- the end of a run
 
--- the attributes of the REC at an address
+-- the attributes of the REC at an address, if a REC is there
 abbrev pub rec_named : Machine → ℕ → Option Attributes
 rec_named m address = option_and_then rec_of (state_shown m address)
 
--- the address of the run page of a REC; 0 if there is none
+-- the address of the run page of a REC; 0 if there is no REC
 abbrev pub run_of : Option Attributes → ℕ
 run_of (Some rec) = rec.run
 run_of None = 0
@@ -81,13 +81,14 @@ abbrev pub interrupt_words : Option Word → ℕ → Machine → List TraceWord
 interrupt_words (Some w) run m = left (number w) run m
 interrupt_words None run m = [] ▷ put_word (Name NOT) ▷ put_word (Name IS_RUNNING)
 
--- The answer to a host interrupt, which ends the run of the REC at an address if it runs, and the resulting machine.
+-- The answer to an interrupt of the REC at an address, and the resulting machine. If the REC is RUNNING, its run ends.
 unfoldable pub interrupt_answered : ℕ → Machine → TraceReply × Machine
 interrupt_answered address m =
     (of_words (interrupt_words (interrupted m address).0 (run_of (rec_named m address)) (interrupted m address).1), (interrupted m address).1)
 
--- ---- results
+-- ---- results of guest steps
 
+-- the name of a result of this kind, as an index into the table of names
 abbrev pub result_name : ℕ → ℕ
 result_name kind =
     if kind == 0 then DONE else
@@ -101,13 +102,13 @@ result_name kind =
 abbrev pub has_value : ℕ → Bool
 has_value kind = kind == 1 || nat_le 3 kind && nat_le kind 6
 
--- a result of PSCI has its name if it is SUCCESS or DENIED
+-- the value of a result as a word: the name of a PSCI result that is SUCCESS or DENIED, and a number otherwise
 abbrev pub result_atom : ℕ → ℕ → Atom
 result_atom kind v =
     if kind == 6 && v == 0 then Name PSCI_SUCCESS
     else (if kind == 6 && v == 0xFFFFFFFFFFFFFFFD then Name PSCI_DENIED else Hexadecimal v)
 
--- a result, the first or a further one
+-- appends a result, with a comma before it if it is not the first
 unfoldable pub put_result : Bool → ℕ → ℕ → List TraceWord → List TraceWord
 put_result is_further kind v ws =
     let named = listed is_further ws ▷ put_word (Name (result_name kind)) in
@@ -116,16 +117,17 @@ put_result is_further kind v ws =
 abbrev pub result_word : Machine → ℕ → ℕ → ℕ
 result_word m rec i = unwrap_or (word_shown m rec i) 0
 
--- result k of a REC, after those before it
+-- appends result k of a REC, with a comma before it unless k is 0
 abbrev pub put_result_at : Machine → ℕ → ℕ → List TraceWord → List TraceWord
 put_result_at m rec k ws = put_result (nat_lt 0 k) (result_word m rec (128 + 2 * k)) (result_word m rec (128 + 2 * k + 1)) ws
 
--- the first results of a REC
+-- the words for the first results of a REC, as many as the given number
 unfoldable pub results : Machine → ℕ → ℕ → List TraceWord
 results m rec zero = []
 results m rec (suc k) = put_result_at m rec k (results m rec k)
 
--- the results of a REC since its last entry
+-- the answer to the reading `saw`: the results of a REC since its last entry, or one word if there is no result or no
+-- REC
 unfoldable pub saw_words : Machine → ℕ → Option Attributes → List TraceWord
 saw_words m rec (Some attributes) =
     if attributes.result_count % 32 == 0 then ([] ▷ put_word (Name NOTHING)) else results m rec (attributes.result_count % 32)

@@ -21,13 +21,14 @@ use Rattle.rmm_answers.specs.declared.reply.TraceReply.{TraceReply}
 use Rattle.rmm_answers.specs.Answering.{refused_checks}
 use Rattle.rmm_answers.specs.Replies.{is_written}
 
--- ---- words that checks allow
+-- ---- result words that the checks allow
 
+-- there is a result word, and the checks allow it
 abbrev pub allows : List EvaluatedCheck → Option Word → Bool
 allows rows (Some w) = evaluated.is_allowed rows w
 allows rows None = false
 
--- X0 is the word of the check that decided
+-- X0 is the result word of the check that decided
 abbrev pub is_word_of : ℕ → Option FailedCondition → Bool
 is_word_of x0 (Some failed) = number failed.answer.word == x0
 is_word_of x0 None = false
@@ -35,11 +36,11 @@ is_word_of x0 None = false
 abbrev pub is_ours : List EvaluatedCheck → ℕ → Bool
 is_ours rows x0 = is_word_of x0 (evaluated.first_failed rows)
 
--- X0 is a word that the checks allow, other than that of the deciding check
+-- X0 is a result word that the checks allow, and is not the word of the deciding check
 abbrev pub allows_number : List EvaluatedCheck → ℕ → Bool
 allows_number rows x0 = allows rows (word_of x0) && not (is_ours rows x0)
 
--- the check was made and failed, and its word has this status and is not that of the deciding check
+-- the check was made and failed; its result word has this status, and is not the word of the deciding check
 abbrev pub has_status : List EvaluatedCheck → ℕ → CheckOutcome → Bool
 has_status rows status (Failed answer) = number answer.word % 256 == status && not (is_ours rows (number answer.word))
 has_status rows status _ = false
@@ -47,14 +48,14 @@ has_status rows status _ = false
 abbrev pub allows_index : List EvaluatedCheck → ℕ → ℕ → Bool
 allows_index rows status index = nat_lt index 256 && allows_number rows (status + 256 * index)
 
--- a refusal with the status and the written index is allowed; `-` means any index
+-- a refusal with the status, and with the index that the trace gives, is allowed; `-` means any index
 abbrev pub allows_index_in : List EvaluatedCheck → ℕ → Atom → Bool
 allows_index_in rows status (Name place) =
     if place == DASH then list_any (λ row. has_status rows status row.outcome) rows else allows_index rows status 0
 allows_index_in rows status (Decimal index) = allows_index rows status index
 allows_index_in rows status (Hexadecimal index) = allows_index rows status index
 
--- a refusal with the status and the written index is allowed; an omitted index is 0
+-- a refusal with the status, and with the index that the trace gives, is allowed; an omitted index is 0
 abbrev pub allows_written : List EvaluatedCheck → ℕ → List TraceWord → Bool
 allows_written rows status [] = allows_index rows status 0
 allows_written rows status (w ∷ ws) = allows_index_in rows status w.value
@@ -68,13 +69,15 @@ allows_first rows (Name place) ws = allows_name rows place ws
 allows_first rows (Decimal x0) ws = not (x0 == 0) && allows_number rows x0
 allows_first rows (Hexadecimal x0) ws = not (x0 == 0) && allows_number rows x0
 
--- A written answer refuses by a word that the checks allow, and that is not the deciding check's.
+-- A written answer is a refusal with a result word that the checks allow and that is not the word of the deciding
+-- check.
 abbrev pub is_refusal_allowed : List TraceWord → List EvaluatedCheck → Bool
 is_refusal_allowed [] rows = false
 is_refusal_allowed (w ∷ ws) rows = allows_first rows w.value ws
 
 -- ---- verdicts
 
+-- a written answer could be read as words, and is an allowed refusal
 abbrev pub are_words_allowed : Option (List TraceWord) → List EvaluatedCheck → Bool
 are_words_allowed (Some ws) rows = is_refusal_allowed ws rows
 are_words_allowed None rows = false
@@ -83,7 +86,8 @@ abbrev pub is_text_allowed : List ℕ → Option (List EvaluatedCheck) → Bool
 is_text_allowed written (Some rows) = are_words_allowed (words_in 64 (slice_split (λ b. b == 32) written)) rows
 is_text_allowed written None = false
 
--- The verdict on a written answer: the model's answer, a refusal by another check of the refused call, or wrong.
+-- The verdict on a written answer: it is the model's answer, an allowed refusal by another check of the refused call,
+-- or wrong.
 unfoldable pub judged : Option Machine → List TraceWord → List ℕ → TraceReply → Verdict
 judged m question written reply =
     if is_written question written reply then Same

@@ -13,19 +13,21 @@ use Rattle.rmm_answers.specs.declared.outputs.TheConstants.{OUTPUTS, NO_OUTPUT, 
 use Rattle.rmm_answers.specs.declared.place.TheConstants.{TOP}
 use Rattle.rmm_answers.specs.Put.{◌▷◌, put_word, put_output}
 
--- the names of the outputs X1 to X4 of a command; none for a place that is no command's
+-- the names of the outputs X1 to X4 of the command at this index in the table of names; no names if no command is there
 unfoldable pub outputs_of : ℕ → List ℕ
 outputs_of place = slice_index_or OUTPUTS place NO_OUTPUTS
 
--- the place of the command with this function number; for other numbers, the place after the last
+-- the index, in the table of names, of the command with this function identifier; for any other number, the index after
+-- the last command
 unfoldable pub command_place : ℕ → ℕ
 command_place function = unwrap_or (position_from (λ f. f == function) 0 FUNCTIONS) PLATFORM
 
--- commands that return `top` beside RMI_ERROR_RTT
+-- the command returns the output `top` together with RMI_ERROR_RTT
 abbrev pub has_top : ℕ → Bool
 has_top place = place == RMI_RTT_DESTROY || place == RMI_DATA_DESTROY || place == RMI_RTT_UNMAP_UNPROTECTED
 
--- An output is returned with RMI_SUCCESS, always by RMI_VERSION, and as `top` by some commands with RMI_ERROR_RTT.
+-- The command returns the output if X0 has this value. All outputs come with RMI_SUCCESS. Those of RMI_VERSION come
+-- with any X0, and the `top` of three commands comes with RMI_ERROR_RTT too.
 unfoldable pub is_returned : ℕ → ℕ → ℕ → Bool
 is_returned place x0 name =
     if name == NO_OUTPUT then false
@@ -38,11 +40,11 @@ abbrev pub put_index : Option Atom → List TraceWord → List TraceWord
 put_index (Some a) ws = put_word a ws
 put_index None ws = ws
 
--- the result word of a call, with its index
+-- appends the status that X0 holds, with its index if an index is shown
 unfoldable pub put_status : ℕ → List TraceWord → List TraceWord
 put_status x0 ws = ws ▷ put_word (status_of x0) ▷ put_index (index_of x0)
 
--- the outputs that a command returns
+-- appends the outputs that a command returns, each with its name
 unfoldable pub put_outputs : ℕ → Registers → List TraceWord → List TraceWord
 put_outputs place after ws =
     let names = outputs_of place in
@@ -52,7 +54,7 @@ put_outputs place after ws =
 unfoldable pub put_register : ℕ → ℕ → List TraceWord → List TraceWord
 put_register name v ws = if name == NO_OUTPUT then ws else put_word (Hexadecimal v) ws
 
--- X0, and the registers in which a command has an output
+-- appends X0, and the registers in which a command has an output
 unfoldable pub put_registers : ℕ → Registers → List TraceWord → List TraceWord
 put_registers place after ws =
     let names = outputs_of place in

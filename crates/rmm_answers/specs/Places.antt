@@ -28,7 +28,7 @@ answer_places =
 unfoldable pub has_name : ℕ → List ℕ → Bool
 has_name place text = bytes_eq (nth_text place names) text
 
--- the table of names has each of these names at its place
+-- the table of names has each name of `answer_places` at its index
 unfoldable pub are_answer_places_named : Bool
 are_answer_places_named = list_all (λ it. has_name it.0 it.1) answer_places
 
@@ -54,7 +54,8 @@ command_inputs =
     (codes "rmi_data_destroy", codes "rd" ∷ codes "ipa" ∷ []) ∷
     (codes "rmi_psci_complete", codes "calling_rec" ∷ codes "target_rec" ∷ codes "status" ∷ []) ∷ []
 
--- A level and an index are decimal, a status is that of PSCI, and all else is hexadecimal.
+-- The notation is right for the input: decimal for a level or an index, PSCI for a status, and hexadecimal for any
+-- other input.
 unfoldable pub is_form_of : List ℕ → OperandForm → Bool
 is_form_of input Absent = false
 is_form_of input Decimal = bytes_eq input (codes "level") || bytes_eq input (codes "index")
@@ -65,13 +66,14 @@ unfoldable pub is_no_operand : OperandForm → Bool
 is_no_operand Absent = true
 is_no_operand _ = false
 
--- the first forms are those of these inputs, and all further ones are absent
+-- the first notations are the right ones for these inputs, in sequence, and the rest are `Absent`
 unfoldable pub are_forms : List (List ℕ) → List OperandForm → Bool
 are_forms [] forms = list_all is_no_operand forms
 are_forms (input ∷ inputs) [] = false
 are_forms (input ∷ inputs) (form ∷ forms) = is_form_of input form && are_forms inputs forms
 
--- from a place on, each command has its operands
+-- the table of names has the listed commands at the indices from this one to 22, and `OPERANDS` has the right notations
+-- for their inputs
 unfoldable pub are_operands : ℕ → List (List ℕ × List (List ℕ)) → Bool
 are_operands place [] = place == 23
 are_operands place (row ∷ rows) = has_name place row.0 && are_forms row.1 (slice_index_or OPERANDS place NO_OPERANDS) && are_operands (place + 1) rows
@@ -81,6 +83,7 @@ are_operands_named = are_operands 0 command_inputs
 
 -- ---- outputs. RMM 1.0, RMI commands: outputs
 
+-- each command, with the names of its outputs
 unfoldable pub command_outputs : List (List ℕ × List (List ℕ))
 command_outputs =
     (codes "rmi_version", codes "lower" ∷ codes "higher" ∷ []) ∷ (codes "rmi_features", codes "value" ∷ []) ∷
@@ -93,14 +96,15 @@ command_outputs =
     (codes "rmi_rtt_unmap_unprotected", codes "top" ∷ []) ∷ (codes "rmi_data_create", []) ∷ (codes "rmi_data_create_unknown", []) ∷
     (codes "rmi_data_destroy", codes "data" ∷ codes "top" ∷ []) ∷ (codes "rmi_psci_complete", []) ∷ []
 
--- the first places have these names, and all further places are 0
+-- the list begins with the indices of these names in the table of names, and all its other entries are 0
 unfoldable pub are_named : List (List ℕ) → List ℕ → Bool
 are_named [] [] = true
 are_named [] (place ∷ places) = place == 0 && are_named [] places
 are_named (text ∷ texts) [] = false
 are_named (text ∷ texts) (place ∷ places) = has_name place text && are_named texts places
 
--- from a place on, each command has its outputs
+-- the table of names has the listed commands at the indices from this one to 22, and `OUTPUTS` has the names of their
+-- outputs
 unfoldable pub are_outputs : ℕ → List (List ℕ × List (List ℕ)) → Bool
 are_outputs place [] = place == 23
 are_outputs place (row ∷ rows) = has_name place row.0 && are_named row.1 (slice_index_or OUTPUTS place []) && are_outputs (place + 1) rows
@@ -110,6 +114,7 @@ are_outputs_named = are_outputs 0 command_outputs
 
 -- ---- parameter pages. RMM 1.0, RmiRealmParams, RmiRecParams and RmiRecEnter
 
+-- the fields of RmiRealmParams, each with its name and its offset
 unfoldable pub realm_fields : List (List ℕ × ℕ)
 realm_fields =
     (codes "flags", 0x0) ∷ (codes "s2sz", 0x8) ∷ (codes "sve_vl", 0x10) ∷ (codes "num_bps", 0x18) ∷ (codes "num_wps", 0x20) ∷
@@ -122,7 +127,7 @@ rec_fields = (codes "flags", 0x0) ∷ (codes "mpidr", 0x100) ∷ (codes "pc", 0x
 unfoldable pub run_fields : List (List ℕ × ℕ)
 run_fields = (codes "flags", 0x0) ∷ (codes "gprs", 0x200) ∷ (codes "gicv3_hcr", 0x300) ∷ (codes "gicv3_lrs", 0x308) ∷ []
 
--- each field has its name and its offset
+-- the fields have these names and offsets
 unfoldable pub are_fields : List (List ℕ × ℕ) → List (ℕ × ℕ) → Bool
 are_fields [] [] = true
 are_fields (row ∷ rows) (field ∷ fields) = has_name field.0 row.0 && (field.1 == row.1) && are_fields rows fields
@@ -133,6 +138,7 @@ are_fields_named = are_fields realm_fields REALM_FIELDS && are_fields rec_fields
 
 -- ---- steps of guests, by the numbers of their kinds
 
+-- the names of the kinds of guest steps, in the sequence of the kinds' numbers
 unfoldable pub step_names : List (List ℕ)
 step_names =
     codes "write" ∷ codes "read" ∷ codes "host_call" ∷ codes "set_ripas" ∷ codes "cpu_on" ∷ codes "affinity_info" ∷ codes "cpu_off" ∷

@@ -11,7 +11,7 @@ use Rattle.rmm_trace.specs.declared.place.TheConstants.{PSCI_ARGS, REL0, RUNNABL
 use Rattle.rmm_trace.specs.declared.word.TraceWord.{TraceWord}
 use Rattle.rmm_trace.specs.Access.{operand_at, after_name, is_name}
 
--- the number after a setting's name, or its default
+-- the number at the start of these words, modulo 256, or the default if there are no words
 abbrev pub number_or : ℕ → List TraceWord → ℕ
 number_or default [] = default
 number_or default (w ∷ ws) = operand_at (w ∷ ws) 0 0 % 256
@@ -23,11 +23,11 @@ abbrev pub is_first : ℕ → List TraceWord → Bool
 is_first name [] = false
 is_first name (w ∷ ws) = is_name name w.value
 
--- a setting is given its second value, whose place follows that of the first
+-- the words give the setting its second value, whose name follows the first value's name in the table of names
 abbrev pub is_second : List TraceWord → ℕ → ℕ → Bool
 is_second ws name first = is_first (first + 1) (after_name name ws)
 
--- the RMM settings read from a platform's words, with defaults for those not given
+-- the RMM settings read from the words of a `platform` line, with defaults for settings that the line does not give
 unfoldable pub settings_in : List TraceWord → RmmSettings
 settings_in ws = record {
   base = operand_at ws 0 0;
@@ -57,6 +57,6 @@ settings_in ws = record {
 abbrev pub is_opened : List TraceWord → Bool
 is_opened ws = nat_le 1 (operand_at ws 1 0) && nat_le (operand_at ws 1 0) 4096 && is_platform (settings_in ws)
 
--- The fresh machine of a platform: its granules are UNDELEGATED, and their bytes are 0.
+-- The fresh machine of a platform, if it can be opened: the machine's granules are UNDELEGATED, and their bytes are 0.
 unfoldable pub machine_of_platform : List TraceWord → Option Machine
 machine_of_platform ws = if is_opened ws then Some (platform_machine (settings_in ws) (replicate (operand_at ws 1 0) zero_page)) else None

@@ -5,7 +5,7 @@ use Rattle.rmm_trace.specs.declared.word.Atom.TheVariants.{Name}
 use Rattle.rmm_trace.specs.declared.word.TraceWord.{TraceWord}
 use Rattle.rmm_trace.specs.Answers.{plain, output_atom, with_comma}
 
--- words, and what is put after them
+-- the words `ws`, with what `f` appends to them
 infixl 10 ◌▷◌
 abbrev pub ◌▷◌ : List TraceWord → (List TraceWord → List TraceWord) → List TraceWord
 ws ▷ f = f ws
@@ -13,15 +13,15 @@ ws ▷ f = f ws
 abbrev pub put_word : Atom → List TraceWord → List TraceWord
 put_word a ws = ws ++ plain a ∷ []
 
--- the first word of a further part: a comma is before it
+-- begins a further part of an answer: appends a comma and the part's first word
 abbrev pub put_part : Atom → List TraceWord → List TraceWord
 put_part a ws = with_comma ws ++ plain a ∷ []
 
--- a part that is a name
+-- appends a further part of an answer, which is a name alone
 abbrev pub put_flag : ℕ → List TraceWord → List TraceWord
 put_flag name ws = put_part (Name name) ws
 
--- a part that is a name and its value
+-- appends a further part of an answer, which is a name with a value
 unfoldable pub put_value : ℕ → Atom → List TraceWord → List TraceWord
 put_value name a ws = ws ▷ put_part (Name name) ▷ put_word a
 

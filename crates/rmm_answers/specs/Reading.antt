@@ -28,6 +28,7 @@ use Rattle.rmm_answers.specs.Replies.{of_words}
 
 -- ---- granules
 
+-- the name of a granule state, as an index into the table of names
 abbrev pub state_name : RmmGranuleState → ℕ
 state_name Undelegated = UNDELEGATED
 state_name Delegated = DELEGATED
@@ -41,14 +42,14 @@ abbrev pub state_atom : Option RmmGranuleState → Atom
 state_atom (Some state) = Name (state_name state)
 state_atom None = Name NONE
 
--- granules whose pages have the RMM's own content
+-- a granule in this state holds the RMM's own data
 abbrev pub holds_rmm_data : RmmGranuleState → Bool
 holds_rmm_data (Rd realm) = true
 holds_rmm_data (Rec rec) = true
 holds_rmm_data Rtt = true
 holds_rmm_data _ = false
 
--- the sum of the bytes of the granule at an address
+-- the sum of the bytes of the granule at an address; 0 if the RMM has its own data there, or no granule is there
 abbrev pub granule_sum : Machine → ℕ → RmmGranuleState → ℕ
 granule_sum m address state = if holds_rmm_data state || not (is_inside m address) then 0 else sum (page_in m (number_of m address))
 
@@ -58,16 +59,17 @@ sum_atom m address None = Name NONE
 
 -- ---- realms
 
+-- the name of a realm state, as an index into the table of names
 abbrev pub realm_state_name : RmmRealmState → ℕ
 realm_state_name New = NEW
 realm_state_name Active = ACTIVE
 realm_state_name SystemOff = IS_SYSTEM_OFF
 
--- the realm whose RD is at an address
+-- the realm whose RD is at an address, if an RD is there
 abbrev pub realm_named : Machine → ℕ → Option RmmRealm
 realm_named m address = option_and_then realm_of (state_shown m address)
 
--- the attributes of a realm in words, on a machine whose granules begin at `base`
+-- the words for a realm's attributes, on a machine whose granules begin at `base`
 unfoldable pub realm_words : RmmRealm → ℕ → List TraceWord
 realm_words realm base =
     [] ▷ put_word (Name (realm_state_name realm.state)) ▷ put_value S2SZ (Decimal realm.s2sz) ▷ put_value LEVEL (Decimal realm.start_level)
@@ -78,7 +80,7 @@ abbrev pub realm_answer : Option RmmRealm → ℕ → List TraceWord
 realm_answer (Some realm) base = realm_words realm base
 realm_answer None base = [] ▷ put_word (Name NONE)
 
--- the digest of a measurement; that of SHA-256 is its first half
+-- the digest in a measurement: its first 32 bytes for SHA-256, and all its bytes for SHA-512
 abbrev pub digest_of : HashAlgorithm → List ℕ → Digest
 digest_of BySha256 rim = Sha256 (take 32 rim)
 digest_of BySha512 rim = Sha512 rim
@@ -89,6 +91,7 @@ rim_reply None = of_words ([] ▷ put_word (Name NONE))
 
 -- ---- RECs
 
+-- the address of the RD with this granule number; 0 if no number is given
 abbrev pub rd_address : Machine → Option ℕ → ℕ
 rd_address m (Some rd) = (m.settings.base + 4096 * rd) % 2 ^ 64
 rd_address m None = 0
@@ -103,7 +106,7 @@ put_pending is ws = if is then put_flag PENDING ws else ws
 abbrev pub rec_page_word : Machine → ℕ → ℕ → ℕ
 rec_page_word m rec i = unwrap_or (word_shown m rec i) 0
 
--- the attributes of a REC at an address
+-- the words for the attributes of the REC at an address
 unfoldable pub rec_words : Machine → ℕ → Attributes → List TraceWord
 rec_words m address rec =
     [] ▷ put_word (Name (if is_running rec.state then RUNNING else READY)) ▷ put_value RD (Hexadecimal (owner_address m address))

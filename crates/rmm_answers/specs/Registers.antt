@@ -15,17 +15,19 @@ abbrev pub names_after : List ℕ → List ℕ
 names_after [] = []
 names_after (name ∷ names) = names
 
--- A register is compared if the call returns it. Of others the standard says nothing.
+-- The trace's word for a register is `-`, or agrees with the model's word; any number will do if the call returns no
+-- output there. The standard says nothing about these registers.
 abbrev pub is_same_output : Bool → TraceWord → TraceWord → Bool
 is_same_output is_output written ours = if is_output then is_same_register written ours else is_register written
 
--- the written registers from X1 on agree with the model's, if the command returns an output in them
+-- the trace's words for the registers from X1 on agree with the model's words, as far as the call returns outputs there
 abbrev pub are_outputs_same : ℕ → ℕ → List ℕ → List TraceWord → List TraceWord → Bool
 are_outputs_same place x0 names [] ours = true
 are_outputs_same place x0 names (w ∷ ws) ours =
     is_same_output (is_returned place x0 (first_name names)) w (first_of ours) && are_outputs_same place x0 (names_after names) ws (rest_of ours)
 
--- The written registers of a command's answer agree with the model's: X0, and the outputs returned with its X0.
+-- The registers that a trace gives as a command's answer agree with the model's in X0, and in each output that is
+-- returned with that X0.
 abbrev pub registers_agree : ℕ → List TraceWord → List TraceWord → Bool
 registers_agree place [] ours = true
 registers_agree place (w ∷ ws) ours =

@@ -19,19 +19,19 @@ use Rattle.rmm_answers.specs.Put.{◌▷◌, put_word}
 use Rattle.rmm_answers.specs.Registers.{registers_agree}
 use Rattle.rmm_answers.specs.Words.{first_place}
 
--- an answer of these words that refuses no call
+-- the answer that consists of these words and is not the refusal of a call
 abbrev pub of_words : List TraceWord → TraceReply
 of_words ws = record { words = record { items = ws }; rim = None; refused = None }
 
--- the empty answer, as given to a platform that is opened
+-- the empty answer, which a `platform` question gets if it opens a machine
 abbrev pub no_answer : TraceReply
 no_answer = of_words []
 
--- the answer to a line that is no command
+-- the answer `no command` to a line that is not a command
 unfoldable pub no_command : TraceReply
 no_command = of_words ([] ▷ put_word (Name NO) ▷ put_word (Name COMMAND))
 
--- two small hexadecimal digits for each byte
+-- the text of a digest: two lower-case hexadecimal digits for each byte
 abbrev pub digest_text : Digest → List ℕ
 digest_text (Sha256 bytes) = encode_lower bytes
 digest_text (Sha512 bytes) = encode_lower bytes
@@ -48,11 +48,11 @@ abbrev pub is_absent : Option Digest → Bool
 is_absent None = true
 is_absent (Some digest) = false
 
--- there is no answer
+-- the reply is empty: it has neither words nor a measurement
 abbrev pub is_unanswered : TraceReply → Bool
 is_unanswered reply = is_none_left reply.words.items && is_absent reply.rim
 
--- the text of an answer
+-- the text of a reply: the digits of its measurement, or its words
 abbrev pub reply_text : TraceReply → List ℕ
 reply_text reply = text_by reply.rim reply.words.items
 

@@ -8,8 +8,9 @@ use Rattle.rmm_trace.specs.declared.word.TraceWord.{TraceWord}
 use Rattle.rmm_trace.specs.Access.{operand_at, call_registers}
 use Rattle.rmm_answers.specs.declared.rounds.LastCall.{LastCall}
 
--- ---- calls
+-- ---- rounds of calls
 
+-- the registers X0 to X6 with these values; all 0 if no values are given
 abbrev pub registers_in : Option (List ℕ) → Registers
 registers_in (Some xs) = record {
   x0 = slice_index xs 0;
@@ -22,15 +23,16 @@ registers_in (Some xs) = record {
 }
 registers_in None = record { x0 = 0; x1 = 0; x2 = 0; x3 = 0; x4 = 0; x5 = 0; x6 = 0 }
 
--- the registers of a call in a round
+-- the input registers of a call in a round
 unfoldable pub asked : List TraceWord → ℕ → Registers
 asked call round = registers_in (call_registers call round)
 
--- a round as the last one performed, with its output registers, and the resulting machine
+-- the round that is performed last, with its number and output registers, and the resulting machine
 abbrev pub last : ℕ → Registers × Machine → LastCall × Machine
 last round after = (record { round = round; after = after.0 }, after.1)
 
--- the last round: `round`, or one of at most the given number after it; another follows only after RMI_SUCCESS
+-- the last round of a call that has performed this round; at most the given number of rounds follow, each only after
+-- RMI_SUCCESS
 unfoldable pub more_rounds : ℕ → List TraceWord → ℕ → Registers × Machine → LastCall × Machine
 more_rounds zero call round after = last round after
 more_rounds (suc left) call round after =
@@ -40,9 +42,9 @@ more_rounds (suc left) call round after =
 unfoldable pub performed_rounds : ℕ → List TraceWord → Machine → LastCall × Machine
 performed_rounds more call m = more_rounds more call 0 (rmi (asked call 0) m)
 
--- ---- fills
+-- ---- rounds of fills
 
--- whether the host may fill the page of a round, and the machine after it
+-- whether the host may fill the page of a round, and the machine after the fill
 unfoldable pub filled : List TraceWord → ℕ → Machine → Bool × Machine
 filled operands round m =
     let address = operand_at operands 0 round in
@@ -56,6 +58,6 @@ more_fills zero operands round after = last_fill round after
 more_fills (suc left) operands round after =
     if after.0 then more_fills left operands (round + 1) (filled operands (round + 1) after.1) else last_fill round after
 
--- The number of the last round of a fill, whether that round is done, and the resulting machine.
+-- The number of the last round of a fill, whether that round was done, and the resulting machine.
 unfoldable pub filled_rounds : ℕ → List TraceWord → Machine → ℕ × Bool × Machine
 filled_rounds more operands m = more_fills more operands 0 (filled operands 0 m)

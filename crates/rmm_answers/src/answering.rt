@@ -158,8 +158,8 @@ fn answer_repeat<S: PageStore>(reply: &mut TraceReply, rmm: &mut Rmm<S>, words: 
     answer_rounds(reply, rmm, rest(words), more);
 }
 
-/// Performs a trace's question on an RMM, and writes the answer to `reply`. A `platform` question gets the answer
-/// `no command`.
+/// Performs what a trace's question asks of an RMM, and writes the answer to `reply`. A `platform` question gets the
+/// answer `no command`.
 #[tactic(auto, unfolding(crate::specs::Answering::answered_on))]
 pub fn answer_on<S: PageStore>(rmm: &mut Rmm<S>, question: &[TraceWord], reply: &mut TraceReply)
     ensures { (reply.new, rmm.new) ≡ specs.answered_on question.now rmm.old }
@@ -188,8 +188,8 @@ fn call_in(question: &[TraceWord]) -> &[TraceWord]
     }
 }
 
-/// Evaluates the checks of an RMI call that an RMM has refused. `reply` is the reply to that call. The machine is still
-/// the one at the call, since a refusal changes nothing.
+/// Evaluates the checks of an RMI call that an RMM has refused, or returns `None` if no call was refused. `reply` is
+/// the reply to that call. The machine is still the one at the call, since a refusal changes nothing.
 #[tactic(auto, unfolding(crate::specs::Answering::refused_checks))]
 pub fn checks_on<S: PageStore>(
     rmm: &Rmm<S>,

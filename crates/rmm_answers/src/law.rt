@@ -1,4 +1,5 @@
-//! Theorems about the tables of names for traces, and about refused calls.
+//! Theorems that the indices of names and this crate's tables are right, and that a refused RMI call leaves the machine
+//! unchanged.
 ghost use Rattle.std.specs.Prelude.{◌≡◌, ◌+◌, ◌++◌, true, codes};
 ghost use Rattle.rmi_abi.specs.declared.registers.Registers.{Registers};
 ghost use Rattle.rmm_checks.specs.Names.{name_of};
@@ -11,7 +12,7 @@ ghost use Rattle.rmm_answers.specs.Places.{has_name, are_answer_places_named, ar
 ghost use Rattle.rmm_answers.specs.Places.{are_fields_named, are_steps_named};
 ghost use Rattle.rmm_answers.specs.declared.page.TheConstants.{NUM_AUX};
 
-/// Proves that each constant of `place` is the index of its name in the name table.
+/// Proves that each constant of the module `place` is the index of its name in the table of names.
 pub fn answer_places_are_of_their_names()
     ensures { are_answer_places_named ≡ true }
 {}

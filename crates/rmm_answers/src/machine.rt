@@ -73,9 +73,9 @@ impl TraceMachine {
         }
     }
 
-    /// Performs a question of a trace on the machine, and writes the answer to `reply`. A `platform` question opens a
-    /// fresh machine, or gets the answer `no command`. No other question takes memory, and an error leaves the machine
-    /// unchanged. Before the first platform that is opened, any other question gets the answer `no command`.
+    /// Performs what a trace's question asks of the machine, and writes the answer to `reply`. A `platform` question
+    /// opens a fresh machine, or gets the answer `no command`. No other question takes memory, and an error leaves the
+    /// machine unchanged. Before the first platform that is opened, any other question gets the answer `no command`.
     #[tactic(auto, unfolding(crate::specs::Answering::answered))]
     pub fn answer(
         &mut self,
@@ -94,8 +94,8 @@ impl TraceMachine {
         Ok(())
     }
 
-    /// Evaluates the checks of an RMI call that the machine has refused. `reply` is the reply to that call. The machine
-    /// is still the one at the call, since a refusal changes nothing.
+    /// Evaluates the checks of an RMI call that the machine has refused, or returns `None` if no call was refused.
+    /// `reply` is the reply to that call. The machine is still the one at the call, since a refusal changes nothing.
     pub fn checks(&self, question: &[TraceWord], reply: &TraceReply) -> Option<EvaluatedChecks>
         ensures { result ≡ option_and_then (specs.refused_checks question.now reply.now) self.now }
     {

@@ -116,7 +116,7 @@ fn named_call(place: usize, words: &[TraceWord]) -> Sentence
     call
 }
 
-/// Rewrites a raw call `smc FID X1 ..` as a call of a named command. Returns `None` if the function is no command.
+/// Rewrites a raw call `smc FID X1 ..` as a call of a named command. Returns `None` if the function is not a command.
 #[tactic(auto, unfolding(crate::specs::Naming::named_question))]
 pub fn named_question(question: &[TraceWord]) -> Option<Sentence>
     ensures { option_map (λ call. call.items) result ≡ naming.named_question question.now }

@@ -16,7 +16,7 @@ use Rattle.rmm_c.specs.declared.guest.GuestStepResult.{GuestStepResult}
 
 -- ---- steps
 
--- the step as the RMM has it
+-- a guest's step from its C struct, in the RMM's form
 abbrev pub words_of : RawStep → StepWords
 words_of step = record { kind = step.kind; a = step.a; b = step.b; c = step.c; d = step.d }
 
@@ -25,14 +25,14 @@ queued_code IsQueued = 0
 queued_code Full = 1
 queued_code NoRec = 2
 
--- The return code and the new machine, when a step is queued for a REC's guest. A closed handle has no REC.
+-- The return code and the new machine after an attempt to queue a step for a REC's guest. A closed handle has no REC.
 abbrev pub on_guest : ℕ → RawStep → Option Machine → ℕ × Option Machine
 on_guest rec step (Some m) = (queued_code (queued m rec (words_of step)).0, Some (queued m rec (words_of step)).1)
 on_guest rec step None = (2, None)
 
 -- ---- the end of a run
 
--- the word that RMI_REC_ENTER returns when a REC's run is interrupted; none if it does not run
+-- the word that RMI_REC_ENTER returns when a REC's run is interrupted; none if the REC is not running
 abbrev pub interrupt_word : ℕ → Machine → Option ℕ
 interrupt_word rec m = option_map number (interrupted m rec).0
 
@@ -41,15 +41,16 @@ after_interrupt rec m = (interrupted m rec).1
 
 -- ---- results
 
--- the result whose kind and value are words `first` and `first + 1` of the REC's granule
+-- the result whose kind and value are words `first` and `first + 1` of a REC's granule
 abbrev pub outcome_shown : ℕ → ℕ → Machine → Option GuestStepResult
 outcome_shown rec first m =
     option_and_then (λ kind. option_map (λ value. record { kind = kind; value = value }) (word_shown m rec (first + 1))) (word_shown m rec first)
 
--- result k of a REC with these attributes
+-- result `k` of the guest of a REC with these attributes, if there is such a result
 abbrev pub outcome_in : ℕ → ℕ → Machine → RmmRec → Option GuestStepResult
 outcome_in rec k m attributes = if nat_lt k 32 && nat_lt k attributes.result_count then outcome_shown rec (128 + 2 * k) m else None
 
--- Result k of the guest's steps since the last entry of the REC at an address.
+-- Result `k` of the guest of the REC at an address, if there is such a result. Results are counted from the REC's last
+-- entry on.
 abbrev pub result_shown : ℕ → ℕ → Machine → Option GuestStepResult
 result_shown rec k m = option_and_then (outcome_in rec k m) (option_and_then rec_of (state_shown m rec))

@@ -1,4 +1,4 @@
--- The check that decides an RMI call given by its registers, and the result words that an RMM may answer. RMM 1.0,
+-- The check that decides an RMI call given by its registers, and the result words that an RMM may return. RMM 1.0,
 -- failure conditions of RMI commands and their ordering.
 use Rattle.std.specs.Prelude.{ℕ, ◌==◌, ◌-◌, ◌^◌, Bool, false, List, Option, Some, None}
 use Rattle.std.specs.List.{list_any}
@@ -18,40 +18,41 @@ use Rattle.rmm_c.specs.Smc.{call_of}
 
 -- ---- the check that decides
 
--- the number of the check by which a call is refused; 0 if it is not
+-- the number of the check by which a call is refused; 0 if the call is not refused
 abbrev pub check_number : Option FailedCondition → ℕ
 check_number (Some refusal) = condition_number refusal.condition
 check_number None = 0
 
--- the number of the first failing check; 0 if there is none, or the function is no command
+-- the number of the first failing check of a call; 0 if none fails, or if the function is not a command
 abbrev pub check_of_call : Option Call → Machine → ℕ
 check_of_call (Some call) m = check_number (first_failing (command_of call m).checks)
 check_of_call None m = 0
 
--- The number of the check that decides a call: of the first that fails. A closed handle has no check.
+-- The number of the check that decides a call: the first check that fails, or 0 if none fails. A closed handle has no
+-- check.
 abbrev pub deciding_check : SmcRegisters → Option Machine → ℕ
 deciding_check r (Some m) = check_of_call (call_in (call_of r)) m
 deciding_check r None = 0
 
 -- ---- the words that are allowed
 
--- a number is one of these words
+-- the value of X0 is one of these words
 abbrev pub is_among_words : ℕ → List Word → Bool
 is_among_words x0 words = list_any (λ word. x0 == number word) words
 
--- X0 is a word that the command may answer, or NOT_SUPPORTED if the function is no command
+-- the value of X0 is a word that the command may return, or NOT_SUPPORTED if the function is not a command
 abbrev pub is_answer_of_call : Option Call → ℕ → Machine → Bool
 is_answer_of_call (Some call) x0 m = is_among_words x0 (allowed_words (command_of call m))
 is_answer_of_call None x0 m = x0 == 2 ^ 64 - 1
 
--- An RMM may answer a call with an X0. A closed handle is firmware without an RMM.
+-- An RMM may answer a call with this value of X0. A closed handle is firmware without an RMM.
 abbrev pub may_answer : SmcRegisters → ℕ → Option Machine → Bool
 may_answer r x0 (Some m) = is_answer_of_call (call_in (call_of r)) x0 m
 may_answer r x0 None = x0 == 2 ^ 64 - 1
 
 -- ---- evaluated checks
 
--- a check was made and failed, and its answer has this X0
+-- a check was made and failed, and its answer has this value of X0
 abbrev pub refuses_with : ℕ → CheckOutcome → Bool
 refuses_with x0 (Failed answer) = x0 == number answer.word
 refuses_with x0 _ = false

@@ -24,18 +24,20 @@ line_answered line m = answered_by line.kind line.words.items m
 abbrev pub on_line : List ℕ → Option Machine → TraceReply × Option Machine
 on_line bytes m = line_answered (line_in GROUPS START bytes) m
 
--- a text in a buffer, as snprintf of C11 puts it there: as much as fits before a zero
+-- a buffer after a text was written to it as C11's `snprintf` does: as much of the text as fits, then a zero
 abbrev pub put_text : List ℕ → List ℕ → List ℕ
 put_text text [] = []
 put_text text (b ∷ bs) = let kept = take (length bs) text in kept ++ 0 ∷ drop (length kept) bs
 
--- A line is answered: its text is in the buffer, and the length of the text is returned.
+-- A line is answered: the buffer has as much of the answer's text as fits, and the length of the whole text is
+-- returned.
 pub record IsLineAnswered (bytes old : List ℕ) (before : Option Machine) (returned : ℕ) (new : List ℕ) (after : Option Machine) : Type 0 where
   pub count : returned ≡ length (reply_text (on_line bytes before).0)
   pub text : new ≡ put_text (reply_text (on_line bytes before).0) old
   pub machine : after ≡ (on_line bytes before).1
 
--- A line is not answered if allocation failed: the buffer is unchanged, and the line was performed or nothing changed.
+-- A line has no answer because allocation failed: the buffer is unchanged, and either the line was performed or nothing
+-- changed.
 pub record IsLineLost (bytes old : List ℕ) (before : Option Machine) (new : List ℕ) (after : Option Machine) : Type 0 where
   pub text : new ≡ old
   pub machine : (after ≡ before) ⊎ (after ≡ (on_line bytes before).1)

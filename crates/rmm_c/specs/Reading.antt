@@ -19,17 +19,19 @@ use Rattle.rmm_model.specs.Machine.{Machine}
 use Rattle.rmm_c.specs.declared.attributes.RealmAttributes.{RealmAttributes}
 use Rattle.rmm_c.specs.declared.attributes.RecAttributes.{RecAttributes}
 
--- The answer is whether a value was read. The new value is the one that was read, or the old one if none was.
+-- A function that reads a value answers whether there was one to read. The new value is the one that was read, or the
+-- old one if none was.
 pub record Reports {A : Type 0} (read : Option A) (old : A) (answer : Bool) (new : A) : Type 0 where
   pub is_read : answer ≡ is_some read
   pub value : new ≡ unwrap_or read old
 
--- A reading of the machine of a handle: on a closed one there is nothing to read.
+-- A function reads a value from the machine of a handle; a closed handle has nothing to read.
 abbrev pub Reads : {A : Type 0} → (Machine → Option A) → Option Machine → A → Bool → A → Type 0
 Reads read m old answer new = Reports (option_and_then read m) old answer new
 
--- ---- numbers of states. RMM 1.0, RmmGranuleState, RmmRealmState, RmmRecState
+-- ---- the numbers of states in the C interface. RMM 1.0, RmmGranuleState, RmmRealmState, RmmRecState
 
+-- the number of a granule's state in the C interface
 abbrev pub granule_state_code : RmmGranuleState → ℕ
 granule_state_code Undelegated = 0
 granule_state_code Delegated = 1
@@ -52,12 +54,13 @@ abbrev pub hash_code : HashAlgorithm → ℕ
 hash_code Sha256 = 0
 hash_code Sha512 = 1
 
--- a fact as a number: 1 if it holds
+-- a flag as a number: 1 if it holds, and 0 if not
 abbrev pub flag : Bool → ℕ
 flag holds = if holds then 1 else 0
 
 -- ---- granules, realms and RECs by address
 
+-- the number of the state of the granule at an address, if there is such a granule
 abbrev pub state_code_shown : ℕ → Machine → Option ℕ
 state_code_shown address m = option_map granule_state_code (state_shown m address)
 
@@ -76,7 +79,7 @@ realm_attributes base realm = record {
   rim = realm.rim;
 }
 
--- the realm whose RD is at an address
+-- the attributes of the realm whose RD is at an address, if there is one
 abbrev pub realm_shown : ℕ → Machine → Option RealmAttributes
 realm_shown rd m = option_map (realm_attributes m.settings.base) (option_and_then realm_of (state_shown m rd))
 
@@ -93,6 +96,6 @@ rec_attributes rec = record {
   is_psci_pending = flag (is_pending rec.psci);
 }
 
--- the REC at an address
+-- the attributes of the REC at an address, if there is one
 abbrev pub rec_shown : ℕ → Machine → Option RecAttributes
 rec_shown rec m = option_map rec_attributes (option_and_then rec_of (state_shown m rec))

@@ -8,13 +8,13 @@ use Rattle.rmm_model.specs.Machine.{Machine}
 use Rattle.rmm_granules.specs.Inside.{platform_machine}
 use Rattle.rmm_c.specs.declared.settings.PlatformSettings.{PlatformSettings}
 
--- each number fits its field
+-- each number of the C struct fits the field that holds it in the RMM's settings
 abbrev pub fit : PlatformSettings → Bool
 fit s =
     nat_le s.secure_count 65535 && nat_le s.aux 255 && nat_le s.vmid_bits 255 && nat_le s.s2sz 255 && nat_le s.max_recs_order 255
     && nat_le s.block_level 255 && nat_le s.bps 255 && nat_le s.wps 255 && nat_le s.lrs 255 && nat_le s.layout 1
 
--- the settings of an RMM
+-- the RMM's settings, with the numbers of the C struct
 abbrev pub settings_of : PlatformSettings → RmmSettings
 settings_of s = record {
   base = s.base;
@@ -40,14 +40,14 @@ settings_of s = record {
   checks_gic = s.checks_gic;
 }
 
--- the platform of the settings, or none if a setting is out of its range
+-- the RMM's settings for a C struct; none if a setting is out of range
 abbrev pub platform_of : PlatformSettings → Option RmmSettings
 platform_of s = if fit s && is_platform (settings_of s) then Some (settings_of s) else None
 
--- A machine has these settings: 1 to 4,096 granules, and each setting in its range.
+-- A machine can have these settings: there are 1 to 4,096 granules, and each setting is in its range.
 abbrev pub is_machine : PlatformSettings → Bool
 is_machine s = nat_le 1 s.granules && nat_le s.granules 4096 && (fit s && is_platform (settings_of s))
 
--- The machine of a handle that is opened: its granules are UNDELEGATED, and their bytes are 0.
+-- The machine of a newly opened handle: its granules are UNDELEGATED, and their bytes are 0.
 abbrev pub opened_machine : PlatformSettings → Machine
 opened_machine s = platform_machine (settings_of s) (replicate s.granules zero_page)

@@ -6,11 +6,11 @@ use Rattle.rmm_model.specs.Call.{rmi}
 use Rattle.rmm_model.specs.Machine.{Machine}
 use Rattle.rmm_c.specs.declared.smc.SmcRegisters.{SmcRegisters}
 
--- the registers as the RMM has them
+-- the registers of the C struct, in the RMM's form
 abbrev pub call_of : SmcRegisters → Registers
 call_of r = record { x0 = r.x0; x1 = r.x1; x2 = r.x2; x3 = r.x3; x4 = r.x4; x5 = r.x5; x6 = r.x6 }
 
--- the registers as C has them
+-- the RMM's registers, in the form of the C struct
 abbrev pub smc_registers : Registers → SmcRegisters
 smc_registers r = record { x0 = r.x0; x1 = r.x1; x2 = r.x2; x3 = r.x3; x4 = r.x4; x5 = r.x5; x6 = r.x6 }
 

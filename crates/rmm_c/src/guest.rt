@@ -71,7 +71,7 @@ pub extern "C" fn rmm_guest(alloc: Global, handle: &mut RmmHandle, rec: u64, ste
     code(queued)
 }
 
-// Ends the run of a REC, and returns the result word of the REC's entry; `None` if the REC does not run.
+// Ends the run of a REC, and returns the result word of the REC's entry; `None` if the REC is not running.
 fn interrupt(plain: &mut PlainRmm, rec: u64) -> Option<u64>
     ensures word { result ≡ interrupt_word rec plain.old }
     ensures machine { plain.new ≡ after_interrupt rec plain.old }
@@ -81,7 +81,7 @@ fn interrupt(plain: &mut PlainRmm, rec: u64) -> Option<u64>
 }
 
 /// Interrupts a running REC, and writes the result word of its RMI_REC_ENTER to `word`. Returns false, and changes
-/// nothing, if the REC does not run.
+/// nothing, if the REC is not running.
 #[unsafe(no_mangle)]
 pub extern "C" fn rmm_interrupt(
     alloc: Global,

@@ -11,7 +11,7 @@ use box_parts::BoxParts;
 use std::alloc::Global;
 use std::marker::Model;
 
-/// A pointer to an RMM on the heap, null if there is none.
+/// A pointer to an RMM on the heap, or null if there is none.
 #[repr(C)]
 #[derive(Drop)]
 pub struct HeldRmm {

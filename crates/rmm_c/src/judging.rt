@@ -1,4 +1,4 @@
-//! Functions that find why a call is refused, and whether an RMM may return a result word.
+//! Functions that find out why a call is refused, and whether an RMM may return a result word.
 ghost use Rattle.std.specs.Prelude.{◌≡◌};
 ghost use Rattle.std.specs.List.{list_any};
 ghost use Rattle.rmi_abi.specs.Call.{call_in};
@@ -84,8 +84,8 @@ fn is_allowed(plain: &PlainRmm, registers: Registers, x0: u64) -> bool
 /// Returns the number of the failure condition for which a handle's RMM would now refuse the call with the given
 /// registers. The call is not performed.
 ///
-/// The number is 0 if no check fails, for a function that is no command, and on a closed handle. The numbers are those
-/// of the failure conditions in `rmm_model::Condition`, from 1 on.
+/// The number is 0 if no check fails, for a function that is not a command, and on a closed handle. The numbers are
+/// those of the failure conditions in `rmm_model::Condition`, from 1 on.
 #[unsafe(no_mangle)]
 pub extern "C" fn rmm_deciding_check(
     alloc: Global,
@@ -107,7 +107,7 @@ pub extern "C" fn rmm_deciding_check(
 /// Returns whether an RMM in the handle's current state may return `x0` in X0 for the call with the given registers.
 /// The call is not performed.
 ///
-/// X0 may be the word of each check that is made and fails, and RMI_SUCCESS if none does. For a function that is no
+/// X0 may be the word of each check that is made and fails, and RMI_SUCCESS if none does. For a function that is not a
 /// command, and on a closed handle, it is NOT_SUPPORTED alone. RMM 1.0, failure conditions and their ordering.
 #[unsafe(no_mangle)]
 pub extern "C" fn rmm_is_allowed(

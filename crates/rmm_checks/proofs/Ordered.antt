@@ -1,4 +1,4 @@
--- A proof that the checks on which a check of an RMI command depends are earlier in the command's list.
+-- A proof that each check of an RMI command comes after the checks on which it depends.
 use Rattle.std.proofs.Common.{◌≡◌, true, [], refl}
 use Rattle.rmi_abi.specs.declared.call.Call.{Call}
 use Rattle.rmi_abi.specs.declared.call.Call.TheVariants.{Version, Features, GranuleDelegate, GranuleUndelegate, RealmCreate, RealmActivate, RealmDestroy, RecAuxCount, RecCreate, RecDestroy, RecEnter, RttCreate, RttDestroy, RttFold, RttReadEntry, RttMapUnprotected, RttUnmapUnprotected, DataCreate, DataCreateUnknown, DataDestroy, RttInitRipas, RttSetRipas, PsciComplete}

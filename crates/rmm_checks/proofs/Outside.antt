@@ -1,4 +1,4 @@
--- A proof that the model gives a granule outside the machine the state UNDELEGATED and no owner.
+-- A proof that, in the model, a granule outside the machine is UNDELEGATED and belongs to no realm.
 use Rattle.std.proofs.Common.{◌≡◌, ℕ, ◌≤◌}
 use Rattle.std.proofs.lemmas.List.{get_or_past}
 use Rattle.rmm_model.specs.declared.granule.RmmGranuleState.TheVariants.{Undelegated}

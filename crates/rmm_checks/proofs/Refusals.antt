@@ -1,4 +1,4 @@
--- Proofs that the first failed check of a call, and the words of all failed checks, agree with the command's
+-- Proofs that the first failed check of a call, and the result words of all failed checks, agree with the command's
 -- definition.
 use Rattle.std.specs.Prelude.{if◌then◌else◌}
 use Rattle.std.proofs.Common.{◌≡◌, ◌==◌, ◌&&◌, ◌||◌, Bool, true, false, cond, List, [], ◌∷◌, ◌++◌, Option, Some, None, ⊎_elim, refl, ap, sym, ◌∙◌, append_assoc}

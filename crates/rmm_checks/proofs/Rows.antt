@@ -1,5 +1,5 @@
--- Proofs that two lists of checks evaluated one after another are evaluated as one list, and that an equal test or
--- answer gives an equal result.
+-- Proofs that evaluating two lists of checks one after another is the same as evaluating their concatenation, and that
+-- a check with an equal test or answer is evaluated equally.
 use Rattle.std.proofs.Common.{◌≡◌, Bool, true, false, not, List, [], ◌∷◌, ◌++◌, Option, Some, None, is_none, is_some, refl, ap, subst, ◌∙◌}
 use Rattle.rmi_abi.specs.declared.registers.SmcResult.{SmcResult}
 use Rattle.rmm_model.specs.declared.condition.Condition.{Condition}

@@ -1,5 +1,5 @@
--- Proofs that a check is evaluated by its definition even if its test and answer are known to match the definition only
--- when the check is made.
+-- Proofs that a check is evaluated as it is defined if its test and its answer agree with the definition whenever the
+-- check is made.
 use Rattle.std.specs.Prelude.{if◌then◌else◌}
 use Rattle.std.proofs.Common.{◌≡◌, ℕ, ◌==◌, ◌&&◌, ◌||◌, Bool, true, false, not, List, [], ◌∷◌, ◌++◌, ⊎_elim, refl, ap, sym, ◌∙◌}
 use Rattle.std.specs.List.{list_all}

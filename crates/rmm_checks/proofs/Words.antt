@@ -1,4 +1,4 @@
--- Proofs that the allowed answers of an RMM are the words of the failed checks, or RMI_SUCCESS alone if no check
+-- Proofs that the result words allowed to an RMM are those of the failed checks, or RMI_SUCCESS alone if no check
 -- failed.
 use Rattle.std.proofs.Common.{◌≡◌, ◌==◌, ◌||◌, Bool, true, false, List, [], ◌∷◌, refl, ap, sym, ◌∙◌}
 use Rattle.std.specs.List.{list_any}

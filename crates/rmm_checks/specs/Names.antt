@@ -90,7 +90,7 @@ name_of Owner = codes "owner"
 name_of Target = codes "target"
 name_of Status = codes "status"
 
--- the conditions, each once
+-- all failure conditions, each once
 abbrev pub conditions : List Condition
 conditions =
     Version ∷ GranAlign ∷ GranBound ∷ GranState ∷ GranGpt ∷ RdAlign ∷ RdBound ∷ RdState ∷ ParamsAlign ∷ ParamsBound ∷ ParamsPas ∷
@@ -105,6 +105,6 @@ abbrev pub find_named : List ℕ → List Condition → Option Condition
 find_named text [] = None
 find_named text (c ∷ cs) = cond (bytes_eq text (name_of c)) (Some c) (find_named text cs)
 
--- The condition of a name.
+-- The failure condition that has this name, if any.
 unfoldable pub condition_named : List ℕ → Option Condition
 condition_named text = find_named text conditions

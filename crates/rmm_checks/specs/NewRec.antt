@@ -11,7 +11,7 @@ use Rattle.rmm_model.specs.Realm.{is_new}
 use Rattle.rmm_model.specs.Command.RecCreate.{all_aux, all_from, is_apart, can_be_aux}
 use Rattle.rmm_checks.specs.declared.rec_create.RecFacts.{RecFacts}
 
--- the facts of the REC parameters in a page, for a REC granule at an address
+-- the facts about the REC parameters in a page, for a REC granule at an address
 abbrev pub facts_in : Machine → List ℕ → ℕ → RecFacts
 facts_in m page rec = record {
   has_count = num_aux_in page == m.settings.aux;
@@ -23,7 +23,7 @@ facts_in m page rec = record {
   number = rec_number (mpidr_in page);
 }
 
--- the checks of auxiliary granules, by these facts
+-- the checks of the auxiliary granules, given these facts
 abbrev pub aux_rows : RecFacts → List Check
 aux_rows facts =
     check NumAux (ParamsPas ∷ []) (not facts.has_count) error_input
@@ -32,7 +32,7 @@ aux_rows facts =
     ∷ check AuxAlias (NumAux ∷ []) (not facts.are_apart) error_input
     ∷ check AuxState (AuxBound ∷ []) (not facts.are_delegated) error_input ∷ []
 
--- the checks of the MPIDR, of the realm's state, and of its number of RECs, by these facts
+-- the checks of the MPIDR, the realm's state and the realm's number of RECs, given these facts
 abbrev pub number_rows : RmmSettings → RmmRealm → RecFacts → List Check
 number_rows s realm facts =
     check ParamsValid (ParamsPas ∷ []) (not facts.is_mpidr) error_input

@@ -10,7 +10,7 @@ use Rattle.rmm_model.specs.Realm.{is_new}
 use Rattle.rmm_model.specs.Rec.{is_running}
 use Rattle.rmm_model.specs.Command.RecEnter.{is_system_off}
 
--- the first checks of RMI_REC_ENTER after those of its operands: the realm is ACTIVE, and the REC READY and runnable
+-- the first checks of RMI_REC_ENTER after those of its operands: the realm is ACTIVE, and the REC is READY and runnable
 abbrev pub ready_checks : RmmRealmState → RmmRec → List Check
 ready_checks state rec =
     check RealmNew (RecGranState ∷ []) (is_new state) error_realm

@@ -1,4 +1,4 @@
-//! Decides from an RMI call's checks which answers an RMM may give.
+//! Functions that decide from an RMI call's checks which answers an RMM may give.
 ghost use Rattle.std.specs.Prelude.{◌≡◌, None};
 ghost use Rattle.std.specs.List.{list_any};
 ghost use Rattle.rmm_checks.specs.Evaluated as specs;
@@ -74,7 +74,8 @@ fn has_word(rows: &[EvaluatedCheck], word: Word) -> bool
 }
 
 impl EvaluatedChecks {
-    /// Returns the failure condition and the answer of the deciding check, which is the first failed one, if any.
+    /// Returns the failure condition and the answer of the first failed check, which decides the call; `None` if no
+    /// check failed.
     pub fn deciding(&self) -> Option<FailedCondition>
         ensures { result ≡ specs.first_failed self.now }
     {

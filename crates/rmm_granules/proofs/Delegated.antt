@@ -1,5 +1,5 @@
--- Lemmas on the test that adjacent granules are all DELEGATED: it fails at a granule that is not, and goes on after one
--- that is.
+-- Lemmas on the test that adjacent granules are all DELEGATED: one that is not makes the test fail, and otherwise the
+-- remaining granules decide.
 use Rattle.std.proofs.Common.{◌≡◌, ℕ, suc, ◌+◌, ◌-◌, ◌<◌, ◌≤◌, ◌&&◌, Bool, true, false, ap, ◌∙◌, arith}
 use Rattle.rmm_model.specs.Granule.{is_delegated}
 use Rattle.rmm_model.specs.Machine.{Machine, granule_at}

@@ -1,5 +1,5 @@
--- Lemmas on the test that some table among adjacent tables has a live entry: it succeeds at such a table, and goes on
--- after any other.
+-- Lemmas on the test that one of several adjacent tables has a live entry: a table that has one makes the test succeed,
+-- and otherwise the remaining tables decide.
 use Rattle.std.proofs.Common.{◌≡◌, ℕ, suc, ◌+◌, ◌-◌, ◌<◌, ◌≤◌, ◌||◌, Bool, true, false, ap, ◌∙◌, arith}
 use Rattle.rmm_model.specs.Machine.{Machine, page_in}
 use Rattle.rmm_model.specs.Table.{has_live}

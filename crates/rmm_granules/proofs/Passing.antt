@@ -1,5 +1,5 @@
--- Lemmas on the condition that consecutive numbers all pass a test: it is false if one number fails, and depends on the
--- rest if one passes.
+-- Lemmas on the condition that consecutive numbers all pass a test: a number that fails makes it false, and otherwise
+-- the remaining numbers decide.
 use Rattle.std.proofs.Common.{◌≡◌, ℕ, suc, ◌+◌, ◌-◌, ◌<◌, ◌≤◌, ◌&&◌, Bool, true, false, ap, ◌∙◌, arith}
 use Rattle.rmm_model.specs.Command.RecCreate.{all_from}
 

@@ -1,4 +1,5 @@
--- Proofs that a valid starting level and a valid number of starting tables serve a realm's whole address space.
+-- Proofs that, if the level and the number of a realm's starting tables are valid, the tables cover the realm's whole
+-- address space.
 use Rattle.std.proofs.Common.{◌≡◌, ℕ, ◌+◌, ◌-◌, ◌*◌, ◌/◌, ◌^◌, ◌<◌, ◌≤◌, ◌&&◌, Bool, true, nat_le, nat_lt, nat_eq, subst, sym, arith}
 use Rattle.std.proofs.lemmas.Bool.{and_parts, leb-true, eqb-true}
 use Rattle.std.proofs.lemmas.Nat.{pow_pos, div-add-mod', mod_below, le-div}

@@ -1,4 +1,5 @@
--- Proofs that an RTT walk continues at an entry that leads to a table, and ends at any other entry or at its level.
+-- Proofs that an RTT walk continues at an entry that leads to a table, and ends at any other entry or at the requested
+-- level.
 use Rattle.std.proofs.Common.{◌≡◌, ℕ, zero, suc, ◌+◌, ◌-◌, ◌<◌, ◌≤◌, Some, None, refl, ap, ◌∙◌, arith}
 use Rattle.std.specs.Option.{option_map_or}
 use Rattle.rmm_model.specs.declared.realm.RttWalk.{RttWalk}

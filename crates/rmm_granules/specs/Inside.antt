@@ -10,7 +10,7 @@ use Rattle.rmm_model.specs.Machine.{Machine, HasTables}
 abbrev pub machine_of : RmmSettings → List RmmGranule → List Bool → List (List ℕ) → Machine
 machine_of settings granules vmids pages = record { settings = settings; granules = granules; vmids = vmids; pages = pages }
 
--- the empty set of 16-bit VMIDs, with a flag for each VMID
+-- the empty set of 16-bit VMIDs, as a list of flags, one for each VMID
 unfoldable pub no_vmids : List Bool
 no_vmids = replicate 65536 false
 
@@ -18,8 +18,8 @@ no_vmids = replicate 65536 false
 abbrev pub platform_machine : RmmSettings → List (List ℕ) → Machine
 platform_machine settings pages = machine_of settings (replicate (length pages) (of_no_realm Undelegated)) no_vmids pages
 
--- Each granule has a page that is taken, and each realm's starting tables are in the machine. There are at most 4,096
--- granules, and a flag for each 16-bit VMID.
+-- Each granule has a page that is taken in the store, and each realm's starting tables are in the machine. There are at
+-- most 4,096 granules, and a flag for each 16-bit VMID.
 pub record IsWhole (settings : RmmSettings) (granules : List RmmGranule) (vmids : List Bool) (pages : List (List ℕ)) (free : List Bool) : Type 0 where
   pub as_many : length granules ≡ length pages
   pub few : length granules ≤ 4096

@@ -14,12 +14,12 @@ abbrev pub edited_realm : RealmEdit → RmmRealm → RmmRealm
 edited_realm SwitchOff realm = record realm { state = SystemOff }
 edited_realm RemoveRec realm = record realm { rec_count = realm.rec_count - 1 }
 
--- a granule after an edit of the realm whose RD it is; unchanged if it is no RD
+-- a granule after an edit of the realm whose RD it is; unchanged if it is not an RD
 abbrev pub edited_rd : RealmEdit → RmmGranule → Option RmmRealm → RmmGranule
 edited_rd edit kept (Some realm) = of_no_realm (Rd (edited_realm edit realm))
 edited_rd edit kept None = kept
 
--- the machine after an edit of the realm whose RD this is; unchanged if it is no RD
+-- the machine after an edit of the realm whose RD is granule `rd`; unchanged if `rd` is not an RD
 abbrev pub with_edited_realm : Machine → ℕ → RealmEdit → Option RmmRealm → Machine
 with_edited_realm m rd edit (Some realm) = with_realm m rd (edited_realm edit realm)
 with_edited_realm m rd edit None = m

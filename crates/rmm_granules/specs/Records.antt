@@ -6,7 +6,7 @@ use Rattle.rmm_model.specs.declared.rec.RmmRec.{RmmRec}
 use Rattle.rmm_granules.specs.declared.record.GranuleKind.{GranuleKind}
 use Rattle.rmm_granules.specs.declared.record.GranuleKind.TheVariants as kind
 
--- the state of a granule, of the kind and with the attributes that its record has
+-- the granule state of a kind, with the attributes that the record has for that kind
 abbrev pub recorded_state : GranuleKind → RmmRealm → RmmRec → RmmGranuleState
 recorded_state kind.Undelegated realm rec = state.Undelegated
 recorded_state kind.Delegated realm rec = state.Delegated

@@ -19,7 +19,7 @@ pub fn granule_after(first: Gran, k: u16) -> Gran
     Gran::from_number(first.number() + k)
 }
 
-/// Returns the granule that contains an address, or `None` if the machine has none.
+/// Returns the granule that contains an address, or `None` if the address is outside the machine.
 #[tactic(auto, unfolding(rmm_model::specs::Walk::granule_named))]
 pub fn granule_named<S: PageStore>(granules: &Granules<S>, address: u64) -> Option<Gran>
     ensures value { result ≡ walks.granule_named granules.now address }
@@ -32,7 +32,7 @@ pub fn granule_named<S: PageStore>(granules: &Granules<S>, address: u64) -> Opti
     }
 }
 
-/// Returns the attributes of the realm whose RD is granule `rd`, or `None` if `rd` is no RD or no granule of the
+/// Returns the attributes of the realm whose RD is granule `rd`, or `None` if `rd` is not an RD, or is not in the
 /// machine.
 pub fn realm_in<S: PageStore>(granules: &Granules<S>, rd: Gran) -> Option<RmmRealm>
     ensures value { result ≡ realm_of (granule_at granules.now rd).state }

@@ -1,4 +1,4 @@
-//! Granules, their pages and their attributes.
+//! Granules with their pages and attributes, and the set of VMIDs that realms use.
 ghost use Rattle.std.specs.Prelude.{◌≡◌, ◌≢◌, ◌+◌, ◌^◌, ◌<◌, ◌≤◌, false, length, replicate, slice_set, IfErr, IfOk, IfSome, IsTrue};
 ghost use Rattle.granule_addr.specs.Page.{page_of};
 ghost use Rattle.page_arena.specs.Word.{with_bytes, bytes_of_words, rising_word};
@@ -204,7 +204,7 @@ impl<S: PageStore> Granules<S> {
         self.granules[granule.number() as usize].rec()
     }
 
-    /// Returns the RD of the realm that owns a granule, if any.
+    /// Returns the RD of the realm that owns a granule, or `None` if no realm owns it.
     pub fn owner(&self, granule: Gran) -> Option<Gran>
         requires { granule < granule_count self.now }
         ensures { result ≡ (granule_at self.now granule).owner }
@@ -212,7 +212,7 @@ impl<S: PageStore> Granules<S> {
         self.granules[granule.number() as usize].owner()
     }
 
-    /// Sets the attributes of a granule.
+    /// Sets the attributes of a granule: its state and its owner.
     pub fn set(&mut self, granule: Gran, kept: RmmGranule)
         requires inside { granule < granule_count self.old }
         requires served { IfSome (realm_of kept.state) (IsServed (granule_count self.old)) }
@@ -221,7 +221,7 @@ impl<S: PageStore> Granules<S> {
         self.granules[granule.number() as usize].set(kept);
     }
 
-    /// Changes the attributes of an RD's realm in place. A granule that is no RD stays as it is.
+    /// Changes the attributes of an RD's realm in place. A granule that is not an RD stays as it is.
     #[inline(always)]
     pub fn edit_realm(&mut self, rd: Gran, edit: RealmEdit)
         ensures machine { self.new
@@ -234,7 +234,8 @@ impl<S: PageStore> Granules<S> {
         }
     }
 
-    /// Edits the attributes of a REC in place. A granule that is no REC becomes one, with the attributes of a new REC.
+    /// Edits the attributes of a REC in place. A granule that is not a REC first becomes one, with the attributes of a
+    /// new REC.
     #[inline(always)]
     pub fn edit_rec(&mut self, granule: Gran, edit: RecEdit)
         requires { granule < granule_count self.old }
@@ -292,7 +293,7 @@ impl<S: PageStore> Granules<S> {
         self.store.write_rising(granule, kind, first, step);
     }
 
-    /// Writes one byte of a granule.
+    /// Writes one byte of a granule's page.
     pub fn set_byte(&mut self, granule: Gran, offset: u16, value: u8)
         requires inside { granule < granule_count self.old }
         requires offset { offset < 4096 }

@@ -74,15 +74,16 @@ impl OperandConditions {
         state: Condition::RunPas,
     };
 
-    /// The failure conditions on the calling REC of RMI_PSCI_COMPLETE, whose PSCI request the command completes.
+    /// The failure conditions on the address of the calling REC of RMI_PSCI_COMPLETE: the REC whose PSCI request the
+    /// command completes.
     pub const CALLING: OperandConditions = OperandConditions {
         align: Condition::CallingAlign,
         bound: Condition::CallingBound,
         state: Condition::CallingState,
     };
 
-    /// The failure conditions on the target REC of RMI_PSCI_COMPLETE, which is the target of the completed PSCI
-    /// request.
+    /// The failure conditions on the address of the target REC of RMI_PSCI_COMPLETE: the REC that the completed PSCI
+    /// request names.
     pub const TARGET: OperandConditions = OperandConditions {
         align: Condition::TargetAlign,
         bound: Condition::TargetBound,

@@ -38,8 +38,8 @@ fn can_be_denied(request: PsciRequest) -> bool
     matches!(request, PsciRequest::CpuOn { .. })
 }
 
-/// Returns whether the host may complete a PSCI request with a status. The status has to be success, or DENIED for a
-/// CPU_ON.
+/// Returns whether the host may complete a PSCI request with the given status. The status has to be success, or DENIED
+/// for a CPU_ON.
 pub fn is_status(request: PsciRequest, status: u64) -> bool
     ensures { result ≡ command.is_status request status }
 {

@@ -7,13 +7,13 @@ use rmm_model::{LastExit, PsciRequest, RipasRequest, RmmRec, RmmRecState};
 /// An edit of the attributes of a REC.
 #[derive(Clone, Copy)]
 pub enum RecEdit {
-    /// Sets the REC to RUNNING, with its run page at this address, no exit to answer and no results.
+    /// Sets the REC to RUNNING, with its run page at this address, no exit to complete and no results of its guest.
     Enter(u64),
     /// Sets the REC to READY after an exit.
     Leave(LastExit),
-    /// Removes the first step from the guest's queue.
+    /// Removes the first step from the queue of the guest's pending steps.
     PassStep,
-    /// Sets the number of steps in the guest's queue.
+    /// Sets the number of steps in the queue of the guest's pending steps.
     Steps(u8),
     /// Adds one to the number of the guest's results, modulo 32.
     AddResult,

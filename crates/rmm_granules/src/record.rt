@@ -1,4 +1,4 @@
-//! Records of granules' attributes, in which a change of state writes a few bytes.
+//! Records of granules' attributes, laid out so that a change of state writes only a few bytes.
 ghost use Rattle.std.specs.Prelude.{◌≡◌, unwrap_or};
 ghost use Rattle.rmm_model.specs.declared.granule.RmmGranuleState.TheVariants.{Undelegated, Rec as IsRec};
 ghost use Rattle.rmm_model.specs.Granule.{is_undelegated, is_delegated, realm_of, rec_of, of_no_realm};
@@ -48,7 +48,7 @@ impl Model for GranuleRecord {
     ghost view = { λ r. record { state = recorded_state r.kind r.realm r.rec; owner = r.owner } };
 }
 
-// Returns realm attributes for the record of a granule that is no RD. Nothing reads them.
+// Returns realm attributes for the record of a granule that is not an RD. Nothing reads them.
 fn no_realm() -> RmmRealm {
     RmmRealm {
         state: RmmRealmState::New,
@@ -106,7 +106,7 @@ impl GranuleRecord {
         }
     }
 
-    /// Returns the attributes of the realm, or `None` for a granule that is no RD.
+    /// Returns the attributes of the realm, or `None` for a granule that is not an RD.
     pub(crate) fn realm(&self) -> Option<RmmRealm>
         ensures { result ≡ realm_of self.now.state }
     {
@@ -116,7 +116,7 @@ impl GranuleRecord {
         }
     }
 
-    /// Returns the attributes of the REC, or `None` for a granule that is no REC.
+    /// Returns the attributes of the REC, or `None` for a granule that is not a REC.
     pub(crate) fn rec(&self) -> Option<RmmRec>
         ensures { result ≡ rec_of self.now.state }
     {
@@ -126,7 +126,7 @@ impl GranuleRecord {
         }
     }
 
-    /// Returns the RD of the realm that owns the granule, if any.
+    /// Returns the RD of the realm that owns the granule, or `None` if no realm owns it.
     pub(crate) fn owner(&self) -> Option<Gran>
         ensures { result ≡ self.now.owner }
     {
@@ -156,7 +156,7 @@ impl GranuleRecord {
         }
     }
 
-    /// Edits the realm of an RD in place. A granule that is no RD stays as it is.
+    /// Edits the realm of an RD in place. A granule that is not an RD stays as it is.
     #[inline(always)]
     pub(crate) fn edit_realm(&mut self, edit: RealmEdit)
         ensures { self.new ≡ edited_rd edit self.old (realm_of self.old.state) }
@@ -167,7 +167,8 @@ impl GranuleRecord {
         }
     }
 
-    /// Edits the attributes of a REC in place. A granule that is no REC becomes one, with the attributes of a new REC.
+    /// Edits the attributes of a REC in place. A granule that is not a REC first becomes one, with the attributes of a
+    /// new REC.
     #[inline(always)]
     pub(crate) fn edit_rec(&mut self, edit: RecEdit)
         ensures { self.new

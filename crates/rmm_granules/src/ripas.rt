@@ -6,7 +6,7 @@ ghost use Rattle.rmm_model.specs.Command.RttSetRipas as setting;
 use rmi_abi::RmmSettings;
 use rmm_model::{Changeable, RipasRequest};
 
-/// Returns the kinds of RTT entries that RMI_RTT_INIT_RIPAS changes: UNASSIGNED entries, without those of RIPAS
+/// Returns the kinds of RTT entries that RMI_RTT_INIT_RIPAS changes: UNASSIGNED entries, except those with RIPAS
 /// DESTROYED if `stops_at_destroyed` is set.
 pub fn init_changeable(settings: &RmmSettings) -> Changeable
     ensures { result ≡ making.init_changeable settings.now }

@@ -7,8 +7,8 @@ ghost use Rattle.rmm_model.specs.Command.RecEnter as entering;
 use rmi_abi::{EnterFlags, GicFields, RmmSettings};
 use rmm_model::{LastExit, RmmRec};
 
-/// Returns whether the host claims to have emulated an access, but the REC's last exit was no emulatable abort. `flags`
-/// are the host's flags in the run page.
+/// Returns whether the host claims to have emulated an access, but the REC's last exit was not an emulatable abort.
+/// `flags` are the host's flags in the run page.
 pub fn is_no_mmio(rec: &RmmRec, flags: u64) -> bool
     ensures { result ≡ entering.is_no_mmio rec.now flags }
 {
@@ -28,8 +28,8 @@ fn are_lrs(num_lrs: u8, page: &[u8]) -> bool
     true
 }
 
-/// Returns whether the settings require a check of a run page's GIC fields, and one field has a value that a host may
-/// not set.
+/// Returns whether the settings require a check of a run page's GIC fields, and one of these has a value that a host
+/// may not set.
 #[tactic(auto, unfolding(rmm_model::specs::Command::RecEnter::is_gic_wrong))]
 pub fn refuses_gic(settings: &RmmSettings, page: &[u8]) -> bool
     requires { length page.now ≡ 4096 }

@@ -24,7 +24,8 @@ pub fn entry_at<S: PageStore>(granules: &Granules<S>, found: &RttWalk, ipa: u64)
     entry_from_word(word_in(granules.page(found.table), index as usize))
 }
 
-/// Returns the granule of the table that a TABLE entry leads to, if any.
+/// Returns the granule of the table that an entry leads to, or `None` if the entry is not TABLE or its address is
+/// outside the machine.
 pub fn table_below<S: PageStore>(granules: &Granules<S>, entry: RmmRttEntry) -> Option<Gran>
     ensures value { result ≡ walks.table_below granules.now entry }
     ensures inside { IfSome result (λ table. table < granule_count granules.now) }
@@ -35,7 +36,8 @@ pub fn table_below<S: PageStore>(granules: &Granules<S>, entry: RmmRttEntry) -> 
     }
 }
 
-/// Returns the granule at the address of an ASSIGNED entry, if any.
+/// Returns the granule at the address that an ASSIGNED entry holds, or `None` if the entry is not ASSIGNED or the
+/// address is outside the machine.
 pub fn memory_below<S: PageStore>(granules: &Granules<S>, entry: RmmRttEntry) -> Option<Gran>
     ensures value { result ≡ walks.memory_below granules.now entry }
     ensures inside { IfSome result (λ page. page < granule_count granules.now) }
@@ -62,7 +64,7 @@ fn start_of(realm: &RmmRealm, ipa: u64, count: u16) -> RttWalk
     }
 }
 
-/// Walks a realm's tables to level `to` for an address. Returns the table at which the walk ends, with the table's
+/// Walks a realm's tables for an IPA, down to level `to`. Returns the table at which the walk ends, with the table's
 /// level. RMM 1.0, RttWalk.
 ///
 /// The walk ends at level `to`, or above it at an entry that leads to no table. If level `to` is above the starting
@@ -89,7 +91,7 @@ pub fn walk<S: PageStore>(granules: &Granules<S>, realm: &RmmRealm, ipa: u64, to
     RttWalk { table, level }
 }
 
-/// Returns the address of the first live entry, from `ipa` on, in the table at which a walk ended. RMM 1.0,
+/// Returns the IPA of the first live entry at or after `ipa`, in the table where a walk ended. RMM 1.0,
 /// RttSkipNonLiveEntries.
 ///
 /// The result is the end of the table if there is none. If the entry of the address is live itself, the result is the

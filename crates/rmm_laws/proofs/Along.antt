@@ -1,5 +1,5 @@
--- A proof by induction that a relation holds between the ends of one address's walks in two machines, if it holds
--- wherever the walks end together or part.
+-- A proof about the walks of one address in two machines: a relation holds of their ends if it holds both where the
+-- walks end together and where they part.
 use Rattle.std.proofs.Common.{◌≡◌, ℕ, zero, suc, ◌+◌, ◌-◌, ◌^◌, ◌<◌, ◌⊎◌, Option, Some, None, refl, sym, ap, subst, ⊎_elim, arith}
 use Rattle.std.specs.Option.{option_map_or}
 use Rattle.rmm_model.specs.declared.granule.RmmGranuleState.TheVariants.{Rd}

@@ -1,5 +1,5 @@
--- Proofs that RMI_SUCCESS is the only allowed word of a command that is not refused, and that a refused command allows
--- refusals alone.
+-- Proofs that RMI_SUCCESS is the only result word allowed for a command that is not refused, and that only refusals are
+-- allowed for a refused command.
 use Rattle.std.proofs.Common.{◌≡◌, inl, ◌&&◌, Bool, true, false, List, [], ◌∷◌, Option, Some, None, refl, sym, ap, subst, ◌∙◌, ⊎_elim}
 use Rattle.std.specs.List.{list_all}
 use Rattle.std.proofs.lemmas.Bool.{cases_Bool, and_parts, both_ways, cond-true, cond-false}

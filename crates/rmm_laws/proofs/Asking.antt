@@ -1,4 +1,4 @@
--- Proofs on the RIPAS request of an entered REC: an entry clears or keeps it, and a guest step keeps or replaces it.
+-- Proofs that entering a REC clears or keeps its RIPAS request, and that a guest step keeps or replaces the request.
 use Rattle.std.proofs.Common.{◌≡◌, ◌≢◌, ℕ, ◌+◌, ◌-◌, ◌*◌, ◌%◌, ◌<◌, ◌≤◌, ◌==◌, ◌⊎◌, inl, inr, Bool, true, false, length, Option, Some, None, Result, Ok, Err, unwrap_or, refl, sym, ap, subst, ◌∙◌, ⊎_elim}
 use Rattle.std.specs.Prelude.{if◌then◌else◌}
 use Rattle.std.proofs.lemmas.Bool.{cases_lt, cond_both}

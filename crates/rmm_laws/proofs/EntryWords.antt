@@ -1,4 +1,4 @@
--- Proofs that decoding the word of a table entry gives the entry back, if its descriptor fits 48 bits.
+-- Proofs that decoding the word of a table entry gives the entry back, if its descriptor fits in 48 bits.
 use Rattle.std.proofs.Common.{◌≡◌, ℕ, ◌+◌, ◌*◌, ◌/◌, ◌%◌, ◌^◌, ◌<◌, ◌==◌, false, refl, ap, ◌∙◌, arith}
 use Rattle.std.proofs.lemmas.Bool.{cond_both}
 use Rattle.rmm_model.specs.declared.entry.RmmRttEntry.{RmmRttEntry}

@@ -1,4 +1,5 @@
--- Proofs that each address of a realm leads to the same memory before and after RMI_RTT_CREATE and RMI_RTT_FOLD.
+-- Proofs that each address of a realm leads to the same memory before and after a successful RMI_RTT_CREATE or
+-- RMI_RTT_FOLD.
 use Rattle.std.proofs.Common.{◌≡◌, ℕ, zero, suc, ◌+◌, ◌-◌, ◌*◌, ◌/◌, ◌%◌, ◌^◌, ◌<◌, ◌≤◌, ◌&&◌, true, not, List, Option, unwrap_or, refl, sym, ap, subst, ◌∙◌, arith}
 use Rattle.std.specs.Prelude.{nat_le}
 use Rattle.std.proofs.lemmas.Bool.{and_parts, eqb-true, leb-true, ltb-true}

@@ -1,5 +1,5 @@
--- Proofs that no live entry is between the address and the top that RTT_DESTROY, DATA_DESTROY and RTT_UNMAP_UNPROTECTED
--- return.
+-- Proofs that no live entry is between the address given to RTT_DESTROY, DATA_DESTROY or RTT_UNMAP_UNPROTECTED and the
+-- top that the command returns.
 use Rattle.std.proofs.Common.{◌≡◌, ◌≢◌, ℕ, zero, suc, ◌+◌, ◌-◌, ◌^◌, ◌<◌, ◌≤◌, false, true, List, length, Option, Some, None, unwrap_or, refl, sym, ap, subst, ◌∙◌, arith}
 use Rattle.std.specs.Option.{option_map_or}
 use Rattle.std.specs.Prelude.{nat_le}

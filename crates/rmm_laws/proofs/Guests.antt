@@ -1,5 +1,5 @@
--- Proofs that steps of guests, and entries, exits and interrupts of RECs, keep the invariant that each granule has one
--- role.
+-- Proofs that steps of guests, entries, exits and interrupts of RECs, and RMI_PSCI_COMPLETE keep the invariant
+-- `IsProper` on roles and owners of granules.
 use Rattle.std.proofs.Common.{◌≡◌, ◌≢◌, ℕ, zero, suc, ◌+◌, ◌-◌, ◌*◌, ◌/◌, ◌%◌, ◌^◌, ◌<◌, ◌==◌, inl, inr, ◌&&◌, Bool, true, false, length, Option, Some, None, Result, Ok, Err, refl, sym, ap, subst, ◌∙◌, ⊎_elim, arith, ◌⊎◌}
 use Rattle.std.specs.Prelude.{IfSome, not, is_none, nat_le, nat_lt, if◌then◌else◌}
 use Rattle.std.proofs.lemmas.Bool.{cases_eq, eqb-true, cond_both, and_parts, both_ways}

@@ -1,5 +1,5 @@
--- Proofs that each kind of single write, under its conditions, keeps each table entry fit for the half of the address
--- space that the entry covers.
+-- Proofs that each kind of single write, under that kind's conditions, leaves each table entry in a state that is
+-- allowed in its half of the address space.
 use Rattle.std.proofs.Common.{◌≡◌, ◌≢◌, ℕ, ◌+◌, ◌-◌, ◌*◌, ◌/◌, ◌%◌, ◌^◌, ◌<◌, ◌≤◌, ◌⊎◌, Bool, true, false, List, length, Some, None, refl, sym, ap, subst, ◌∙◌, ⊎_elim, arith}
 use Rattle.std.proofs.lemmas.List.{length-set}
 use Rattle.std.proofs.lemmas.Bool.{cases_eq, both_ways}

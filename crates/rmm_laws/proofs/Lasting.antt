@@ -1,5 +1,5 @@
--- Proofs that a single write keeps each realm and its fixed attributes, if it replaces no RD, or an RD by one with the
--- same fixed attributes.
+-- Proofs that a single write keeps each realm and its fixed attributes, if it replaces no RD, or replaces one by an RD
+-- with the same fixed attributes.
 use Rattle.std.proofs.Common.{◌≡◌, ◌≢◌, ℕ, ◌<◌, false, length, refl, sym, ap, ◌∙◌, ⊎_elim}
 use Rattle.std.proofs.lemmas.Bool.{cases_eq, both_ways}
 use Rattle.rmm_model.specs.declared.granule.RmmGranule.{RmmGranule}

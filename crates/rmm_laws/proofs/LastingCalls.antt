@@ -1,4 +1,4 @@
--- Proofs that each realm exists after a call with the same fixed attributes, unless the call destroys the realm.
+-- Proofs that after a call each realm still exists with the same fixed attributes, unless the call destroys the realm.
 use Rattle.std.proofs.Common.{◌≡◌, ◌≢◌, ℕ, ◌<◌, ◌⊎◌, inl, inr, false, List, length, Option, Some, None, refl, sym, ap, subst, ◌∙◌, ⊎_elim}
 use Rattle.std.proofs.lemmas.Bool.{both_ways}
 use Rattle.std.proofs.lemmas.List.{length-set}

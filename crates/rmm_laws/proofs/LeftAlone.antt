@@ -1,4 +1,5 @@
--- Proofs that a call leaves unchanged the granules of other realms, and the host pages that it may not change.
+-- Proofs that a call leaves the granules of other realms unchanged, and changes pages of the host only as
+-- `IsHostChanged` allows.
 use Rattle.std.proofs.Common.{◌≡◌, ◌≢◌, ℕ, ◌+◌, ◌*◌, ◌&&◌, ◌⊎◌, inl, inr, Bool, true, false, Option, Some, None, refl, sym, ap, subst, ◌∙◌, ⊎_elim, arith}
 use Rattle.std.specs.Prelude.{is_some}
 use Rattle.std.proofs.lemmas.Bool.{cases_Bool, cases_eq, and_parts, both_ways, cond-true, cond-false, eqb-true}

@@ -1,5 +1,5 @@
--- Proofs that commands that change data pages, host mappings or RIPAS keep the invariant that each granule has one
--- role.
+-- Proofs that RMI_REALM_ACTIVATE, and commands that change data pages, host mappings or RIPAS, keep the invariant that
+-- each granule has one role.
 use Rattle.std.proofs.Common.{◌≡◌, ◌≢◌, ℕ, zero, suc, ◌+◌, ◌-◌, ◌*◌, ◌/◌, ◌%◌, ◌^◌, ◌<◌, ◌≤◌, ◌⊎◌, inl, inr, ◌&&◌, ◌||◌, Bool, true, false, not, List, length, Option, Some, None, option_map, unwrap_or, refl, sym, ap, subst, ◌∙◌, ⊎_elim, arith}
 use Rattle.std.specs.Prelude.{IfSome, is_some, nat_le, nat_lt, if◌then◌else◌}
 use Rattle.std.proofs.lemmas.Bool.{cases_eq, cases_lt, cond_both, cond-false, and_parts, or_cases, leb-true, ltb-true, eqb-true, le-ltb, both_ways}

@@ -1,4 +1,5 @@
--- Proofs that commands keep the owner of each granule as its state requires, and the counts of RECs correct.
+-- Proofs that commands, stores and fills keep the owner of each granule as its state requires, and the counts of RECs
+-- correct.
 use Rattle.std.proofs.Common.{◌≡◌, ◌≢◌, ℕ, ◌+◌, ◌*◌, ◌-◌, ◌/◌, ◌%◌, ◌^◌, ◌<◌, ◌≤◌, ◌==◌, true, false, not, ◌&&◌, List, length, Option, Some, unwrap_or, refl, sym, ap, subst, ◌∙◌, ⊎_elim, arith}
 use Rattle.std.specs.Prelude.{nat_le, is_some}
 use Rattle.std.proofs.lemmas.Bool.{and_parts, and_from, both_ways, cases_lt, le-leb, cond_both, eqb-true, leb-true, ltb-true, ltb-false, not-true}

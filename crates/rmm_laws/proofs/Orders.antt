@@ -1,5 +1,5 @@
--- Proofs that each kind of single write, under its conditions, keeps the owner of each granule as its state requires,
--- and the counts of RECs correct.
+-- Proofs that each kind of single write, under that kind's conditions, keeps the owner of each granule as its state
+-- requires, and the counts of RECs correct.
 use Rattle.std.proofs.Common.{◌≡◌, ◌≢◌, ℕ, ◌+◌, ◌<◌, ◌≤◌, ◌⊎◌, inl, inr, ◌&&◌, Bool, true, false, cond, List, [], ◌∷◌, length, set, get_or, Option, Some, None, refl, sym, ap, subst, ◌∙◌, ⊎_elim, arith}
 use Rattle.std.specs.Prelude.{is_some, suc}
 use Rattle.std.specs.List.{count_by}

@@ -1,5 +1,5 @@
--- Proofs that mappings with a new RIPAS, pages at level 3, and children of mappings are at allowed levels, with memory
--- aligned to their size.
+-- Proofs about mappings with a new RIPAS, pages at level 3, and children of mappings: each is at an allowed level, and
+-- its memory is aligned to its size.
 use Rattle.std.proofs.Common.{◌≡◌, ℕ, zero, suc, ◌+◌, ◌*◌, ◌/◌, ◌%◌, ◌^◌, ◌<◌, ◌≤◌, false, refl, sym, ap, subst, ◌∙◌, arith}
 use Rattle.std.proofs.lemmas.Bool.{both_ways}
 use Rattle.rmi_abi.specs.declared.settings.RmmSettings.{RmmSettings}

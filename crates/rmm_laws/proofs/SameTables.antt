@@ -1,5 +1,5 @@
--- Proofs that a single write outside all tables leaves all tables unchanged, and likewise for all granules whose states
--- meet a given condition.
+-- Proofs that a single write outside all granules of a kind, such as tables, leaves all granules of that kind
+-- unchanged.
 use Rattle.std.proofs.Common.{◌≡◌, ◌≢◌, ℕ, ◌<◌, List, refl, ap, subst, sym, ◌∙◌, ⊎_elim}
 use Rattle.std.specs.Prelude.{IfSome, Some}
 use Rattle.rmm_model.specs.declared.granule.RmmGranule.{RmmGranule}

@@ -1,5 +1,5 @@
--- Proofs that a walk ends at the table that covers the address, at an entry that fits the address's half of the address
--- space.
+-- Proofs that a walk ends at the table that covers the address, at an entry whose state is allowed in the address's
+-- half of the address space.
 use Rattle.std.proofs.Common.{◌≡◌, ℕ, zero, suc, ◌+◌, ◌-◌, ◌*◌, ◌/◌, ◌^◌, ◌<◌, ◌≤◌, Option, Some, None, refl, sym, ap, subst, ◌∙◌, ⊎_elim, arith}
 use Rattle.std.specs.Option.{option_map_or}
 use Rattle.std.specs.Prelude.{nat_lt, ◌==◌}

@@ -1,4 +1,5 @@
--- Proofs that RMI_RTT_INIT_RIPAS and RMI_RTT_SET_RIPAS set the RIPAS of a range up to X1, and of no other address.
+-- Proofs that RMI_RTT_INIT_RIPAS and RMI_RTT_SET_RIPAS set the RIPAS of the protected addresses from the base up to X1,
+-- and of no other protected address.
 use Rattle.std.proofs.Common.{◌≡◌, ◌≢◌, ℕ, zero, suc, ◌+◌, ◌-◌, ◌*◌, ◌/◌, ◌%◌, ◌^◌, ◌<◌, ◌≤◌, ◌⊎◌, inl, inr, true, false, List, length, unwrap_or, refl, sym, ap, subst, ◌∙◌, ⊎_elim, arith}
 use Rattle.std.specs.Prelude.{nat_le}
 use Rattle.std.proofs.lemmas.Bool.{and_parts, cases_eq, cond_both, cond-true, eqb-true, leb-true}

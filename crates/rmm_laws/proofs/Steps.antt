@@ -1,5 +1,5 @@
--- Proofs that a realm with a live entry, or without running RECs, has a teardown call that succeeds, given a DELEGATED
--- granule.
+-- Proofs that, given a DELEGATED granule, some call of a realm's teardown succeeds if the realm has a live entry, or if
+-- none of its RECs runs.
 use Rattle.std.proofs.Common.{◌≡◌, ◌≢◌, ℕ, zero, suc, ◌+◌, ◌-◌, ◌*◌, ◌/◌, ◌%◌, ◌^◌, ◌<◌, ◌≤◌, ◌==◌, Bool, true, false, not, List, Some, refl, sym, ap, subst, ◌∙◌, ⊎_elim, arith, ◌⊎◌, ◌||◌, inl, inr, length, unwrap_or, Option, None, ◌&&◌}
 use Rattle.std.specs.Prelude.{nat_le, is_some}
 use Rattle.std.proofs.lemmas.Bool.{cases_Bool, cases_eq, cases_lt, and_from, eq-eqb, le-leb, lt-ltb, le-ltb, both_ways, cond-true}

@@ -1,4 +1,5 @@
--- Proofs that the calls of a realm's teardown succeed, and that nothing is left of a destroyed realm.
+-- Proofs that each call of a realm's teardown succeeds if its preconditions hold, and that nothing is left of a
+-- destroyed realm.
 use Rattle.std.proofs.Common.{◌≡◌, ℕ, ◌+◌, ◌-◌, ◌%◌, ◌^◌, ◌<◌, ◌≤◌, ◌⊎◌, inl, inr, ◌==◌, ◌&&◌, ◌||◌, List, [], ◌∷◌, Bool, true, false, not, Option, Some, None, unwrap_or, refl, sym, ap, subst, ◌∙◌, ⊎_elim, arith}
 use Rattle.std.specs.Prelude.{nat_le, nat_lt, is_none, is_some}
 use Rattle.std.proofs.lemmas.Bool.{cases_Bool, and_parts, and_from, cond-false, eq-eqb, le-leb, lt-ltb}

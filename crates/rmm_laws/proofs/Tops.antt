@@ -1,4 +1,5 @@
--- Proofs that no live entry is between a walk's address and its top, which is the next live entry or the table's end.
+-- Proofs that no live entry is between a walk's address and its top, which is at the next live entry or at the table's
+-- end.
 use Rattle.std.proofs.Common.{◌≡◌, ◌≢◌, ℕ, zero, suc, ◌+◌, ◌-◌, ◌*◌, ◌/◌, ◌%◌, ◌^◌, ◌<◌, ◌≤◌, ◌⊎◌, inl, inr, ◌==◌, true, false, List, Option, Some, None, refl, sym, ap, subst, ◌∙◌, ⊎_elim, arith}
 use Rattle.std.specs.Option.{option_map_or}
 use Rattle.std.proofs.lemmas.Bool.{both_ways, cases_Bool, cases_eq, cases_lt, cond_both, cond-true, cond-false, eq-eqb, ne_eqb}

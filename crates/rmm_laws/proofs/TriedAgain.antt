@@ -1,4 +1,5 @@
--- A proof that a REC that is entered after an unanswered exit has the registers and steps of that exit, and no results.
+-- A proof that a REC that is entered after an unanswered exit has the same registers and steps as at that exit, and no
+-- results of steps.
 use Rattle.std.proofs.Common.{◌≡◌, ℕ, ◌+◌, ◌-◌, ◌<◌, inl, false, length, List, unwrap_or, refl, sym, ap, subst, ◌∙◌, arith}
 use Rattle.std.proofs.lemmas.Bool.{cond_both, cond-false}
 use Rattle.page_arena.specs.Word.{word_of_page}

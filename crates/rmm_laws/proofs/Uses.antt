@@ -1,4 +1,4 @@
--- Proofs for arbitrary uses that each granule keeps one role when uses are added, removed or kept.
+-- Proofs that each granule keeps one role when uses of granules by others are added, removed or kept.
 use Rattle.std.proofs.Common.{◌≡◌, ◌≢◌, ℕ, ◌⊎◌, inl, inr, ⊎_elim, Bool, true, false, Option, Some, None, refl, sym, ap, ◌∙◌}
 use Rattle.std.proofs.lemmas.Bool.{cases_eq, cases_Bool, both_ways}
 use Rattle.rmm_laws.specs.Role.{Used, has_user, IsUsed, HasNoUser, HasOneRole}

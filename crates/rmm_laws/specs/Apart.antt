@@ -49,22 +49,22 @@ changes_vmids (Some (RealmCreate rd params)) = true
 changes_vmids (Some (RealmDestroy rd)) = true
 changes_vmids call = false
 
--- a VMID is not that of the realm that a call creates or destroys
+-- a VMID is not the VMID of a realm that the call creates or destroys
 abbrev pub IsOtherVmid : Machine → Option Call → ℕ → Type 0
 IsOtherVmid m (Some (RealmCreate rd params)) vmid = vmid ≢ (params_at m params).vmid
 IsOtherVmid m (Some (RealmDestroy rd)) vmid = vmid ≢ (realm_at m rd).vmid
 IsOtherVmid m call vmid = Unit {0}
 
--- a granule is the RD of a realm, or one that the realm owns
+-- a granule is the RD of the given realm, or is owned by that realm
 abbrev pub IsOfRealm : Machine → Option ℕ → ℕ → Type 0
 IsOfRealm m (Some rd) g = (g ≡ rd) ⊎ ((granule_at m g).owner ≡ Some rd)
 IsOfRealm m None g = ⊥
 
--- a granule is of no realm: UNDELEGATED or DELEGATED
+-- a granule is UNDELEGATED or DELEGATED, so it belongs to no realm
 abbrev pub IsSpare : Machine → ℕ → Type 0
 IsSpare m g = ((granule_at m g).state ≡ Undelegated) ⊎ ((granule_at m g).state ≡ Delegated)
 
--- a granule has the attributes and the page that it had
+-- a granule has the same attributes and the same page in both machines
 abbrev pub IsSameAt : Machine → Machine → ℕ → Type 0
 IsSameAt m n g = (granule_at n g ≡ granule_at m g) × (page_in n g ≡ page_in m g)
 
@@ -72,11 +72,11 @@ IsSameAt m n g = (granule_at n g ≡ granule_at m g) × (page_in n g ≡ page_in
 abbrev pub KeepsSettings : Machine → Machine → Type 0
 KeepsSettings m n = (n.settings ≡ m.settings) × (n.vmids ≡ m.vmids)
 
--- the page of a granule is not of the secure world
+-- the page of a granule is outside the secure world
 abbrev pub IsNormal : Machine → ℕ → Type 0
 IsNormal m g = is_secure m (m.settings.base + g * 4096) ≡ false
 
--- a page of the host begins at an address, outside the secure world
+-- an UNDELEGATED granule outside the secure world begins at the address
 abbrev pub IsHostPage : Machine → ℕ → Type 0
 IsHostPage m address = IsBegin m address × (state_at m address ≡ Undelegated) × IsNormal m (number_of m address)
 
@@ -102,7 +102,7 @@ IsHostChanged m n call g = ⊥
 abbrev pub IsRunPage : Machine → Machine → ℕ → ℕ → Type 0
 IsRunPage m n rec g = (g ≡ number_of m (rec_in m (number_of m rec)).run) × IsNormal m g × (granule_at n g ≡ granule_at m g)
 
--- a granule belongs to a realm other than the one a call names, or there is no call
+-- a granule belongs to a realm other than the realm that a call names, or there is no call
 abbrev pub IsOfAnother : Machine → Option Call → ℕ → Type 0
 IsOfAnother m (Some call) g = (IsOfRealm m (named_realm m call) g → ⊥) × (IsSpare m g → ⊥)
 IsOfAnother m None g = Unit {0}

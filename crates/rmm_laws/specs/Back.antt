@@ -15,8 +15,8 @@ use Rattle.rmm_model.specs.Command.Auxiliary.{aux_granule}
 use Rattle.rmm_model.specs.Command.Operand.{realm_at}
 use Rattle.rmm_laws.specs.Role.{IsBegin}
 
--- A granule of a realm becomes a DELEGATED granule that is zero. Before, it begins at the address, with the given state
--- and the RD as its owner. Each other granule keeps its attributes.
+-- A granule of a realm becomes DELEGATED and zero. Before, it begins at the address, with the given state and the RD as
+-- its owner. Each other granule keeps its attributes.
 pub record ComesBack (before after : Machine) (rd : ℕ) (state : RmmGranuleState) (address : ℕ) : Type 0 where
   pub begins : IsBegin before address
   pub was : granule_at before (number_of before address) ≡ of_realm rd state
@@ -32,13 +32,13 @@ IsAssignedTo m rd ipa address = (ripas : RmmRipas) × (entry_at m (walk m (realm
 abbrev pub IsReleased : Machine → Machine → ℕ → Type 0
 IsReleased m n granule = ((granule_at m granule).state ≡ Undelegated) ⊎ (((granule_at m granule).state ≡ Delegated) × (page_in n granule ≡ zero_page))
 
--- a granule is neither a REC, nor an auxiliary granule of it, nor the RD of its realm
+-- a granule is neither the given REC, nor one of its auxiliary granules, nor the RD of its realm
 abbrev pub IsBeside : Machine → ℕ → ℕ → Type 0
 IsBeside m rec granule =
     (granule ≢ rec) × ((k : ℕ) → k < m.settings.aux → aux_granule m rec k ≢ Some granule) × ((granule_at m rec).owner ≢ Some granule)
 
--- A REC that does not run and its auxiliary granules become DELEGATED granules that are zero. The REC begins at the
--- address. Each other granule, except the RD of the REC's realm, keeps its attributes.
+-- A REC that does not run becomes DELEGATED and zero, and so do its auxiliary granules. The REC begins at the address.
+-- Each other granule, except the RD of the REC's realm, keeps its attributes.
 pub record RecComesBack (before after : Machine) (address : ℕ) : Type 0 where
   pub was : is_rec_named before address ≡ true
   pub ready : is_running (rec_in before (number_of before address)).state ≡ false

@@ -8,7 +8,8 @@ use Rattle.rmm_model.specs.Machine.{Machine, granule_at, page_in}
 use Rattle.rmm_model.specs.Table.{entry_in_page}
 use Rattle.rmm_model.specs.Command.RttFold.{is_aligned_above}
 
--- an entry can replace a table of a level: the memory of a mapping is aligned, and there are blocks above that level
+-- an entry can replace a table of a level: if it is a mapping, its memory is aligned, and blocks are allowed one level
+-- up
 abbrev pub CanReplaceTable : Machine → RmmRttEntry → ℕ → Type 0
 CanReplaceTable m entry level = (is_aligned_above entry level ≡ true) × (is_mapping entry ≡ true → m.settings.block_level < level)
 

@@ -23,7 +23,7 @@ use Rattle.rmm_model.specs.Command.RecCreate.{rec_page}
 use Rattle.rmm_model.specs.Command.RecEnter.{running_at, step_outcome, after_step, with_step_passed, first_step_outcome, after_first_step}
 use Rattle.rmm_laws.specs.Apart.{IsNormal}
 
--- a REC has the attributes and the registers that parameters ask for
+-- a new REC has the attributes and the registers that the parameters of its creation ask for
 abbrev pub IsRecMadeOf : Machine → Machine → ℕ → ℕ → ℕ → Type 0
 IsRecMadeOf m n rd rec params =
     let page = page_in m (number_of m params) in
@@ -34,17 +34,17 @@ abbrev pub is_write : GuestStep → Bool
 is_write (Write ipa value size) = true
 is_write _ = false
 
--- a value is one that an access reads from some host page of the machine outside the secure world
+-- an access can read the value from some host page of the machine, outside the secure world
 abbrev pub IsHostValue : Machine → AccessSize → ℕ → ℕ → Type 0
 IsHostValue m size ipa value = (h : ℕ) × (h < granule_count m) × ((granule_at m h).state ≡ Undelegated) × IsNormal m h × (value ≡ value_in (page_in m h) size ipa)
 
--- a REC's first step has the outcome and the effect of that step in the given realm
+-- a REC's first step has the outcome and the effect of a step that is performed for the given realm
 abbrev pub IsStepFor : Machine → RmmRealm → ℕ → ℕ → Type 0
 IsStepFor m realm g flags =
     let outcome = step_outcome m realm g flags (first_step m g) in
     (first_step_outcome m g flags ≡ outcome) × (after_first_step m g flags ≡ with_step_passed (after_step m realm g (first_step m g) outcome) g outcome)
 
--- a request of PSCI is completed
+-- a PSCI request is completed
 abbrev pub is_completed : PsciRequest → Bool
 is_completed (Complete value) = true
 is_completed _ = false
@@ -58,8 +58,8 @@ IsUnanswered UnprotectedAbort psci flags = injects_sea flags ≡ false
 IsUnanswered Other psci flags = is_completed psci ≡ false
 IsUnanswered last psci flags = ⊥
 
--- A REC is entered as it last exited, with the same registers and steps, and with no results. Words 0 to 191 of its
--- page are unchanged.
+-- A REC is entered as it last exited, with the same registers and steps, and with no results of steps. Words 0 to 191
+-- of its page are unchanged.
 abbrev pub IsAsLeft : Machine → Machine → ℕ → RmmRec → ℕ → Type 0
 IsAsLeft m n g rec address =
     ((granule_at n g).state ≡ Rec (running_at rec address)) × ((i : ℕ) → i < 192 → word_of_page (page_in n g) i ≡ word_of_page (page_in m g) i)

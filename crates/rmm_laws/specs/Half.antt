@@ -13,8 +13,9 @@ use Rattle.rmm_model.specs.Machine.{Machine, granule_at, page_in}
 use Rattle.rmm_model.specs.Table.{entry_in_page}
 use Rattle.rmm_model.specs.Walk.{table_below}
 
--- An entry fits an IPA: UNASSIGNED and ASSIGNED in the protected half, the NS states in the unprotected half. A live
--- entry is inside the realm's address space.
+-- An entry that covers an IPA has a state that is allowed in the IPA's half of the address space. UNASSIGNED and
+-- ASSIGNED are for the protected half, the NS states for the unprotected half, and TABLE is for both. A live entry is
+-- inside the realm's address space.
 abbrev pub IsOfHalf : RmmRealm → ℕ → RmmRttEntry → Type 0
 IsOfHalf realm ipa (Unassigned ripas) = ipa < 2 ^ (realm.s2sz - 1)
 IsOfHalf realm ipa (Assigned ripas address) = ipa < 2 ^ (realm.s2sz - 1)
@@ -22,14 +23,14 @@ IsOfHalf realm ipa UnassignedNs = 2 ^ (realm.s2sz - 1) ≤ ipa
 IsOfHalf realm ipa (AssignedNs desc) = (2 ^ (realm.s2sz - 1) ≤ ipa) × (ipa < 2 ^ realm.s2sz)
 IsOfHalf realm ipa (Table address) = ipa < 2 ^ realm.s2sz
 
--- A mapping is at a level at which there are pages or blocks, and its memory begins at a multiple of their size.
+-- A mapping is at a level that has pages or blocks, and its memory begins at a multiple of their size.
 abbrev pub IsPlaced : RmmSettings → ℕ → RmmRttEntry → Type 0
 IsPlaced s level e = is_mapping e ≡ true → (s.block_level ≤ level) × (descriptor_of e / 4096 * 4096 % entry_size level ≡ 0)
 
--- Each table entry fits the half of the address space that it covers. `level` gives the level of each table, and
--- `place` its index by IPA among the tables of that level. Starting tables have indices from 0 on, and a table below
--- has the index of the entry that leads to it. Memory is mapped at levels that allow blocks or pages, and is aligned to
--- their size. An entry of a starting table covers less than the realm's address space.
+-- Each table entry has a state that is allowed in its half of the address space. `level` gives each table's level, and
+-- `place` its index by IPA in that level. It counts from 0 for starting tables; any other table has the index of the
+-- entry leading to it. Mapped memory is aligned, at a level of blocks or pages. A starting table's entry covers less
+-- than the address space.
 pub record IsHalved (m : Machine) (level place : ℕ → ℕ) : Type 0 where
   pub wide : (rd : ℕ) (realm : RmmRealm) → (granule_at m rd).state ≡ Rd realm → entry_size realm.start_level < 2 ^ realm.s2sz
   pub start : (rd k : ℕ) (realm : RmmRealm) → (granule_at m rd).state ≡ Rd realm → k < realm.table_count
@@ -40,7 +41,8 @@ pub record IsHalved (m : Machine) (level place : ℕ → ℕ) : Type 0 where
       → ipa / entry_size (level table) ≡ place table * 512 + i → IsOfHalf realm ipa (entry_in_page (page_in m table) i)
   pub block : (table i : ℕ) → (granule_at m table).state ≡ Rtt → i < 512 → IsPlaced m.settings (level table) (entry_in_page (page_in m table) i)
 
--- Tables have levels and indices with which each entry fits the half of the address space that it covers.
+-- Each table can be given a level and an index such that the state of each entry is allowed in its half of the address
+-- space.
 pub record HasHalves (m : Machine) : Type 0 where
   pub level : ℕ → ℕ
   pub place : ℕ → ℕ

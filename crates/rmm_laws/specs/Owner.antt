@@ -18,11 +18,12 @@ use Rattle.rmm_laws.specs.Role.{IsBegin}
 
 -- ---- owners
 
+-- a granule in the given state is the RD of a realm
 abbrev pub is_rd : RmmGranuleState → Bool
 is_rd (Rd realm) = true
 is_rd _ = false
 
--- an owner is the RD of a realm
+-- there is an owner, and it is the RD of a realm
 abbrev pub IsOwner : Machine → Option ℕ → Type 0
 IsOwner m (Some rd) = is_rd (granule_at m rd).state ≡ true
 IsOwner m None = ⊥
@@ -44,6 +45,7 @@ IsOrderlyAt m g = IsOrderly m (granule_at m g).state (granule_at m g).owner (pag
 
 -- ---- RECs
 
+-- the owner is the given RD
 abbrev pub is_owner : ℕ → Option ℕ → Bool
 is_owner rd (Some other) = other == rd
 is_owner rd None = false
@@ -61,13 +63,13 @@ abbrev pub IsRecMade : Machine → Option Call → ℕ → Option ℕ → Type 0
 IsRecMade m (Some (RecCreate rd rec params)) g owner = (g ≡ number_of m rec) × (owner ≡ Some (number_of m rd))
 IsRecMade m call g owner = ⊥
 
--- Each REC after a call was a REC of the same owner before it, or the call makes it.
+-- Each REC that exists after a call was a REC of the same owner before, or the call created it.
 abbrev pub KeepsRecs : Machine → Option Call → Machine → Type 0
 KeepsRecs m call n =
     (g : ℕ) (rec : RmmRec) → (granule_at n g).state ≡ IsRec rec → IsRecOf m g (granule_at n g).owner ⊎ IsRecMade m call g (granule_at n g).owner
 
 -- Each granule has the owner and the page that its state requires, and each RD counts the RECs of its realm. Each table
--- entry fits the half of the address space that it covers.
+-- entry has a state that is allowed in its half of the address space.
 pub record IsOrdered (m : Machine) : Type 0 where
   pub each : (granule : ℕ) → IsOrderlyAt m granule
   pub recs : (rd : ℕ) (realm : RmmRealm) → (granule_at m rd).state ≡ Rd realm → realm.rec_count ≡ count_by (is_rec_in rd) m.granules

@@ -7,11 +7,11 @@ use Rattle.rmm_model.specs.Machine.{Machine, granule_at}
 use Rattle.rmm_laws.specs.Owner.{IsOrdered}
 use Rattle.rmm_laws.specs.Role.{IsLinked}
 
--- Granules are used as their states say, and have the owners that their states ask for.
+-- Each granule is used as its state requires, and has the owner that its state requires.
 pub record IsProper (m : Machine) : Type 0 where
   pub linked : IsLinked m
   pub ordered : IsOrdered m
 
--- A machine during a run of a REC is proper, and the granule is a REC still.
+-- The invariant of a REC's run: the machine is proper, and the granule is a REC.
 abbrev pub IsProperRun : Machine → ℕ → Type 0
 IsProperRun m g = IsProper m × (rec : RmmRec) × ((granule_at m g).state ≡ Rec rec)

@@ -17,41 +17,41 @@ use Rattle.rmm_model.specs.Machine.{Machine, is_inside, is_secure, number_of, st
 use Rattle.rmm_model.specs.Rec.{is_running}
 use Rattle.rmm_model.specs.Command.Operand.{rec_at}
 
--- X0 refuses a call: it is neither RMI_SUCCESS nor the word of a REC that runs on
+-- X0 has the result word of a refusal: neither RMI_SUCCESS nor the word for a REC that is still running
 abbrev pub IsRefused : ℕ → Type 0
 IsRefused x0 = (x0 ≢ 0) × (x0 ≢ 2 ^ 64 - 2)
 
--- a word refuses a call: it is neither RMI_SUCCESS nor that of a REC that runs on
+-- a result word is a refusal: neither RMI_SUCCESS nor the word for a REC that is still running
 abbrev pub is_refusal : Word → Bool
 is_refusal Success = false
 is_refusal Running = false
 is_refusal _ = true
 
--- a word is one of a list
+-- a word is in a list of words
 abbrev pub IsOneOf : Word → List Word → Type 0
 IsOneOf word [] = ⊥
 IsOneOf word (first ∷ rest) = (first ≡ word) ⊎ IsOneOf word rest
 
--- A call is RMI_REC_ENTER of a REC that is not RUNNING before the call, and RUNNING after it.
+-- A call is RMI_REC_ENTER of a REC that is not RUNNING before the call, and is RUNNING after it.
 abbrev pub IsRecEnter : Machine → Machine → Option Call → Type 0
 IsRecEnter m n (Some (RecEnter rec run)) =
     (is_rec_named m rec ≡ true) × (is_running (rec_in m (number_of m rec)).state ≡ false) × (is_running (rec_in n (number_of m rec)).state ≡ true)
 IsRecEnter m n _ = ⊥
 
--- A host's access at an address faults: the address is no multiple of a size, or it is in no granule of the machine.
--- Or the granule is not UNDELEGATED, or it is of the secure world.
+-- A host's access at an address faults: the address is not a multiple of the access size, or is not in an UNDELEGATED
+-- granule outside the secure world.
 abbrev pub IsFault : Machine → ℕ → ℕ → Type 0
 IsFault m size address = (address % size ≢ 0) ⊎ ((is_inside m address ≡ false) ⊎ ((state_at m address ≢ Undelegated) ⊎ (is_secure m address ≡ true)))
 
--- no REC begins at an address, or its guest has 16 steps already
+-- a guest step cannot be queued at an address: no REC begins there, or the REC has 16 steps already
 abbrev pub IsNotGiven : Machine → ℕ → Type 0
 IsNotGiven m address = (is_rec_named m address ≡ false) ⊎ (16 ≤ (rec_at m address).step_count)
 
--- no REC begins at an address, or it does not run
+-- no REC begins at an address, or the REC there does not run
 abbrev pub IsNotRunning : Machine → ℕ → Type 0
 IsNotRunning m address = (is_rec_named m address ≡ false) ⊎ (is_running (rec_at m address).state ≡ false)
 
--- a guest was not given a step: it has 16 already, or there is no REC
+-- the answer says that a step was not queued: the REC has 16 steps already, or there is no REC
 abbrev pub IsNotQueued : Queued → Type 0
 IsNotQueued answer = answer ≢ IsQueued
 
@@ -62,6 +62,6 @@ IsAccess (Read ipa size) = Unit {0}
 IsAccess (Fetch ipa) = Unit {0}
 IsAccess _ = ⊥
 
--- a step is not done
+-- the outcome of a step is not `Done`
 abbrev pub IsNotDone : StepOutcome → Type 0
 IsNotDone outcome = outcome ≢ IsResult Done

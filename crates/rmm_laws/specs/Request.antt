@@ -22,17 +22,18 @@ IsRest rest asked = (asked.base ≤ rest.base) × (rest ≡ record asked { base 
 abbrev pub IsRestFrom : Machine → Machine → ℕ → ℕ → ℕ → Type 0
 IsRestFrom m n rec base stop = (base ≡ (rec_at m rec).ripas.base) × ((rec_in n (number_of m rec)).ripas ≡ record (rec_at m rec).ripas { base = stop })
 
--- A call may give a REC this RIPAS request: RMI_REC_ENTER any, RMI_RTT_SET_RIPAS the rest of the old one.
+-- A call may change the RIPAS request of a REC to a given one. RMI_REC_ENTER may change it to any, and
+-- RMI_RTT_SET_RIPAS to the rest of the old one.
 abbrev pub IsRequested : Machine → Option Call → ℕ → RipasRequest → Type 0
 IsRequested m (Some (RecEnter rec run)) g asked = g ≡ number_of m rec
 IsRequested m (Some (RttSetRipas rd rec base top)) g asked = (g ≡ number_of m rec) × IsRest asked (rec_in m g).ripas
 IsRequested m call g asked = ⊥
 
--- Each REC after a call asks for what it asked for before it, or the call changes that.
+-- Each REC has the same RIPAS request after a call as before, or one to which the call may change it.
 abbrev pub KeepsRequests : Machine → Option Call → Machine → Type 0
 KeepsRequests m call n = (g : ℕ) (rec : RmmRec) → (granule_at n g).state ≡ Rec rec → (rec.ripas ≡ (rec_in m g).ripas) ⊎ IsRequested m call g rec.ripas
 
--- the first step of a guest asks for a change of RIPAS, within the protected half of its realm
+-- the first step of a REC asks for the given change of RIPAS, within the protected half of its realm
 abbrev pub IsAskedFor : Machine → ℕ → RipasRequest → Type 0
 IsAskedFor m g asked =
     (base : ℕ) × (top : ℕ) × (ripas : ℕ) × (more : ℕ) × (realm : RmmRealm) × (first_step m g ≡ SetRipas base top ripas more)

@@ -22,7 +22,7 @@ use Rattle.rmm_model.specs.Walk.{entry_at, walk}
 use Rattle.rmm_model.specs.Command.Operand.{rec_at}
 use Rattle.rmm_laws.specs.State.{IsRealmIn}
 
--- the RIPAS at an address of a realm: that of the entry at which its walk ends
+-- the RIPAS at an address of a realm: the RIPAS of the entry at which the walk of the address ends
 abbrev pub ripas_at : Machine → RmmRealm → ℕ → RmmRipas
 ripas_at m realm ipa = ripas_in (entry_at m (walk m realm ipa 3) ipa)
 
@@ -42,9 +42,10 @@ outcome_without_memory m realm class ipa =
 abbrev pub IsBetween : ℕ → ℕ → ℕ → Type 0
 IsBetween base top ipa = (base ≤ ipa) × (ipa < top)
 
--- A call may change the RIPAS of an IPA in the given realm. RTT_INIT_RIPAS and DATA_CREATE of a NEW realm make it RAM.
--- DATA_DESTROY makes RAM DESTROYED, and RTT_DESTROY makes any RIPAS DESTROYED. RTT_SET_RIPAS gives the RIPAS that a REC
--- of the realm asks for, within the range that it asks for. It replaces DESTROYED only if the REC asks for that too.
+-- A call may change the RIPAS of an IPA in the given realm from one given value to another. RTT_INIT_RIPAS and
+-- DATA_CREATE of a NEW realm make it RAM. DATA_DESTROY makes RAM DESTROYED, and RTT_DESTROY makes any RIPAS DESTROYED.
+-- RTT_SET_RIPAS gives the RIPAS that a REC of the realm asks for, within the range that it asks for. It replaces
+-- DESTROYED only if the REC asks for that too.
 abbrev pub IsRipasGiven : Machine → Option Call → ℕ → ℕ → RmmRipas → RmmRipas → Type 0
 IsRipasGiven m (Some (RttInitRipas of base top)) rd ipa old Ram = (rd ≡ number_of m of) × IsRealmIn m rd New × IsBetween base top ipa
 IsRipasGiven m (Some (DataCreate of page at source flags)) rd ipa old Ram =
@@ -57,15 +58,16 @@ IsRipasGiven m (Some (RttSetRipas of rec base top)) rd ipa old ripas =
     × (old ≡ Destroyed → (rec_at m rec).ripas.changes_destroyed ≡ true)
 IsRipasGiven m call rd ipa old ripas = ⊥
 
--- Each protected IPA of a realm that exists before and after a call keeps its RIPAS, or the call gives it the new one.
+-- In a realm that exists before and after a call, each protected IPA keeps its RIPAS, or has one to which the call may
+-- change it.
 abbrev pub KeepsRipas : Machine → Option Call → Machine → Type 0
 KeepsRipas m call n =
     (rd ipa : ℕ) (before after : RmmRealm) → (granule_at m rd).state ≡ Rd before → (granule_at n rd).state ≡ Rd after → is_protected before ipa ≡ true
     → (ripas_at n after ipa ≡ ripas_at m before ipa) ⊎ IsRipasGiven m call rd ipa (ripas_at m before ipa) (ripas_at n after ipa)
 
--- Each protected IPA from `base` up to `stop`, a later address, has the given RIPAS afterwards. Its entry changes in
--- RIPAS only, so it leads to the same page. Outside the range, the entries of protected IPAs are unchanged. Walks end
--- where they did.
+-- Each protected IPA at or above `base` and below `stop` has the given RIPAS afterwards. `stop` is above `base`. The
+-- entry of such an IPA changes in RIPAS only, so it leads to the same page. Outside the range, the entries of protected
+-- IPAs are unchanged. Walks end where they did.
 pub record IsRipasSet (m n : Machine) (realm : RmmRealm) (ripas : RmmRipas) (base stop : ℕ) : Type 0 where
   pub further : base < stop
   pub walks : (ipa : ℕ) → is_protected realm ipa ≡ true → walk n realm ipa 3 ≡ walk m realm ipa 3

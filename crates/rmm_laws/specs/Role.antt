@@ -24,7 +24,7 @@ pub record Used : Type 0 where
 abbrev pub used : RmmGranuleState → Option ℕ → ℕ → ℕ → Used
 used state owner level number = record { number = number; attributes = record { state = state; owner = owner }; level = level }
 
--- a granule in that state is used by another one
+-- a granule in the given state is used by another granule
 abbrev pub has_user : RmmGranuleState → Bool
 has_user Rtt = true
 has_user Data = true
@@ -35,7 +35,7 @@ abbrev pub level_in : RmmGranuleState → ℕ → ℕ
 level_in Rtt level = level
 level_in _ level = 0
 
--- a granule of a machine as one in use; the function gives the levels of tables
+-- a granule of a machine, with its number, its attributes and, if it is a table, the level that `level` gives for it
 abbrev pub used_at : Machine → (ℕ → ℕ) → ℕ → Used
 used_at m level g = record { number = g; attributes = granule_at m g; level = level_in (granule_at m g).state (level g) }
 
@@ -45,14 +45,16 @@ used_at m level g = record { number = g; attributes = granule_at m g; level = le
 abbrev pub page_count : ℕ → ℕ
 page_count level = entry_size level / 4096
 
--- a granule that a table entry uses: the table below a TABLE entry, or a page of ASSIGNED memory
+-- the granule that a table entry uses in part `part`: the table below a TABLE entry in part 0, or page `part` of
+-- ASSIGNED memory
 abbrev pub entry_uses : Machine → Option ℕ → ℕ → RmmRttEntry → ℕ → Option Used
 entry_uses m owner level (Table address) part = if part == 0 then option_map (used Rtt owner (level + 1)) (granule_named m address) else None
 entry_uses m owner level (Assigned ripas address) part =
     if nat_lt part (page_count level) then option_map (λ first. used Data owner 0 (first + part)) (granule_named m address) else None
 entry_uses m owner level _ part = None
 
--- a table uses what its entries do, a REC its auxiliary granules, and an RD its starting tables
+-- what a granule in the given state uses at an index: what a table's entry uses, a REC's auxiliary granule, or an RD's
+-- starting table
 abbrev pub state_uses : Machine → RmmGranuleState → Option ℕ → ℕ → List ℕ → ℕ → ℕ → ℕ → Option Used
 state_uses m Rtt owner level page g i part = if nat_lt i 512 then entry_uses m owner level (entry_in_page page i) part else None
 state_uses m (IsRec rec) owner level page g i part =
@@ -61,7 +63,8 @@ state_uses m (Rd realm) owner level page g i part =
     if nat_lt i realm.table_count && part == 0 then Some (used Rtt (Some g) realm.start_level (realm.first_table + i)) else None
 state_uses m _ owner level page g i part = None
 
--- The granule that a granule uses at an index and a part. Only a mapping has more than one part: its pages.
+-- The granule that a given granule uses at an index of its entries, auxiliary granules or starting tables. Only a
+-- mapping has more than one part: its pages.
 unfoldable pub uses : Machine → (ℕ → ℕ) → ℕ → ℕ → ℕ → Option Used
 uses m level g i part = state_uses m (granule_at m g).state (granule_at m g).owner (level g) (page_in m g) g i part
 
@@ -76,7 +79,7 @@ pub record IsUsed (gives : ℕ → ℕ → ℕ → Option Used) (at : ℕ → Us
   pub once : (x i k : ℕ) (u : Used) → gives x i k ≡ Some u → u.number ≡ granule → (x ≡ user) × (i ≡ index) × (k ≡ part)
   pub role : has_user (at granule).attributes.state ≡ true
 
--- No granule uses this granule, and its state is one that has no user.
+-- No granule uses this granule, and its state requires no user.
 pub record HasNoUser (gives : ℕ → ℕ → ℕ → Option Used) (at : ℕ → Used) (granule : ℕ) : Type 0 where
   pub none : (x i k : ℕ) (u : Used) → gives x i k ≡ Some u → u.number ≢ granule
   pub role : has_user (at granule).attributes.state ≡ false
@@ -86,8 +89,8 @@ HasOneRole gives at granule = IsUsed gives at granule ⊎ HasNoUser gives at gra
 
 -- ---- machines
 
--- The settings are those of a platform. The machine has at most 4,096 granules, a whole page for each, and the starting
--- tables of each realm.
+-- A machine is well formed: its settings are those of a platform. It has at most 4,096 granules, a whole page for each,
+-- and the starting tables of each realm.
 pub record IsSound (m : Machine) : Type 0 where
   pub platform : IsPlatform m.settings
   pub few : length m.granules ≤ 4096
@@ -95,11 +98,11 @@ pub record IsSound (m : Machine) : Type 0 where
   pub whole : (granule : ℕ) → granule < length m.granules → length (page_in m granule) ≡ 4096
   pub tables : HasTables m.granules
 
--- an address is that at which a granule of the machine begins
+-- a granule of the machine begins at an address
 abbrev pub IsBegin : Machine → ℕ → Type 0
 IsBegin m address = (is_inside m address ≡ true) × (address ≡ m.settings.base + number_of m address * 4096)
 
--- if an entry is TABLE or ASSIGNED, a granule of the machine begins at its address
+-- if an entry is TABLE or ASSIGNED, a granule of the machine begins at the address in it
 abbrev pub LeadsInside : Machine → RmmRttEntry → Type 0
 LeadsInside m (Table address) = IsBegin m address
 LeadsInside m (Assigned ripas address) = IsBegin m address

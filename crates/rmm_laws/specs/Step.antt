@@ -19,7 +19,7 @@ use Rattle.rmm_laws.specs.Apart.{realm_of_rec, IsOfRealm, IsSameAt, IsSpare}
 abbrev pub IsAssignedAt : Machine → ℕ → ℕ → ℕ → Type 0
 IsAssignedAt m rd ipa level = (ripas : RmmRipas) × (address : ℕ) × (entry_at m (walk m (realm_at m rd) ipa level) ipa ≡ Assigned ripas address)
 
--- A call takes a page, a mapping or a table from the realm at an address. Or it unfolds a block, with a spare granule.
+-- A call removes a page, a mapping or a table from the realm with this RD, or unfolds a block with the spare granule.
 abbrev pub IsTeardown : Machine → ℕ → ℕ → Call → Type 0
 IsTeardown m rd spare (DataDestroy of ipa) = of ≡ rd
 IsTeardown m rd spare (RttUnmapUnprotected of ipa level) = of ≡ rd
@@ -27,24 +27,24 @@ IsTeardown m rd spare (RttDestroy of ipa level) = of ≡ rd
 IsTeardown m rd spare (RttCreate of rtt ipa level) = (of ≡ rd) × (rtt ≡ spare) × IsAssignedAt m rd ipa (level - 1)
 IsTeardown m rd spare _ = ⊥
 
--- Such a call of the realm succeeds.
+-- There is a call that succeeds and removes a page, a mapping or a table from the realm, or unfolds a block.
 abbrev pub HasNextStep : Machine → ℕ → ℕ → Type 0
 HasNextStep m rd spare = (call : Call) × IsTeardown m rd spare call × ((performed call m).0.word ≡ Success)
 
--- A call removes a REC of the realm at an address, or that realm.
+-- A call destroys a REC of the realm whose RD is given, or the realm itself.
 abbrev pub IsRemoval : Machine → ℕ → Call → Type 0
 IsRemoval m rd (RecDestroy rec) = realm_of_rec m rec ≡ Some (number_of m rd)
 IsRemoval m rd (RealmDestroy of) = of ≡ rd
 IsRemoval m rd _ = ⊥
 
--- Such a call of the realm succeeds.
+-- There is a call that succeeds and destroys a REC of the realm, or the realm itself.
 abbrev pub HasRemoval : Machine → ℕ → Type 0
 HasRemoval m rd = (call : Call) × IsRemoval m rd call × ((performed call m).0.word ≡ Success)
 
 -- ---- whole teardowns
 
--- A call is one of the teardown of the realm at an address: it removes a page, a mapping, a table or a REC of it, or the
--- realm. Or it unfolds a block of it, or undelegates a granule.
+-- A call belongs to a realm's teardown: it removes a page, mapping, table or REC of the realm or the realm itself,
+-- unfolds a block, or undelegates a granule.
 abbrev pub IsOfTeardown : Machine → ℕ → Call → Type 0
 IsOfTeardown m rd (DataDestroy of ipa) = of ≡ rd
 IsOfTeardown m rd (RttUnmapUnprotected of ipa level) = of ≡ rd
@@ -55,12 +55,12 @@ IsOfTeardown m rd (RealmDestroy of) = of ≡ rd
 IsOfTeardown m rd (GranuleUndelegate address) = Unit {0}
 IsOfTeardown m rd _ = ⊥
 
--- Such calls, one after the other, all succeed, and lead from a machine to another.
+-- Calls of a realm's teardown, made one after another, all succeed and lead from one machine to another.
 abbrev pub LeadsDown : ℕ → Machine → List Call → Machine → Type 0
 LeadsDown rd m [] n = m ≡ n
 LeadsDown rd m (call ∷ calls) n = IsOfTeardown m rd call × ((performed call m).0.word ≡ Success) × LeadsDown rd (performed call m).1 calls n
 
--- Some sequence of teardown calls succeeds and takes the realm down. Each granule that the realm has now, including its
+-- Some sequence of teardown calls succeeds and destroys the realm. Each granule that the realm has now, including its
 -- RD, is UNDELEGATED and zero afterwards. The VMID of the realm is free. Each granule of another realm is as it was.
 pub record CanBeTornDown (m : Machine) (rd : ℕ) : Type 0 where
   pub calls : List Call

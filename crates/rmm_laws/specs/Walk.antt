@@ -14,7 +14,7 @@ use Rattle.rmm_model.specs.Walk.{entry_at, table_below, walk}
 abbrev pub IsTableOf : Machine → ℕ → ℕ → Type 0
 IsTableOf m rd granule = granule_at m granule ≡ of_realm rd Rtt
 
--- the end of a walk at a table of a level
+-- the end of a walk at the given table, which is of the given level
 abbrev pub walked_to : ℕ → ℕ → RttWalk
 walked_to table level = record { table = table; level = level }
 
@@ -65,8 +65,8 @@ pub record IsNextTop (m : Machine) (realm : RmmRealm) (found : RttWalk) (ipa to 
   pub met : IsAtLive m found ipa to
   pub skipped : (x : ℕ) → ipa ≤ x → x < to → IsPassed m realm found x
 
--- A table of the realm begins at an entry's address. Its level is one more than that of the table with the entry, and
--- at most 3.
+-- A table of the realm begins at the address in an entry. Its level is one more than that of the table with the entry,
+-- and at most 3.
 pub record LeadsToTable (m : Machine) (level : ℕ → ℕ) (rd table address : ℕ) : Type 0 where
   pub granule : ℕ
   pub begins : address ≡ m.settings.base + granule * 4096

@@ -1,4 +1,4 @@
-//! Theorems about RMI calls in registers, the host's stores and fills, and the steps of guests.
+//! Theorems about RMI calls by registers, the host's stores and fills, the steps of guests, and interrupts.
 ghost use Rattle.std.specs.Prelude.{◌≡◌, ◌≢◌, ℕ, ◌+◌, ◌-◌, ◌*◌, ◌/◌, ◌%◌, ◌^◌, ◌<◌, ◌≤◌, ◌⊎◌, true, false, List, [], ◌∷◌, length, Some, None};
 ghost use Rattle.granule_addr.specs.Page.{zero_page};
 ghost use Rattle.page_arena.specs.Page.{page_at};

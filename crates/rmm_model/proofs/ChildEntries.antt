@@ -1,10 +1,11 @@
--- A proof that the word of child k of an entry has the entry's kind, and the entry's descriptor plus k steps.
+-- A proof that the word of an entry's child k has the entry's kind, and the entry's descriptor plus k times the step
+-- between children.
 use Rattle.std.proofs.Common.{◌≡◌, ℕ, ◌+◌, ◌*◌, ◌%◌, ◌^◌, refl, arith}
 use Rattle.rmm_model.specs.declared.entry.RmmRttEntry.{RmmRttEntry}
 use Rattle.rmm_model.specs.declared.entry.RmmRttEntry.TheVariants.{Unassigned, Assigned, Table, UnassignedNs, AssignedNs}
 use Rattle.rmm_model.specs.Entry.{kind_word, descriptor_of, entry_word, child_entry, child_step}
 
--- the word of child k has the kind of its parent, and a descriptor that is k steps above
+-- the word of child k has the kind of its parent, and the parent's descriptor plus k steps
 pub child_word_of : (parent : RmmRttEntry) (level k : ℕ) → kind_word parent + (descriptor_of parent + k * child_step parent level) % 2 ^ 48 ≡ entry_word (child_entry parent level k)
 unfolding entry_word
 child_word_of (Assigned ripas address) level k = refl

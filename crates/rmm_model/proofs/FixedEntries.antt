@@ -1,5 +1,5 @@
--- Lemmas on the search for a table's first entry whose RIPAS a command cannot change: such an entry is found, and any
--- other is skipped.
+-- Lemmas about the search for a table's first entry whose RIPAS a command cannot change: such an entry is found, and
+-- any other is skipped.
 use Rattle.std.proofs.Common.{◌≡◌, ℕ, suc, ◌+◌, ◌-◌, ◌<◌, ◌≤◌, List, true, false, ap, ◌∙◌, arith}
 use Rattle.std.proofs.lemmas.Bool.{cond-true, cond-false}
 use Rattle.rmm_model.specs.declared.entry.Changeable.{Changeable}

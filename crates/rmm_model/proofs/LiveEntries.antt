@@ -1,4 +1,4 @@
--- Lemmas on the search for a table's first live entry: a live entry is found, and any other is skipped.
+-- Lemmas about the search for a table's first live entry: a live entry is found, and any other is skipped.
 use Rattle.std.proofs.Common.{◌≡◌, ℕ, zero, suc, ◌+◌, ◌-◌, ◌*◌, ◌/◌, ◌%◌, ◌^◌, ◌<◌, List, true, false, refl, ap, sym, ◌∙◌, arith}
 use Rattle.std.proofs.lemmas.Bool.{cond-true, cond-false}
 use Rattle.page_arena.specs.Word.{word_of_page}

@@ -1,4 +1,4 @@
--- Proofs that feeding zero bytes to a hash in pieces gives the same message as feeding all of them at once.
+-- Proofs that feeding padding zeros to a hash in pieces gives the same message as feeding all of them at once.
 use Rattle.std.proofs.Common.{◌≡◌, ℕ, ◌+◌, ◌-◌, ◌≤◌, List, [], ◌++◌, take, replicate, ap, ◌∙◌, append_assoc, append-nil, arith}
 use Rattle.std.proofs.lemmas.List.{replicate-append-replicate, take-replicate}
 use Rattle.rmm_model.specs.Bytes.{zeros}

@@ -16,7 +16,7 @@ use Rattle.rmm_model.specs.declared.condition.Condition.TheVariants.{RecMmio, Re
 use Rattle.rmm_model.specs.declared.condition.Condition.TheVariants.{Pending, Owner, Target, Status}
 use Rattle.rmm_model.specs.Check.{Check, Command}
 
--- the number of a condition, by which two are compared
+-- a distinct number for each failure condition, used to compare conditions
 abbrev pub condition_number : Condition → ℕ
 condition_number Version = 1
 condition_number GranAlign = 2
@@ -98,8 +98,8 @@ condition_number Status = 76
 abbrev pub is_among : List Condition → Condition → Bool
 is_among conditions condition = list_any (λ c. condition_number c == condition_number condition) conditions
 
--- The words of the checks that are made and fail, given the conditions that have passed. A check is made if each check
--- that it comes after was made and passed.
+-- The result words of the checks that are made and fail, given the conditions that have passed. A check is made if each
+-- check that it comes after was made and passed.
 unfoldable pub words_after : List Condition → List Check → List Word
 words_after passed [] = []
 words_after passed (c ∷ cs) =
@@ -111,7 +111,7 @@ abbrev pub or_success : List Word → List Word
 or_success [] = Success ∷ []
 or_success (word ∷ words) = word ∷ words
 
--- The words with which an RMM may answer a command. They are those of all checks that are made and fail, or RMI_SUCCESS
--- if there are none.
+-- The result words with which an RMM may answer a command. They are those of all checks that are made and fail, or
+-- RMI_SUCCESS if there are none.
 unfoldable pub allowed_words : Command → List Word
 allowed_words command = or_success (words_after [] command.checks)

@@ -33,7 +33,7 @@ use Rattle.rmm_model.specs.Command.RttSetRipas.{rtt_set_ripas}
 use Rattle.rmm_model.specs.Command.RttUnmapUnprotected.{rtt_unmap_unprotected}
 use Rattle.rmm_model.specs.Command.Version.{version}
 
--- The command of a call.
+-- The command that a call gives the RMM, with its checks and its effect on a machine.
 abbrev pub command_of : Call → Machine → Command
 command_of (Version requested) m = version requested m
 command_of (Features index) m = features index m
@@ -67,6 +67,6 @@ abbrev pub rmi_at : Option Call → Registers → Machine → Registers × Machi
 rmi_at (Some call) r m = (with_answer r (performed call m).0, (performed call m).1)
 rmi_at None r m = (not_supported r, m)
 
--- The registers and the machine after an SMC.
+-- The registers and the machine after an SMC call.
 unfoldable pub rmi : Registers → Machine → Registers × Machine
 rmi r m = rmi_at (call_in r) r m

@@ -1,5 +1,5 @@
--- The checks of RMI commands, and the answer to a command by its first check that fails. RMM 1.0, failure conditions of
--- RMI commands.
+-- The checks of RMI commands, and the answers to commands: the first check that fails decides. RMM 1.0, failure
+-- conditions of RMI commands.
 use Rattle.std.specs.Prelude.{ℕ, Bool, cond, List, [], ◌∷◌, Option, Some, None, Result, Ok, Err}
 use Rattle.rmi_abi.specs.declared.registers.SmcResult.{SmcResult}
 use Rattle.rmi_abi.specs.declared.word.Word.TheVariants.{Success, ErrorInput, ErrorRealm, ErrorRec, ErrorRtt}
@@ -10,6 +10,7 @@ use Rattle.rmm_model.specs.Machine.{Machine}
 
 -- ---- answers without outputs
 
+-- the answer RMI_SUCCESS without outputs
 abbrev pub success : SmcResult
 success = only Success
 
@@ -25,13 +26,13 @@ error_rec = only ErrorRec
 abbrev pub error_rtt : ℕ → SmcResult
 error_rtt level = only (ErrorRtt level)
 
--- RMI_ERROR_RTT with the level of a table, and the next live entry in X2
+-- RMI_ERROR_RTT with the level of a table, and in X2 the IPA of the next live entry
 abbrev pub error_rtt_top : ℕ → ℕ → SmcResult
 error_rtt_top top level = record { word = ErrorRtt level; x1 = 0; x2 = top; x3 = 0; x4 = 0 }
 
 -- ---- checks
 
--- One check: its name, the checks that it comes after, whether it fails, and its answer.
+-- A check: its name, the checks that it comes after, whether it fails, and the answer if it does.
 pub record Check : Type 0 where
   pub after : List Condition
   pub fails : Bool
@@ -40,7 +41,7 @@ pub record Check : Type 0 where
 abbrev pub check : Condition → List Condition → Bool → SmcResult → Check
 check condition after fails answer = record { after = after; fails = fails; refusal = record { condition = condition; answer = answer } }
 
--- the refusal by the first check that fails
+-- the refusal by the first check that fails, if any fails
 abbrev pub first_failing : List Check → Option FailedCondition
 first_failing [] = None
 first_failing (c ∷ cs) = cond c.fails (Some c.refusal) (first_failing cs)

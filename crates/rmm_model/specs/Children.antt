@@ -1,4 +1,4 @@
--- The words that encode a table whose entries are the children of an entry above it.
+-- The words that encode the children of a table entry.
 use Rattle.std.specs.Prelude.{ℕ}
 use Rattle.page_arena.specs.Word.{rising_word}
 use Rattle.rmm_model.specs.declared.children.ChildWords.{ChildWords}

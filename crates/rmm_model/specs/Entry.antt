@@ -8,13 +8,13 @@ use Rattle.rmm_model.specs.declared.entry.RmmRttEntry.TheVariants.{Unassigned, A
 use Rattle.rmm_model.specs.declared.entry.RmmRipas.{RmmRipas}
 use Rattle.rmm_model.specs.declared.entry.RmmRipas.TheVariants.{Empty, Ram, Destroyed}
 
--- the encoding of RIPAS: RmiRipas
+-- the encoding of a RIPAS as an RmiRipas
 abbrev pub ripas_code : RmmRipas → ℕ
 ripas_code Empty = 0
 ripas_code Ram = 1
 ripas_code Destroyed = 2
 
--- the address or descriptor of a live entry, and 0 of any other
+-- the address or descriptor of a live entry; 0 for any other entry
 abbrev pub descriptor_of : RmmRttEntry → ℕ
 descriptor_of (Assigned ripas address) = address
 descriptor_of (Table address) = address
@@ -36,11 +36,11 @@ kind_word (Table address) = 4 * 2 ^ 56
 kind_word (AssignedNs descriptor) = 5 * 2 ^ 56
 kind_word (Assigned ripas address) = (6 + ripas_code ripas) * 2 ^ 56
 
--- The word of an entry. A live one has its descriptor in bits 47:0.
+-- The word that encodes an entry. A live entry has its descriptor in bits 47:0.
 unfoldable pub entry_word : RmmRttEntry → ℕ
 entry_word entry = kind_word entry + descriptor_of entry % 2 ^ 48
 
--- the entry of a kind, with a descriptor if it has one
+-- the entry of the kind with the given number, with the given descriptor if entries of the kind have one
 abbrev pub entry_at_kind : ℕ → ℕ → RmmRttEntry
 entry_at_kind kind descriptor =
     if kind == 1 then Unassigned Ram else
@@ -52,7 +52,7 @@ entry_at_kind kind descriptor =
     (if kind == 7 then Assigned Ram descriptor else
     (if kind == 8 then Assigned Destroyed descriptor else Unassigned Empty)))))))
 
--- The entry that a word is read as, whatever the word.
+-- The entry that a word encodes. Each word encodes some entry.
 unfoldable pub entry_of : ℕ → RmmRttEntry
 entry_of word = entry_at_kind (word / 2 ^ 56) (word % 2 ^ 48)
 
@@ -88,21 +88,23 @@ is_mapping _ = false
 
 -- ---- RIPAS
 
+-- a RIPAS is RAM
 abbrev pub is_ram : RmmRipas → Bool
 is_ram Ram = true
 is_ram _ = false
 
+-- a RIPAS is DESTROYED
 abbrev pub is_destroyed : RmmRipas → Bool
 is_destroyed Destroyed = true
 is_destroyed _ = false
 
--- an entry is one whose RIPAS a command changes
+-- an entry is of a kind whose RIPAS a command changes
 abbrev pub can_change : Changeable → RmmRttEntry → Bool
 can_change changeable (Unassigned ripas) = changeable.destroyed || not (is_destroyed ripas)
 can_change changeable (Assigned ripas address) = changeable.assigned && (changeable.destroyed || not (is_destroyed ripas))
 can_change changeable _ = false
 
--- an UNASSIGNED or ASSIGNED entry with another RIPAS
+-- an UNASSIGNED or ASSIGNED entry with the given RIPAS in place of its own; any other entry unchanged
 abbrev pub entry_with_ripas : RmmRipas → RmmRttEntry → RmmRttEntry
 entry_with_ripas ripas (Unassigned old) = Unassigned ripas
 entry_with_ripas ripas (Assigned old address) = Assigned ripas address
@@ -110,7 +112,7 @@ entry_with_ripas ripas entry = entry
 
 -- ---- outputs of RMI_RTT_READ_ENTRY
 
--- the encoding of an entry's state: RmiRttEntryState
+-- the encoding of an entry's state as an RmiRttEntryState
 abbrev pub state_code : RmmRttEntry → ℕ
 state_code (Unassigned ripas) = 0
 state_code UnassignedNs = 0
@@ -118,7 +120,7 @@ state_code (Assigned ripas address) = 1
 state_code (AssignedNs descriptor) = 1
 state_code (Table address) = 2
 
--- the encoding, RmiRipas, of the RIPAS of an UNASSIGNED or ASSIGNED entry; 0 for any other
+-- the RIPAS of an UNASSIGNED or ASSIGNED entry, encoded as an RmiRipas; 0 for any other entry
 abbrev pub shown_ripas : RmmRttEntry → ℕ
 shown_ripas (Unassigned ripas) = ripas_code ripas
 shown_ripas (Assigned ripas address) = ripas_code ripas
@@ -126,26 +128,26 @@ shown_ripas _ = 0
 
 -- ---- children
 
--- Child k of an entry, in a table of a level. The children of a mapping lead to consecutive memory; those of any other
--- entry equal it.
+-- Child k of an entry, in a table of the given level. The children of a mapping lead to consecutive memory; those of
+-- any other entry equal it.
 abbrev pub child_entry : RmmRttEntry → ℕ → ℕ → RmmRttEntry
 child_entry (Assigned ripas address) level k = Assigned ripas (address + k * entry_size level)
 child_entry (AssignedNs descriptor) level k = AssignedNs (descriptor + k * entry_size level)
 child_entry entry level k = entry
 
--- the difference between the descriptors of adjacent children of an entry, in a table of a level
+-- the difference between the descriptors of adjacent children of an entry, in a table of the given level
 abbrev pub child_step : RmmRttEntry → ℕ → ℕ
 child_step (Assigned ripas address) level = entry_size level
 child_step (AssignedNs descriptor) level = entry_size level
 child_step entry level = 0
 
--- the byte that fills the page of an entry's children; none unless it is UNASSIGNED or UNASSIGNED_NS
+-- the byte that fills the page of an entry's children, if the entry is UNASSIGNED or UNASSIGNED_NS
 abbrev pub repeated_byte : RmmRttEntry → Option ℕ
 repeated_byte (Unassigned ripas) = Some (ripas_code ripas)
 repeated_byte UnassignedNs = Some 3
 repeated_byte _ = None
 
--- the RIPAS of an UNASSIGNED or ASSIGNED entry
+-- the RIPAS of an UNASSIGNED or ASSIGNED entry; EMPTY for any other entry
 abbrev pub ripas_in : RmmRttEntry → RmmRipas
 ripas_in (Unassigned ripas) = ripas
 ripas_in (Assigned ripas address) = ripas

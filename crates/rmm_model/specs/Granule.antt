@@ -14,17 +14,17 @@ abbrev pub is_delegated : RmmGranuleState → Bool
 is_delegated Delegated = true
 is_delegated _ = false
 
--- the realm that a granule describes, if it is an RD
+-- the realm that a granule describes, if the granule is an RD
 abbrev pub realm_of : RmmGranuleState → Option RmmRealm
 realm_of (Rd realm) = Some realm
 realm_of _ = None
 
--- the attributes of a REC
+-- the attributes of the REC that a granule holds, if the granule is a REC
 abbrev pub rec_of : RmmGranuleState → Option RmmRec
 rec_of (IsRec rec) = Some rec
 rec_of _ = None
 
--- a granule of no realm
+-- a granule in a state, owned by no realm
 abbrev pub of_no_realm : RmmGranuleState → RmmGranule
 of_no_realm state = record { state = state; owner = None }
 

@@ -20,7 +20,7 @@ use Rattle.rmm_model.specs.Command.PsciComplete.{with_rec}
 
 -- ---- steps
 
--- the guest's step that words encode
+-- the guest step that the given words encode; `Spin` if their kind is unknown
 abbrev pub step_of : StepWords → GuestStep
 step_of w =
     if w.kind == 0 then Write w.a w.b (access_size w.c) else
@@ -38,7 +38,7 @@ step_of w =
     (if w.kind == 13 then Fetch w.a else
     (if w.kind == 14 then SystemRegister w.a w.b else Spin)))))))))))))
 
--- the words of a place of the ring
+-- the words that encode the step at position `place` of the ring of steps in a REC's page
 unfoldable pub words_at : List ℕ → ℕ → StepWords
 words_at page place = record {
   kind = word_of_page page (48 + 5 * place);
@@ -50,6 +50,7 @@ words_at page place = record {
 
 -- ---- results
 
+-- the number that encodes the kind of a step's result
 abbrev pub result_code : StepResult → ℕ
 result_code Done = 0
 result_code (IsRead value) = 1
@@ -60,6 +61,7 @@ result_code (Accepted value) = 3
 result_code (Rejected value) = 4
 result_code (Returned value) = 5
 
+-- the value of a step's result; 0 if it has none
 abbrev pub result_value : StepResult → ℕ
 result_value (IsRead value) = value
 result_value (Psci value) = value
@@ -70,27 +72,27 @@ result_value _ = 0
 
 -- ---- RECs by number
 
--- the attributes of a REC
+-- the attributes of the REC in a granule; `no_rec` if no REC is there
 abbrev pub rec_in : Machine → ℕ → Attributes
 rec_in m g = unwrap_or (rec_of (granule_at m g).state) no_rec
 
--- the machine after the words of a step are written to a place of the ring
+-- the machine after the words of a step are written to position `place` of a guest's ring of steps
 abbrev pub with_step_at : Machine → ℕ → ℕ → StepWords → Machine
 with_step_at m g place w =
     with_word (with_word (with_word (with_word (with_word m g (48 + 5 * place) w.kind) g (48 + 5 * place + 1) w.a) g (48 + 5 * place + 2) w.b)
     g (48 + 5 * place + 3) w.c) g (48 + 5 * place + 4) w.d
 
--- the first step of a guest
+-- the next step of a guest: the first one in its ring of steps
 abbrev pub first_step : Machine → ℕ → GuestStep
 first_step m g = step_of (words_at (page_in m g) ((rec_in m g).first_step % 16))
 
--- the machine after the first step of a guest is removed from its ring
+-- the machine after the first step of a guest is removed from its ring of steps
 unfoldable pub past_step : Machine → ℕ → Machine
 past_step m g =
     let rec = rec_in m g in
     with_rec m g (record rec { first_step = (rec.first_step % 16 + 1) % 16; step_count = rec.step_count - 1 })
 
--- the machine after a result is added to the guest of a REC
+-- the machine after a result is added to the results of a REC's guest
 unfoldable pub with_result : Machine → ℕ → StepResult → Machine
 with_result m g r =
     let rec = rec_in m g in
@@ -99,11 +101,11 @@ with_result m g r =
 
 -- ---- steps from the host
 
--- an address is that of a REC
+-- there is a REC at an address
 abbrev pub is_rec_named : Machine → ℕ → Bool
 is_rec_named m address = is_aligned address && is_inside m address && is_some (rec_of (state_at m address))
 
--- the machine after a step is added at the end of a guest's ring
+-- the machine after a step is added at the end of a guest's ring of steps
 unfoldable pub with_step : Machine → ℕ → StepWords → Machine
 with_step m g w =
     let rec = rec_in m g in
@@ -112,6 +114,6 @@ with_step m g w =
 abbrev pub queued_at : Machine → ℕ → StepWords → Queued × Machine
 queued_at m g w = if nat_lt (rec_in m g).step_count 16 then (IsQueued, with_step m g w) else (Full, m)
 
--- A guest is given a step: it has at most 16 at a time.
+-- A step is queued for the guest of the REC at an address, unless there is no such REC or 16 steps are queued already.
 abbrev pub queued : Machine → ℕ → StepWords → Queued × Machine
 queued m address w = if is_rec_named m address then queued_at m (number_of m address) w else (NoRec, m)

@@ -1,4 +1,4 @@
--- The model's machine: its settings, granules, pages and VMIDs, and the granules that addresses name.
+-- The model's machine: its settings, granules, pages and VMIDs, and the granule that contains an address.
 use Rattle.std.specs.Prelude.{ℕ, ◌-◌, ◌/◌, ◌%◌, ◌==◌, ◌&&◌, Bool, false, nat_le, nat_lt, List, length, slice_index_or, slice_set, IfSome}
 use Rattle.granule_addr.specs.Page.{zero_page}
 use Rattle.page_arena.specs.Page.{page_at}
@@ -20,14 +20,15 @@ pub record Machine : Type 0 where
 
 -- ---- granules by number
 
+-- the number of granules of a machine
 abbrev pub granule_count : Machine → ℕ
 granule_count m = length m.granules
 
--- the granule with a number; one outside the machine counts as UNDELEGATED
+-- the granule with the given number; one outside the machine counts as UNDELEGATED
 abbrev pub granule_at : Machine → ℕ → RmmGranule
 granule_at m granule = slice_index_or m.granules granule (of_no_realm Undelegated)
 
--- the page of a granule
+-- the bytes of a granule
 abbrev pub page_in : Machine → ℕ → List ℕ
 page_in m granule = page_at m.pages granule
 
@@ -46,6 +47,7 @@ with_blank m granule state = with_page (with_granule m granule (of_no_realm stat
 
 -- ---- granules by address
 
+-- the address is a multiple of 4 KiB, the size of a granule
 abbrev pub is_aligned : ℕ → Bool
 is_aligned address = address % 4096 == 0
 
@@ -61,7 +63,7 @@ number_of m address = (address - m.settings.base) / 4096
 abbrev pub state_at : Machine → ℕ → RmmGranuleState
 state_at m address = (granule_at m (number_of m address)).state
 
--- the memory at an address is of the secure world
+-- the memory at an address belongs to the secure world
 unfoldable pub is_secure : Machine → ℕ → Bool
 is_secure m address = nat_le m.settings.secure_base address && nat_lt ((address - m.settings.secure_base) / 4096) m.settings.secure_count
 
@@ -71,11 +73,11 @@ is_secure m address = nat_le m.settings.secure_base address && nat_lt ((address 
 abbrev pub with_realm : Machine → ℕ → RmmRealm → Machine
 with_realm m rd realm = with_granule m rd (of_no_realm (Rd realm))
 
--- the starting tables of each RD's realm are in the machine, and serve its address space
+-- each realm's starting tables are in the machine and serve the realm's address space
 pub record HasTables (granules : List RmmGranule) : Type 0 where
   pub each : (granule : ℕ) → IfSome (realm_of (slice_index_or granules granule (of_no_realm Undelegated)).state) (IsServed (length granules))
 
--- some realm has that VMID
+-- some realm has the given VMID
 abbrev pub is_vmid_used : Machine → ℕ → Bool
 is_vmid_used m vmid = slice_index_or m.vmids vmid false
 

@@ -14,14 +14,14 @@ use Rattle.rmm_model.specs.Bytes.{zeros}
 abbrev pub word : ℕ → List ℕ
 word number = to_le_bytes w64 number
 
--- the digest of a message in 64 bytes, the rest of which are 0
+-- the digest of a message in 64 bytes; a SHA-256 digest is followed by zeros
 unfoldable pub digest : HashAlgorithm → List ℕ → List ℕ
 digest Sha256 message = sha256 message ++ zeros 32
 digest Sha512 message = sha512 message
 
 -- ---- initial measurements
 
--- the page of an RmiRealmParams with the measured parameters of a realm, all else 0
+-- the bytes of an RmiRealmParams page with the measured parameters of a realm, and zeros elsewhere
 abbrev pub params_bytes : RealmParams → List ℕ
 params_bytes p = word p.flags ++ word p.s2sz ++ word p.sve_vl ++ word p.num_bps ++ word p.num_wps ++ word p.pmu_num_ctrs ++ word p.hash_algo ++ zeros 4040
 
@@ -31,12 +31,13 @@ initial hash p = digest hash (params_bytes p)
 
 -- ---- extensions
 
+-- the type of an extension's measurement descriptor
 abbrev pub type_of : Extension → ℕ
 type_of (Data ipa flags page) = 0
 type_of (Rec params) = 1
 type_of (Ripas base top) = 2
 
--- a measurement descriptor: its first 0x50 bytes, then the content of the extension
+-- a measurement descriptor: the given first 0x50 bytes, then the content of the extension and zeros
 abbrev pub with_content : List ℕ → Extension → List ℕ
 with_content front (Data ipa flags page) = front ++ word ipa ++ word flags ++ page ++ zeros 96
 with_content front (Rec params) = front ++ params ++ zeros 112
@@ -52,10 +53,10 @@ extended hash rim extension = digest hash (descriptor rim extension)
 
 -- ---- RECs
 
--- a page that is an RmiRecParams with the flags, the pc and the gprs 0 to 7 of another, all else 0
+-- the bytes of an RmiRecParams page with the flags, the pc and the gprs 0 to 7 of a given page, and zeros elsewhere
 abbrev pub rec_bytes : List ℕ → List ℕ
 rec_bytes page = slice_range page 0 8 ++ zeros 504 ++ slice_range page 512 520 ++ zeros 248 ++ slice_range page 768 832 ++ zeros 3264
 
--- The digest of a REC's parameters.
+-- The digest of a REC's measured parameters: flags, pc and gprs 0 to 7.
 unfoldable pub rec_digest : HashAlgorithm → List ℕ → List ℕ
 rec_digest hash page = digest hash (rec_bytes page)

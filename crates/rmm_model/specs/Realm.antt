@@ -6,7 +6,7 @@ use Rattle.rmm_model.specs.declared.realm.RmmRealmState.{RmmRealmState}
 use Rattle.rmm_model.specs.declared.realm.RmmRealmState.TheVariants.{New}
 use Rattle.rmm_model.specs.Level.{entry_size}
 
--- the placeholder realm for a granule that is no RD, after a failed check
+-- the placeholder realm that is used if a granule is not an RD, as after a failed check
 abbrev pub no_realm : RmmRealm
 no_realm = record { state = New; hash = Sha256; rim = []; s2sz = 0; start_level = 0; first_table = 0; table_count = 0; vmid = 0; next_rec = 0; rec_count = 0 }
 
@@ -14,11 +14,11 @@ abbrev pub is_new : RmmRealmState → Bool
 is_new New = true
 is_new _ = false
 
--- the realm with another measurement
+-- the realm with the given measurement in place of its own
 abbrev pub with_rim : RmmRealm → List ℕ → RmmRealm
 with_rim realm rim = record realm { rim = rim }
 
--- the address is one of the realm's
+-- the address is in the realm's address space
 abbrev pub is_in_space : RmmRealm → ℕ → Bool
 is_in_space realm ipa = nat_lt ipa (2 ^ realm.s2sz)
 
@@ -32,12 +32,12 @@ is_unprotected realm ipa = not (is_protected realm ipa) && is_in_space realm ipa
 
 -- ---- starting tables
 
--- the number of starting tables that an address space of a width needs at a level
+-- the number of starting tables that an address space of the given width needs at the given level
 unfoldable pub start_count : ℕ → ℕ → ℕ
 start_count s2sz level = (2 ^ s2sz + (512 * entry_size level - 1)) / (512 * entry_size level)
 
--- The starting level and the number of starting tables are valid for a width. The tables are as many as it needs, at
--- most 16, and it spans more than one entry of the level.
+-- The starting level and the number of starting tables are valid for an IPA width. The tables are as many as it needs,
+-- at most 16, and it spans more than one entry of the level.
 unfoldable pub is_start : ℕ → ℕ → ℕ → Bool
 is_start s2sz level count = nat_le level 3 && nat_lt (entry_size level) (2 ^ s2sz) && nat_le count 16 && count == start_count s2sz level
 

@@ -29,7 +29,7 @@ new_rec is_runnable mpidr = record {
   result_count = 0;
 }
 
--- the placeholder REC for a granule that is no REC, after a failed check
+-- the placeholder REC that is used if a granule is not a REC, as after a failed check
 abbrev pub no_rec : RmmRec
 no_rec = new_rec false 0
 
@@ -37,10 +37,10 @@ abbrev pub is_running : RmmRecState → Bool
 is_running Running = true
 is_running Ready = false
 
--- the REC is on, as PSCI has it
+-- the REC is on in the sense of PSCI: it is runnable or RUNNING
 abbrev pub is_on : RmmRec → Bool
 is_on rec = rec.is_runnable || is_running rec.state
 
--- the address of auxiliary granule k that the page of a REC has
+-- the address of auxiliary granule k, as stored in a REC's page
 abbrev pub aux_of : List ℕ → ℕ → ℕ
 aux_of page k = word_of_page page (32 + k)

@@ -1,5 +1,5 @@
--- The outcome of a guest's step. RMM 1.0, Realm exits, RSI_HOST_CALL, RSI_IPA_STATE_SET and PSCI; Arm Architecture
--- Reference Manual, ESR_EL2.
+-- The outcome of a guest's step, and its effect on memory and on the REC. RMM 1.0, Realm exits, RSI_HOST_CALL,
+-- RSI_IPA_STATE_SET and PSCI; Arm Architecture Reference Manual, ESR_EL2.
 use Rattle.std.specs.Prelude.{ℕ, ◌+◌, ◌-◌, ◌*◌, ◌/◌, ◌%◌, ◌^◌, ◌==◌, ◌&&◌, Bool, true, false, not, nat_lt, Option, Some, None, Result, Ok, Err, if◌then◌else◌}
 use Rattle.rmi_abi.specs.declared.rec_run.ExitReason.TheVariants.{Sync, Psci as PsciExit, RipasChange as RipasExit, HostCall as HostExit}
 use Rattle.rmi_abi.specs.declared.rec_run.RecExit.{RecExit}
@@ -31,11 +31,11 @@ use Rattle.rmm_model.specs.Walk.{entry_at, granule_named, walk}
 
 -- ---- accesses to memory
 
--- an abort at an address
+-- the exit for an abort at an IPA, given ESR_EL2
 abbrev pub abort : ℕ → ℕ → RecExit
 abort esr ipa = record (only_reason Sync) { esr = esr; hpfar = ipa / 4096 * 16 }
 
--- an abort that the host can emulate, with a value that the guest writes
+-- the exit for an emulatable data abort at an IPA, given ESR_EL2 and the value that the guest writes
 abbrev pub emulatable : ℕ → ℕ → ℕ → RecExit
 emulatable esr ipa value = record (only_reason Sync) { esr = esr; far = ipa % 4096; hpfar = ipa / 4096 * 16; gpr0 = value }
 
@@ -59,15 +59,15 @@ protected_access m class entry level ipa =
     if is_memory entry then found_or_sea (granule_named m (descriptor_of entry + ipa % entry_size level)) else
     Err (if is_empty (ripas_in entry) then IsResult Sea else IsExit (abort (class + 4 + level) ipa) Other)
 
--- S2AP of a descriptor lets a guest write, or read
+-- the field S2AP of a descriptor permits a guest's access, which is a write or a read
 abbrev pub may_access : ℕ → Bool → Bool
 may_access desc writes = if writes then desc / 2 ^ 7 % 2 == 1 else desc / 2 ^ 6 % 2 == 1
 
--- WnR of a data abort
+-- the bit WnR of a data abort syndrome: set for a write
 abbrev pub wnr : Bool → ℕ
 wnr writes = if writes then 0x40 else 0
 
--- the fields of ESR_EL2 on a data abort that can be emulated: SAS, WnR and the level
+-- SAS, WnR and the level in ESR_EL2, for a data abort that can be emulated
 abbrev pub of_access : Bool → AccessSize → ℕ → ℕ
 of_access writes size level = syndrome size + (wnr writes + level)
 
@@ -106,7 +106,7 @@ abbrev pub read_outcome : Machine → ℕ → AccessSize → Result ℕ StepOutc
 read_outcome m ipa size (Ok granule) = IsResult (IsRead (value_in (page_in m granule) size ipa))
 read_outcome m ipa size (Err outcome) = outcome
 
--- the machine after a write
+-- the machine after a write, which changes nothing if the access failed
 abbrev pub after_write : Machine → ℕ → AccessSize → ℕ → Result ℕ StepOutcome → Machine
 after_write m ipa size value (Ok granule) = with_value m granule size ipa value
 after_write m ipa size value (Err outcome) = m
@@ -117,7 +117,7 @@ after_write m ipa size value (Err outcome) = m
 abbrev pub host_call : ℕ → ℕ → ℕ → ℕ → StepOutcome
 host_call imm gpr0 gpr1 gpr2 = IsExit (record (only_reason HostExit) { gpr0 = gpr0; gpr1 = gpr1; gpr2 = gpr2; imm = imm % 2 ^ 16 }) LastHostCall
 
--- RSI_IPA_STATE_SET takes a range of pages of the protected half, and EMPTY or RAM
+-- RSI_IPA_STATE_SET accepts its operands: a range of pages in the protected half, and the RIPAS EMPTY or RAM
 abbrev pub is_ripas_range : RmmRealm → ℕ → ℕ → ℕ → Bool
 is_ripas_range realm base top ripas =
     base % 4096 == 0 && top % 4096 == 0 && nat_lt base top && is_protected realm (top - 1) && nat_lt ripas 2
@@ -140,7 +140,7 @@ psci_exit s function target b c =
 abbrev pub psci_gives : ℕ → StepOutcome
 psci_gives value = IsResult (Psci value)
 
--- a REC of the realm was given that MPIDR
+-- some REC of the realm was given the MPIDR
 abbrev pub was_given : RmmRealm → ℕ → Bool
 was_given realm mpidr = is_mpidr mpidr && nat_lt (rec_number mpidr) realm.next_rec
 
@@ -157,11 +157,11 @@ affinity_info s realm rec target level =
     if not (level == 0 && was_given realm target) then psci_gives (2 ^ 64 - 2) else
     (if target == rec.mpidr then psci_gives 0 else psci_exit s 0xC4000004 target level 0)
 
--- a wait, trapped or not
+-- the outcome of a WFI or WFE: an exit if it is trapped, otherwise the result `Done`
 abbrev pub wait : Bool → ℕ → StepOutcome
 wait traps esr = if traps then IsExit (record (only_reason Sync) { esr = esr }) Other else IsResult Done
 
--- a write of a system register
+-- the exit for a write to a system register
 abbrev pub system_register : ℕ → ℕ → StepOutcome
 system_register iss value = IsExit (record (only_reason Sync) { esr = 0x60000000 + iss % 2 ^ 25; gpr0 = value }) LastSystemRegister
 

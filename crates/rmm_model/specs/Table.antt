@@ -12,12 +12,12 @@ entry_in_page page i = entry_of (word_of_page page i)
 
 -- ---- live entries
 
--- the index of the first live entry among `count` from `i` on, or `i + count` if none
+-- the index of the first live entry among `count` entries from entry `i` on, or `i + count` if none is live
 unfoldable pub first_live : List ℕ → ℕ → ℕ → ℕ
 first_live page zero i = i
 first_live page (suc count) i = cond (is_live (entry_in_page page i)) i (first_live page count (i + 1))
 
--- the first live entry of a table from one on, or 512
+-- the index of a table's first live entry, from a given index on, or 512 if there is none
 abbrev pub first_live_from : List ℕ → ℕ → ℕ
 first_live_from page i = first_live page (512 - i) i
 
@@ -27,14 +27,14 @@ has_live page = not (first_live_from page 0 == 512)
 
 -- ---- entries whose RIPAS is changed
 
--- the index of the first unchangeable entry among `count` from `i` on, or `i + count` if none
+-- the index of the first unchangeable entry among `count` entries from entry `i` on, or `i + count` if there is none
 unfoldable pub first_fixed : Changeable → List ℕ → ℕ → ℕ → ℕ
 first_fixed changeable page zero i = i
 first_fixed changeable page (suc count) i = cond (can_change changeable (entry_in_page page i)) (first_fixed changeable page count (i + 1)) i
 
 -- ---- children
 
--- a number of entries of a table, from entry `i` on, are the children of the entry `whole`
+-- the given number of entries of a table, from entry `i` on, are the children of the entry `whole`
 unfoldable pub has_parts : List ℕ → RmmRttEntry → ℕ → ℕ → ℕ → Bool
 has_parts page whole level zero i = true
 has_parts page whole level (suc count) i = word_of_page page i == entry_word (child_entry whole level i) && has_parts page whole level count (i + 1)
@@ -44,7 +44,7 @@ unfoldable pub with_words_from : ℕ → ℕ → (ℕ → ℕ) → List ℕ → 
 with_words_from first zero f page = page
 with_words_from first (suc count) f page = page_with_word (with_words_from first count f page) (first + count) (f (first + count))
 
--- a page in which a number of first words are replaced by a function of their index
+-- a page in which the first `count` words are replaced by a function of their index
 unfoldable pub with_words : ℕ → (ℕ → ℕ) → List ℕ → List ℕ
 with_words zero f page = page
 with_words (suc count) f page = page_with_word (with_words count f page) count (f count)
@@ -53,6 +53,6 @@ abbrev pub children_page_at : Option ℕ → RmmRttEntry → ℕ → List ℕ
 children_page_at (Some byte) whole level = page_of byte
 children_page_at None whole level = with_words 512 (λ k. entry_word (child_entry whole level k)) zero_page
 
--- The page of the table that holds the children of an entry, at a given level.
+-- The page of a table of the given level that holds the children of an entry.
 unfoldable pub children_page : RmmRttEntry → ℕ → List ℕ
 children_page whole level = children_page_at (repeated_byte whole) whole level

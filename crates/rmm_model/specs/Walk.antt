@@ -19,30 +19,30 @@ entry_at m found ipa = entry_in_page (page_in m found.table) (entry_index found.
 abbrev pub with_entry : Machine → RttWalk → ℕ → RmmRttEntry → Machine
 with_entry m found ipa entry = with_word m found.table (entry_index found.level ipa) (entry_word entry)
 
--- the granule that an address names, if that is one of the machine
+-- the number of the granule that contains an address, if the machine has such a granule
 unfoldable pub granule_named : Machine → ℕ → Option ℕ
 granule_named m address = cond (is_inside m address) (Some (number_of m address)) None
 
--- the table that an entry leads to
+-- the granule of the table that a TABLE entry leads to, if the machine has it; `None` for any other entry
 abbrev pub table_below : Machine → RmmRttEntry → Option ℕ
 table_below m (Table address) = granule_named m address
 table_below m _ = None
 
--- the page that an ASSIGNED entry leads to
+-- the granule that an ASSIGNED entry leads to, if the machine has it; `None` for any other entry
 abbrev pub memory_below : Machine → RmmRttEntry → Option ℕ
 memory_below m (Assigned ripas address) = granule_named m address
 memory_below m _ = None
 
 -- ---- walks
 
--- The end of a walk that goes on by at most the given number of levels. It ends at the first entry that leads to no
--- table of the machine.
+-- The end of a walk that goes on from a table for at most the given number of levels. The walk ends at the first entry
+-- that leads to no table of the machine.
 unfoldable pub walk_from : Machine → ℕ → ℕ → RttWalk → RttWalk
 walk_from m ipa zero found = found
 walk_from m ipa (suc levels) found =
     option_map_or (λ table. walk_from m ipa levels (record { table = table; level = found.level + 1 })) (table_below m (entry_at m found ipa)) found
 
--- the starting table that serves an address
+-- the starting table that serves an IPA, with its level
 unfoldable pub start_of : RmmRealm → ℕ → RttWalk
 start_of realm ipa = record { table = realm.first_table + start_table_index realm.start_level ipa; level = realm.start_level }
 
@@ -52,14 +52,14 @@ walk m realm ipa level = walk_from m ipa (level - realm.start_level) (start_of r
 
 -- ---- tops
 
--- the address of live entry `live`, given an IPA in entry `i`. If the two are the same, it is the IPA itself, aligned
--- down if `aligns`.
+-- the IPA of the live entry `live`, given an IPA that entry `i` covers. If the two entries are the same, it is the
+-- given IPA, aligned down if `aligns`.
 unfoldable pub top_at : Bool → ℕ → ℕ → ℕ → ℕ → ℕ
 top_at aligns level ipa i live =
     if live == i then cond aligns (ipa / entry_size level * entry_size level) ipa else (ipa / entry_size level + (live - i)) * entry_size level
 
--- The address of the first live entry from an IPA on, in the table that a walk found. It is the end of the table if
--- none is live. If the IPA's own entry is live, it is the IPA, aligned down if the settings say so.
+-- The IPA of the first live entry at or after an IPA, in the table where a walk ended. It is the end of the table if
+-- none is live. If the IPA's own entry is live, it is that IPA, aligned down if the settings say so.
 unfoldable pub top : Machine → RttWalk → ℕ → ℕ
 top m found ipa =
     let i = entry_index found.level ipa in

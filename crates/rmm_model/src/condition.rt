@@ -1,7 +1,7 @@
 //! Failure conditions of commands.
 
-/// The failure conditions of commands, named as in the standard if it has a name for them. RMM 1.0, failure conditions
-/// of RMI commands.
+/// The failure conditions of commands, with the standard's names where it has any. RMM 1.0, failure conditions of RMI
+/// commands.
 #[derive(Clone, Copy)]
 pub enum Condition {
     Version,

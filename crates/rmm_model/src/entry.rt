@@ -4,7 +4,7 @@ ghost use Rattle.rmm_model.specs.Entry as entries;
 
 use crate::entry_size;
 
-/// The RIPAS of an address: EMPTY, RAM or DESTROYED. RMM 1.0, RmmRipas.
+/// The RIPAS of an IPA: EMPTY, RAM or DESTROYED. RMM 1.0, RmmRipas.
 #[derive(Clone, Copy)]
 pub enum RmmRipas {
     Empty,
@@ -198,8 +198,8 @@ impl RmmRttEntry {
         }
     }
 
-    /// Returns the entry with the RIPAS `ripas`. An entry that is neither UNASSIGNED nor ASSIGNED is returned
-    /// unchanged.
+    /// Returns the entry with its RIPAS replaced by `ripas`. An entry that is neither UNASSIGNED nor ASSIGNED is
+    /// returned unchanged.
     pub fn with_ripas(self, ripas: RmmRipas) -> RmmRttEntry
         ensures { result ≡ entries.entry_with_ripas ripas self }
     {

@@ -4,7 +4,7 @@ ghost use Rattle.std.specs.Prelude.{◌≡◌};
 use crate::{RmmRealm, RmmRec};
 use granule_addr::Gran;
 
-/// The state of a granule, with the attributes of the realm for an RD, and those of the REC for a REC. RMM 1.0,
+/// The state of a granule, with the realm's attributes for an RD, and the REC's attributes for a REC. RMM 1.0,
 /// RmmGranuleState.
 #[derive(Clone, Copy)]
 pub enum RmmGranuleState {
@@ -17,7 +17,8 @@ pub enum RmmGranuleState {
     Rtt,
 }
 
-/// The attributes of a granule: its state, and the RD of the realm that owns it. The granule's page is not among them.
+/// The attributes of a granule: its state, and the RD of the realm that owns it, if any. The granule's page is not
+/// among them.
 #[derive(Clone, Copy)]
 pub struct RmmGranule {
     pub state: RmmGranuleState,

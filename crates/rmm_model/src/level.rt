@@ -60,7 +60,7 @@ pub fn entry_index(level: u8, ipa: u64) -> u16
     (entry_number(level, ipa) % 512) as u16
 }
 
-/// Returns the index of the starting table that covers an address.
+/// Returns the index of the starting table that covers an IPA, given the starting level.
 #[tactic(auto, unfolding(crate::specs::Level::start_table_index))]
 pub fn start_table_index(level: u8, ipa: u64) -> u64
     ensures { result ≡ levels.start_table_index level ipa }

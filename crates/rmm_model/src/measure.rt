@@ -7,8 +7,8 @@ use crate::digest::{feed_word, feed_zeros};
 use rmi_abi::{HashAlgorithm, RealmParams};
 use sha2::{Digest, Sha256, Sha512};
 
-/// An event that extends a realm's initial measurement. RMM 1.0, RmmMeasurementDescriptorData,
-/// RmmMeasurementDescriptorRec and RmmMeasurementDescriptorRipas.
+/// An extension of a realm's initial measurement. RMM 1.0, RmmMeasurementDescriptorData, RmmMeasurementDescriptorRec
+/// and RmmMeasurementDescriptorRipas.
 #[derive(Clone, Copy)]
 pub enum Extension {
     /// A page of data that is added to the realm. The flags are those of RMI_DATA_CREATE. The digest is zeros if the
@@ -22,7 +22,7 @@ pub enum Extension {
     Rec {
         digest: [u8; 64],
     },
-    /// A range of addresses whose RIPAS becomes RAM.
+    /// A range of IPAs whose RIPAS becomes RAM.
     Ripas {
         base: u64,
         top: u64,
@@ -127,7 +127,7 @@ pub fn extend(hash: HashAlgorithm, rim: &[u8; 64], extension: &Extension) -> [u8
     }
 }
 
-/// Returns the digest of a page of data, with zeros up to 64 bytes.
+/// Returns the digest of a page of data in 64 bytes; a SHA-256 digest is followed by zeros.
 #[tactic(auto, unfolding(crate::specs::Measure::digest))]
 pub fn page_digest(hash: HashAlgorithm, page: &[u8]) -> [u8; 64]
     ensures { result ≡ measures.digest hash page.now }

@@ -1,4 +1,4 @@
-//! The attributes of realms, and their states.
+//! The attributes and the states of realms, the number of their starting tables, and the results of walks.
 ghost use Rattle.std.specs.Prelude.{◌≡◌, ◌≤◌};
 ghost use Rattle.rmm_model.specs.Realm as realms;
 
@@ -39,7 +39,7 @@ pub struct RttWalk {
     pub level: u8,
 }
 
-/// Returns the number of starting tables at `level` that serve an address space of `s2sz` bits.
+/// Returns the number of starting tables that an address space of `s2sz` bits needs at `level`.
 #[tactic(auto, unfolding(crate::specs::Realm::start_count))]
 pub fn start_count(s2sz: u8, level: u8) -> u64
     requires { s2sz ≤ 48 }

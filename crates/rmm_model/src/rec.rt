@@ -15,7 +15,7 @@ pub enum RmmRecState {
 /// The change of RIPAS that a REC asked for. RMM 1.0, attributes ripas_addr, ripas_top, ripas_value and
 /// ripas_destroyed.
 ///
-/// The address is the one up to which the host has changed the RIPAS. Address and top are 0 if there is no request.
+/// The host has changed the RIPAS up to the address `base`. Both `base` and `top` are 0 if there is no request.
 #[derive(Clone, Copy)]
 pub struct RipasRequest {
     pub base: u64,
@@ -44,7 +44,7 @@ pub enum PsciRequest {
 /// attributes host_call and emulatable_abort.
 #[derive(Clone, Copy)]
 pub enum LastExit {
-    /// No exit yet, or an exit of a kind without its own variant.
+    /// No exit yet, or an exit of a kind that has no variant of its own.
     Other,
     HostCall,
     RipasChange,

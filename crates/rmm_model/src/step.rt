@@ -6,7 +6,7 @@ use crate::{AccessSize, LastExit};
 use page_arena::word_in;
 use rmi_abi::RecExit;
 
-/// A step of a simulated guest, such as a memory access, RSI call or wait. This RMM's own: a guest is simulated.
+/// A step of a simulated guest, such as a memory access, an RSI call or a wait. This RMM's own: a guest is simulated.
 #[derive(Clone, Copy)]
 pub enum GuestStep {
     Write {
@@ -71,7 +71,7 @@ pub enum StepResult {
     Returned(u64),
 }
 
-/// The outcome of a guest's step: a result, an exit, or a guest that spins.
+/// The outcome of a guest's step: a result, an exit, or a guest that spins until it is interrupted.
 #[derive(Clone, Copy)]
 pub enum StepOutcome {
     Result(StepResult),

@@ -8,7 +8,7 @@ use crate::entry::LEAST_LIVE;
 use crate::{Changeable, ChildWords, RmmRttEntry, entry_from_word};
 use page_arena::word_in;
 
-/// Finds a table's first live entry from `from` on. Returns the index of the entry, or 512 if there is none.
+/// Finds a table's first live entry, from index `from` on. Returns the index of the entry, or 512 if there is none.
 #[tactic(auto, unfolding(crate::specs::Table::entry_in_page))]
 pub fn first_live(page: &[u8], from: u16) -> u16
     requires page { length page.now ≡ 4096 }

@@ -1,4 +1,4 @@
--- A proof that adding the comma before a further part of an answer changes only the last word.
+-- A proof that adding a comma to an answer, so that another part can follow, changes only its last word.
 use Rattle.std.proofs.Common.{◌≡◌, List, [], ◌∷◌, ◌++◌, true, refl, sym, ap, ◌∙◌}
 use Rattle.rmm_trace.specs.declared.word.TraceWord.{TraceWord}
 use Rattle.rmm_trace.specs.Answers.{with_comma}

@@ -1,5 +1,5 @@
--- Lemmas on the comparison of answers in a trace: values are compared pair by pair, and words are split at the ends of
--- parts.
+-- Lemmas on the comparison of answers in a trace: values are compared pair by pair, and the words of an answer are
+-- split into parts.
 use Rattle.std.proofs.Common.{◌≡◌, ℕ, zero, suc, ◌+◌, ◌<◌, ◌≤◌, max, List, [], ◌∷◌, ◌++◌, length, take, drop, Bool, true, false, cond, ◌&&◌, refl, sym, ap, ◌∙◌, arith, add-one, length-drop}
 use Rattle.std.specs.List.{onto_first}
 use Rattle.rmm_trace.specs.declared.word.TraceWord.{TraceWord}

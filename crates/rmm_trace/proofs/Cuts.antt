@@ -1,5 +1,5 @@
--- Lemmas on the split of a text at a mark: the split is at the first byte equal to the mark, and a text without the
--- mark stays whole.
+-- Lemmas on the split of a text at the byte `mark`: the split is at its first occurrence, and a text without that byte
+-- stays whole.
 use Rattle.std.proofs.Common.{◌≡◌, ℕ, suc, ◌<◌, ◌≤◌, ◌+◌, List, [], ◌∷◌, ◌++◌, length, get_or, take, drop, Bool, true, false, not, cond, eqb, Some, None, refl, sym, ap, ◌∙◌}
 use Rattle.std.proofs.Common.{add-one, append_assoc, append-nil, drop-cons, eq-eqb}
 use Rattle.std.proofs.Math.Seq.{take-suc}

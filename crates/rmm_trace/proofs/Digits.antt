@@ -1,4 +1,5 @@
--- Proofs that the printed digits of a 64-bit number are read back as the same number.
+-- Proofs that the printed digits of a 64-bit number are read back as the same number, and that no other byte is among
+-- them.
 use Rattle.std.proofs.Common.{◌≡◌, ℕ, zero, suc, ◌+◌, ◌*◌, ◌/◌, ◌%◌, ◌^◌, ◌<◌, ◌≤◌, List, [], ◌∷◌, length, Bool, true, false, not, cond, eqb, ltb, leb, Some, refl, sym, ap, ◌∙◌, arith}
 use Rattle.std.proofs.Common.{mod-lt, div-add-mod', div-lt_iff_lt-mul, div-le_self, pow-suc, mul-le-mul_left, le-leb, lt-ltb, ltb-true, ltb-false, eqb-true, ne_eqb, nat_eq}
 use Rattle.std.proofs.lemmas.Bool.{lt-leb, eqb-false}

@@ -1,4 +1,4 @@
--- Lemmas on the operand at an index of a list of trace words: the number of the word there, or 0 past the end.
+-- Lemmas on the operand at an index of a list of trace words: the value of the word there, or 0 past the end.
 use Rattle.std.proofs.Common.{◌≡◌, ℕ, zero, suc, ◌<◌, ◌≤◌, List, [], ◌∷◌, length, get_or, refl, arith}
 use Rattle.rmm_trace.specs.declared.word.TraceWord.{TraceWord}
 use Rattle.rmm_trace.specs.Access.{number_at, operand_at}

@@ -1,5 +1,5 @@
--- Lemmas on the search for a text in a table of texts: the first match is found, and the text at an index past the end
--- is empty.
+-- Lemmas on a table of texts: the search for a text finds the first match, and the text at an index past the end is
+-- empty.
 use Rattle.std.proofs.Common.{◌≡◌, ℕ, zero, suc, ◌+◌, ◌<◌, ◌≤◌, List, [], ◌∷◌, length, map, get_or, drop, Bool, true, cond, Option, Some, None, Bor, refl, sym, ap, ◌∙◌, arith, drop-cons}
 use Rattle.std.proofs.Math.ListN.{drop_of_length-le}
 use Rattle.std.specs.List.{position_from}

@@ -1,4 +1,5 @@
--- Proofs that printed words of a trace are read back unchanged, and that different lists of words have different texts.
+-- Proofs that a valid list of trace words is read back unchanged from its text, and that different valid lists have
+-- different texts.
 use Rattle.std.proofs.Common.{◌≡◌, ℕ, zero, suc, ◌≤◌, ◌==◌, List, [], ◌∷◌, ◌++◌, length, map, true, false, not, eqb, Some, refl, sym, ap, ◌∙◌, arith}
 use Rattle.std.proofs.lemmas.Bool.{and_parts, not-true}
 use Rattle.std.specs.List.{slice_split, AllByRecursion}

@@ -1,4 +1,4 @@
--- Proofs that the search for a name that begins with `(` or `R` may skip all names before the first such name.
+-- Proofs that the search for a name that begins with `(` or `R` may start at the first name that begins so.
 use Rattle.std.proofs.Common.{◌≡◌, ℕ, zero, suc, ◌+◌, List, [], ◌∷◌, take, drop, Bool, true, false, not, ◌&&◌, cond, eqb, nat_eq, Some, refl, sym, ap, ◌∙◌, arith}
 use Rattle.std.proofs.lemmas.Bool.{and_parts, not-true, eqb-true, eqb-false, ne_eqb}
 use Rattle.std.specs.List.{list_all, position_from, starts_with}

@@ -1,4 +1,5 @@
--- Proofs that a printed word of a trace is read back unchanged.
+-- Proofs that a printed word of a trace is read back unchanged, is not empty, and has no byte in it that separates the
+-- words or the parts of a line.
 use Rattle.std.proofs.Common.{◌≡◌, ℕ, ◌<◌, List, [], ◌∷◌, ◌++◌, length, Bool, true, false, eqb, Option, Some, None, IfSome, option_map, refl, ap, ◌∙◌, arith, codes, append-nil}
 use Rattle.rmm_trace.specs.declared.word.Atom.{Atom}
 use Rattle.rmm_trace.specs.declared.word.TraceWord.{TraceWord}

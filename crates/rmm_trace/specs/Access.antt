@@ -1,4 +1,5 @@
--- The values read from a question of a trace: operands by index, words after a name, and the registers of a call.
+-- The values read from the question of a trace line, its part before ` = `: operands by index, words after a name, and
+-- the registers of a call.
 use Rattle.std.specs.Prelude.{ℕ, zero, suc, ◌+◌, ◌*◌, ◌%◌, ◌^◌, ◌==◌, nat_lt, Bool, false, if◌then◌else◌, List, [], ◌∷◌, slice_index, Option, Some, None}
 use Rattle.std.specs.Option.{unwrap_or}
 use Rattle.rmm_trace.specs.declared.access.TheConstants.{FUNCTIONS}
@@ -12,11 +13,11 @@ abbrev pub number_or_zero : Option Atom → ℕ
 number_or_zero None = 0
 number_or_zero (Some a) = unwrap_or (atom_number a) 0
 
--- the number of a word in a round of a repeat: each round adds the word's step
+-- the value of a word in a round of a `repeat`; each round adds the word's step, the number after `+`
 abbrev pub number_at : TraceWord → ℕ → ℕ
 number_at w round = (number_or_zero (Some w.value) + number_or_zero w.step * round % 2 ^ 64) % 2 ^ 64
 
--- the number at a place; 0 if there is none
+-- the value of the operand at an index, in a round of a repeat; 0 if there is no such operand
 abbrev pub operand_at : List TraceWord → ℕ → ℕ → ℕ
 operand_at [] place round = 0
 operand_at (w ∷ ws) zero round = number_at w round
@@ -26,17 +27,18 @@ abbrev pub is_name : ℕ → Atom → Bool
 is_name name (Name place) = place == name
 is_name name _ = false
 
--- the words after the first occurrence of this name
+-- the words after the first occurrence of this name; none if it does not occur
 abbrev pub after_name : ℕ → List TraceWord → List TraceWord
 after_name name [] = []
 after_name name (w ∷ ws) = if is_name name w.value then ws else after_name name ws
 
--- `count` operands from index `place` on, in a round of a repeat
+-- the values of the `count` operands from index `place` on, in a round of a repeat
 abbrev pub operands : ℕ → ℕ → List TraceWord → ℕ → List ℕ
 operands zero place ws round = []
 operands (suc count) place ws round = operand_at ws place round ∷ operands count (place + 1) ws round
 
--- X0 to X6: a command has its function in X0, and its operands from X1 on
+-- the registers X0 to X6 of a call, given the index of its name: a command's function identifier and operands, or the
+-- operands of `smc`; none for any other name
 abbrev pub registers_by : ℕ → List TraceWord → ℕ → Option (List ℕ)
 registers_by place ws round =
     if nat_lt place PLATFORM then Some (slice_index FUNCTIONS place ∷ operands 6 0 ws round)

@@ -1,4 +1,4 @@
--- The words of which a trace's answer is made: the status and index in X0, output values, and commas between parts.
+-- The words that make up an answer in a trace: the status and index in X0, output values, and commas between parts.
 use Rattle.std.specs.Prelude.{ℕ, ◌+◌, ◌/◌, ◌%◌, ◌==◌, nat_le, nat_lt, Bool, true, false, not, ◌&&◌, ◌||◌, if◌then◌else◌, List, [], ◌∷◌, Option, Some, None}
 use Rattle.rmm_trace.specs.declared.place.TheConstants.{AFTER, COUNT, EMPTY, EXIT, LEVEL, RIPAS_OUTPUT, RMI_SUCCESS, RUNNING, STATE, SYNC, UNASSIGNED}
 use Rattle.rmm_trace.specs.declared.word.Atom.{Atom}
@@ -8,7 +8,8 @@ use Rattle.rmm_trace.specs.declared.word.TraceWord.{TraceWord}
 abbrev pub plain : Atom → TraceWord
 plain a = record { value = a; mask = None; step = None; is_listed = false }
 
--- bits 7:0 of X0 are no RMI status, or a bit above the index in bits 15:8 is set. RMM 1.0, RmiCommandReturnCode
+-- X0 has no RMI status: its bits 7:0 are not a status, or a bit above the index in bits 15:8 is set. RMM 1.0,
+-- RmiCommandReturnCode
 abbrev pub has_no_status : ℕ → Bool
 has_no_status x0 = nat_le 0x10000 x0 || nat_lt 4 (x0 % 256)
 
@@ -17,7 +18,7 @@ status_of x0 =
     if x0 == 0xFFFFFFFFFFFFFFFE then Name RUNNING
     else (if has_no_status x0 then Hexadecimal x0 else Name (RMI_SUCCESS + x0 % 256))
 
--- an index is written if it is not 0, or if the status is RMI_ERROR_RTT
+-- the index in X0, if the answer shows it: the index is not 0, or the status is RMI_ERROR_RTT
 abbrev pub index_of : ℕ → Option Atom
 index_of x0 =
     if has_no_status x0 then None
@@ -30,7 +31,7 @@ output_atom name value =
     else (if name == RIPAS_OUTPUT && nat_lt value 3 then Name (EMPTY + value)
     else (if name == EXIT && nat_lt value 7 then Name (SYNC + value) else Hexadecimal value)))
 
--- the words with a comma after the last, as they are before a further part
+-- the words with a comma after the last one, so that a further part can follow
 abbrev pub with_comma : List TraceWord → List TraceWord
 with_comma [] = []
 with_comma (w ∷ []) = record w { is_listed = true } ∷ []

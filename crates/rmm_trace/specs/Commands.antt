@@ -7,7 +7,7 @@ use Rattle.rmm_trace.specs.declared.table.TheConstants.{GROUPS}
 use Rattle.rmm_trace.specs.Grammar.{row_of}
 use Rattle.rmm_trace.specs.Names.{names, nth_text}
 
--- each with its name, its function identifier, and how many operands it has
+-- the commands, each with its name, its function identifier and its number of operands
 unfoldable pub command_rows : List (List ℕ × ℕ × ℕ)
 command_rows =
     (codes "rmi_version", 0xC4000150, 1) ∷ (codes "rmi_features", 0xC4000165, 1) ∷
@@ -26,7 +26,7 @@ unfoldable pub has_operands : ℕ → Option Group → Bool
 has_operands count (Some group) = (group.least == count) && (group.most == count) && group.is_last
 has_operands count None = false
 
--- the rows are those of the commands in the tables, from index `place` up to the last command
+-- the rows agree with the tables of names, function identifiers and word groups, for all commands from index `place` on
 unfoldable pub are_commands : ℕ → List (List ℕ × ℕ × ℕ) → Bool
 are_commands place [] = place == 23
 are_commands place (row ∷ rows) =

@@ -1,5 +1,5 @@
--- The comparison of an answer written in a trace with the model's answer. Parts that a call's written answer omits are
--- not compared.
+-- The comparison of an answer in a trace with the model's answer. Parts that a call's answer in the trace omits are not
+-- compared.
 use Rattle.std.specs.Prelude.{ℕ, ◌-◌, ◌==◌, nat_le, nat_lt, Bool, true, false, not, ◌&&◌, ◌||◌, if◌then◌else◌, List, [], ◌∷◌, length, Option, Some, None, is_some, bit_and}
 use Rattle.std.specs.List.{list_any, list_all, onto_first}
 use Rattle.rmm_trace.specs.declared.place.TheConstants.{DASH, EMPTY, FILL, FIRST_CHECK, GPRS, INTERRUPT, PLATFORM, PSCI_DENIED, PSCI_SUCCESS, REPEAT, RMI_SUCCESS, SYNC, UNASSIGNED}
@@ -9,11 +9,11 @@ use Rattle.rmm_trace.specs.declared.word.TraceWord.{TraceWord}
 
 -- ---- values
 
--- the place is one of `count` places from `first` on
+-- the index is one of the `count` indices from `first` on
 abbrev pub is_name_among : ℕ → ℕ → ℕ → Bool
 is_name_among first count place = nat_le first place && nat_lt (place - first) count
 
--- the number that a name means: an entry's state, a RIPAS, an exit's reason, or a status of PSCI
+-- the number that a name represents, if it is the name of an entry state, a RIPAS, an exit reason or a PSCI status
 abbrev pub ordinal : ℕ → Option ℕ
 ordinal place =
     if is_name_among UNASSIGNED 3 place then Some (place - UNASSIGNED)
@@ -26,7 +26,7 @@ atom_number (Name place) = ordinal place
 atom_number (Decimal n) = Some n
 atom_number (Hexadecimal n) = Some n
 
--- all bits, if there is no mask
+-- the bits that are compared: those of the mask, or all bits if there is no mask
 abbrev pub mask_of : Option Atom → ℕ
 mask_of (Some (Decimal n)) = n
 mask_of (Some (Hexadecimal n)) = n
@@ -45,11 +45,11 @@ abbrev pub is_dash : Atom → Bool
 is_dash (Name place) = place == DASH
 is_dash _ = false
 
--- the written value is `-`, or is the same as the model's under its mask
+-- the trace's value is `-`, or agrees with the model's value in the bits of the trace's mask
 abbrev pub is_same_value : TraceWord → TraceWord → Bool
 is_same_value written ours = is_dash written.value || is_same_atom (mask_of written.mask) written.value ours.value
 
--- a number, or `-`, with no comma after it
+-- the word is `-` or represents a number, and has no comma after it
 abbrev pub is_register : TraceWord → Bool
 is_register w = not w.is_listed && (is_dash w.value || is_some (atom_number w.value))
 
@@ -67,15 +67,16 @@ abbrev pub rest_of : List TraceWord → List TraceWord
 rest_of [] = []
 rest_of (w ∷ ws) = ws
 
--- the values are the same one by one, with zeros added to the shorter list
+-- the trace's values agree one by one with the model's values, once zeros are added to the shorter list
 abbrev pub are_values : List TraceWord → List TraceWord → Bool
 are_values [] [] = true
 are_values [] (y ∷ ys) = is_same_value zero_word y && are_values [] ys
 are_values (x ∷ xs) [] = is_same_value x zero_word && are_values xs []
 are_values (x ∷ xs) (y ∷ ys) = is_same_value x y && are_values xs ys
 
--- ---- parts: a part ends at a comma, and before a check
+-- ---- the parts of an answer, each of which ends at a comma, before a check, or with the answer
 
+-- the atom is the name of a check, such as `(version)`
 abbrev pub is_check : Atom → Bool
 is_check (Name place) = nat_le FIRST_CHECK place
 is_check _ = false
@@ -91,7 +92,7 @@ abbrev pub parts : List TraceWord → List (List TraceWord)
 parts [] = []
 parts (w ∷ ws) = if ends_part w ws then (w ∷ []) ∷ parts ws else onto_first w (parts ws)
 
--- the name is an RMI status or `gprs`, whose missing values are zeros
+-- the name is an RMI status or `gprs`; values that are missing after it count as zeros
 abbrev pub missing_values_are_zeros : Atom → Bool
 missing_values_are_zeros (Name place) = place == GPRS || is_name_among RMI_SUCCESS 5 place
 missing_values_are_zeros _ = false
@@ -108,11 +109,11 @@ is_same_part are_checks_compared _ _ = false
 abbrev pub has_part : Bool → List TraceWord → List TraceWord → Bool
 has_part are_checks_compared ours part = list_any (λ other. is_same_part are_checks_compared part other) (parts ours)
 
--- the model's answer has each part that is written
+-- the model's answer has each part of the trace's answer
 abbrev pub are_parts : Bool → List TraceWord → List TraceWord → Bool
 are_parts are_checks_compared written ours = list_all (λ part. has_part are_checks_compared ours part) (parts written)
 
--- the model's answer begins with the words that are written
+-- the model's answer begins with the words of the trace's answer
 abbrev pub are_first : List TraceWord → List TraceWord → Bool
 are_first [] ys = true
 are_first (x ∷ xs) [] = false
@@ -120,6 +121,7 @@ are_first (x ∷ xs) (y ∷ ys) = (if x.is_listed then y.is_listed else not y.is
 
 -- ---- checks
 
+-- the pair consists of this command and this check
 abbrev pub is_pair : ℕ → ℕ → ℕ × ℕ → Bool
 is_pair command check pair = pair.0 == command && pair.1 == check
 
@@ -127,7 +129,7 @@ abbrev pub check_by : Atom → Option ℕ → Option ℕ
 check_by (Name place) other = if nat_le FIRST_CHECK place then Some place else other
 check_by _ other = other
 
--- the first check of an answer
+-- the first check that an answer names, if any
 abbrev pub check_in : List TraceWord → Option ℕ
 check_in [] = None
 check_in (w ∷ ws) = check_by w.value (check_in ws)
@@ -136,24 +138,25 @@ abbrev pub is_unsure_check : List (ℕ × ℕ) → ℕ → Option ℕ → Bool
 is_unsure_check pairs command None = false
 is_unsure_check pairs command (Some check) = list_any (is_pair command check) pairs
 
--- the first check of the answer is listed in `pairs` for this command
+-- the first check that the answer names is listed in `pairs` for this command
 abbrev pub is_unsure : List (ℕ × ℕ) → ℕ → List TraceWord → Bool
 is_unsure pairs command words = is_unsure_check pairs command (check_in words)
 
 -- ---- answers
 
+-- the index of a name; for a number, the index of the name `-`
 abbrev pub place_of : Atom → ℕ
 place_of (Name place) = place
 place_of _ = DASH
 
--- the name of a question, or of the call that it repeats
+-- the index of a question's name or, in a `repeat`, of the name of the repeated call
 abbrev pub command_in : List TraceWord → ℕ
 command_in [] = DASH
 command_in (w ∷ []) = place_of w.value
 command_in (w ∷ times ∷ []) = place_of w.value
 command_in (w ∷ times ∷ call ∷ ws) = if place_of w.value == REPEAT then place_of call.value else place_of w.value
 
--- commands, interrupts and fills are compared by their parts, and all others word by word
+-- the answers to a command, an interrupt or a fill agree part by part, and those to any other question word by word
 abbrev pub is_same_by : ℕ → Bool → List TraceWord → List TraceWord → Bool
 is_same_by kind are_checks_compared written ours =
     if nat_lt kind PLATFORM || kind == INTERRUPT || kind == FILL then are_parts are_checks_compared written ours

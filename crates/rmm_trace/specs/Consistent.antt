@@ -1,4 +1,4 @@
--- The conditions that relate the numbers of a question: those of a platform, of a guest's access, and of a repeated
+-- The conditions that relate the numbers of a trace line: those of a platform, of a guest's access, and of a repeated
 -- fill.
 use Rattle.std.specs.Prelude.{ℕ, zero, suc, ◌+◌, ◌*◌, ◌%◌, ◌^◌, max, ◌==◌, nat_le, nat_lt, Bool, true, false, not, ◌&&◌, ◌||◌, if◌then◌else◌, List, [], ◌∷◌, Some}
 use Rattle.rmm_trace.specs.declared.place.TheConstants.{FILL, GUEST, PLATFORM, READ, REPEAT, SECURE, WRITE}
@@ -7,24 +7,24 @@ use Rattle.rmm_trace.specs.declared.word.Atom.TheVariants.{Name}
 use Rattle.rmm_trace.specs.declared.word.TraceWord.{TraceWord}
 use Rattle.rmm_trace.specs.Access.{number_or_zero, number_at, operand_at, after_name}
 
--- the granules after `secure` are inside the machine
+-- the granules of the `secure` setting, if there is one, are inside the machine
 abbrev pub is_secure_right : List TraceWord → ℕ → ℕ → Bool
 is_secure_right [] base end = true
 is_secure_right (w ∷ ws) base end =
     nat_le base (operand_at (w ∷ ws) 0 0) && nat_le (operand_at (w ∷ ws) 0 0 + 4096 * operand_at (w ∷ ws) 1 0) end
 
--- a machine ends within 48 bits
+-- the machine ends within 48 bits, and the granules of its `secure` setting are inside it
 abbrev pub is_platform_right : List TraceWord → Bool
 is_platform_right ws =
     let base = operand_at ws 0 0 in
     let end = base + 4096 * operand_at ws 1 0 in
     nat_le end (2 ^ 48) && is_secure_right (after_name SECURE ws) base end
 
--- the exclusive bound on values of `width` bytes, taken as 1 unless it is 2, 4 or 8
+-- the least number above all values of `width` bytes; any width but 2, 4 and 8 counts as 1
 abbrev pub limit_of : ℕ → ℕ
 limit_of width = if width == 2 then 2 ^ 16 else (if width == 4 then 2 ^ 32 else (if width == 8 then 2 ^ 64 else 2 ^ 8))
 
--- the IPA is aligned to the width, and the value fits in it; width 0 is one byte
+-- the IPA is aligned to the width, and the value fits in that many bytes; width 0 counts as 1
 abbrev pub is_access : ℕ → ℕ → ℕ → Bool
 is_access ipa width value = (ipa % max width 1 == 0) && nat_lt value (limit_of width)
 
@@ -45,7 +45,7 @@ abbrev pub is_guest_right : List TraceWord → Bool
 is_guest_right [] = true
 is_guest_right (rec ∷ step) = is_step_right step
 
--- the word's number is at most 255 in each of the rounds
+-- the word's value is at most 255 in each of the first `rounds` rounds of a `repeat`
 abbrev pub are_bytes : ℕ → TraceWord → Bool
 are_bytes zero w = true
 are_bytes (suc rounds) w = nat_le (number_at w rounds) 255 && are_bytes rounds w
@@ -69,7 +69,7 @@ is_consistent_by (Name place) ws =
     else (if place == REPEAT then is_repeat_right ws else true))
 is_consistent_by _ ws = false
 
--- the question's numbers fit each other: those of a platform, of a guest's access, or of repeated fills
+-- the numbers of the question are consistent with each other: those of a platform, a guest's access or a repeated fill
 abbrev pub is_consistent : List TraceWord → Bool
 is_consistent [] = false
 is_consistent (w ∷ ws) = is_consistent_by w.value ws

@@ -1,4 +1,5 @@
--- The grammar of a trace's questions: a question is a sequence of word groups, each a name and its values.
+-- The grammar of the question of a trace line, its part before ` = `: a sequence of word groups, each a name and its
+-- values.
 use Rattle.std.specs.Prelude.{ℕ, ◌+◌, ◌-◌, ◌%◌, ◌==◌, nat_le, nat_lt, Bool, true, false, not, ◌&&◌, ◌||◌, if◌then◌else◌, List, [], ◌∷◌, Option, Some, None, is_some, option_and_then, bit_and, bit_or}
 use Rattle.rmm_trace.specs.declared.word.Atom.{Atom}
 use Rattle.rmm_trace.specs.declared.word.Atom.TheVariants.{Name, Decimal, Hexadecimal}
@@ -7,7 +8,7 @@ use Rattle.rmm_trace.specs.declared.grammar.ValueKind.{ValueKind}
 use Rattle.rmm_trace.specs.declared.grammar.Group.{Group}
 use Rattle.rmm_trace.specs.declared.grammar.Place.{Place}
 
--- a number in the range of the kind, a multiple of its unit, and a divisor of its multiple
+-- the number is in the kind's range, a multiple of the kind's `unit`, and 0 or a divisor of the kind's `multiple`
 abbrev pub is_number_of : ValueKind → ℕ → Bool
 is_number_of kind n =
     if nat_lt n kind.least || nat_lt kind.most n then false
@@ -21,20 +22,21 @@ is_of_kind kind (Hexadecimal n) = is_number_of kind n
 abbrev pub kind_at : Group → ℕ → ValueKind
 kind_at group count = if count == 0 then group.first else (if count == 1 then group.second else (if count == 2 then group.third else group.others))
 
--- the group has this name, and may occur in this context; `row_of` is the first such group
+-- the group has this name, and may occur in this context
 abbrev pub is_row : ℕ → ℕ → Group → Bool
 is_row context name group = group.name == name && not (bit_and group.contexts context == 0)
 
+-- the first group that has this name and may occur in this context, if there is one
 abbrev pub row_of : ℕ → ℕ → List Group → Option Group
 row_of context name [] = None
 row_of context name (group ∷ groups) = if is_row context name group then Some group else row_of context name groups
 
--- the new place, if the move to it succeeded
+-- the new position in the grammar, if the move to it succeeded
 abbrev pub if_place : Bool → Place → Option Place
 if_place true it = Some it
 if_place false it = None
 
--- the place at the start of a group, unless a group that it excludes is before it
+-- the position at the start of a group; none if a group that this one excludes came before
 abbrev pub enter : Place → Group → Option Place
 enter it group =
     if not (bit_and it.seen group.excludes == 0) then None
@@ -45,7 +47,8 @@ opened groups it (Name name) = option_and_then (λ group. enter it group) (row_o
 opened groups it (Decimal n) = None
 opened groups it (Hexadecimal n) = None
 
--- the place after a word: a value of the group, or the name of the next; an operand has a step only in a repeated group
+-- the position after a word, if the word may come next: as a value of the current group, or as the name of a further
+-- group. Only a value in a `repeat` may have a step.
 abbrev pub next : List Group → Place → TraceWord → Option Place
 next groups it w =
     if w.is_listed || is_some w.mask then None
@@ -56,7 +59,7 @@ next groups it w =
 abbrev pub is_complete : Place → Bool
 is_complete it = it.group.is_last && nat_le it.group.least it.count
 
--- the words go on from the place to the end of a question
+-- the words lead from the position to the end of a question
 abbrev pub accepts : List Group → Option Place → List TraceWord → Bool
 accepts groups None words = false
 accepts groups (Some it) [] = is_complete it

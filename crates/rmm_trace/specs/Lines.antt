@@ -13,11 +13,11 @@ use Rattle.rmm_trace.specs.Sentences.{words_in}
 use Rattle.rmm_trace.specs.Consistent.{is_consistent}
 use Rattle.rmm_trace.specs.Grammar.{accepts}
 
--- a space, or a carriage return
+-- the byte is a space or a carriage return
 abbrev pub is_blank : ℕ → Bool
 is_blank b = b == 32 || b == 13
 
--- the byte before a text, which is left out if it is blank and the text is empty
+-- the byte followed by the text; nothing if the byte is blank and the text is empty
 abbrev pub before_trimmed : ℕ → List ℕ → List ℕ
 before_trimmed b [] = if is_blank b then [] else b ∷ []
 before_trimmed b (c ∷ bs) = b ∷ c ∷ bs
@@ -27,24 +27,25 @@ abbrev pub trimmed : List ℕ → List ℕ
 trimmed [] = []
 trimmed (b ∷ bs) = before_trimmed b (trimmed bs)
 
--- the text of a line before its comment
+-- the text of a line before its comment, without blanks at its end
 abbrev pub bare_text : List ℕ → List ℕ
 bare_text line = trimmed (before_mark 35 line)
 
--- the text before the first ` = `, and the answer after it
+-- the text before the first ` = `; the whole text if there is no ` = `
 abbrev pub before_answer : List ℕ → List ℕ
 before_answer [] = []
 before_answer (b ∷ bs) = if starts_with nat_eq (b ∷ bs) (codes " = ") then [] else b ∷ before_answer bs
 
+-- the text after the first ` = `, if there is one
 abbrev pub answer_in : List ℕ → Option (List ℕ)
 answer_in [] = None
 answer_in (b ∷ bs) = if starts_with nat_eq (b ∷ bs) (codes " = ") then Some (drop 3 (b ∷ bs)) else answer_in bs
 
--- the grammar accepts the words, and their numbers fit each other
+-- the grammar accepts the words, and their numbers are consistent with each other
 abbrev pub is_question : List Group → Place → List TraceWord → Bool
 is_question groups start ws = accepts groups (Some start) ws && is_consistent ws
 
--- words that are a question
+-- the words as a question, if they are one
 abbrev pub as_question : List Group → Place → List TraceWord → Option (ArrayVec TraceWord)
 as_question groups start ws = if is_question groups start ws then Some (record { items = ws }) else None
 

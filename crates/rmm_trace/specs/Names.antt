@@ -1,7 +1,7 @@
 -- The table of names: the words in traces that are not numbers.
 use Rattle.std.specs.Prelude.{ℕ, zero, suc, List, [], ◌∷◌, ◌++◌, codes}
 
--- the text at a place; past the end it is empty
+-- the text at an index, or the empty text past the end
 abbrev pub nth_text : ℕ → List (List ℕ) → List ℕ
 nth_text place [] = []
 nth_text zero (text ∷ texts) = text

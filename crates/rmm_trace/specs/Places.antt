@@ -53,6 +53,6 @@ named_places =
     (CHECK_BASE_BOUND, codes "(base_bound)") ∷ (CHECK_TOP_GRAN_ALIGN, codes "(top_gran_align)") ∷ (CHECK_NO_PROGRESS, codes "(no_progress)") ∷
     (CHECK_BASE_ALIGN, codes "(base_align)") ∷ (CHECK_RTTE_STATE, codes "(rtte_state)") ∷ (CHECK_STATUS, codes "(status)") ∷ []
 
--- each place is the index of its name in the list of all names
+-- each constant is the index of its name in the table of names
 unfoldable pub are_places_named : Bool
 are_places_named = list_all (λ it. bytes_eq (nth_text it.0 names) it.1) named_places

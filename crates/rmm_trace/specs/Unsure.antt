@@ -4,7 +4,7 @@ use Rattle.std.specs.Str.{bytes_eq}
 use Rattle.rmm_trace.specs.declared.compare.TheConstants.{UNSURE}
 use Rattle.rmm_trace.specs.Names.{names, nth_text}
 
--- each with its command
+-- the checks whose names are not compared, each with its command
 unfoldable pub unsure_checks : List (List ℕ × List ℕ)
 unsure_checks =
     (codes "rmi_version", codes "(version)") ∷ (codes "rmi_data_create", codes "(flags_valid)") ∷ (codes "rmi_data_create", codes "(rtte_ripas)") ∷
@@ -17,7 +17,7 @@ unsure_checks =
     (codes "rmi_rtt_set_ripas", codes "(rtte_state)") ∷ (codes "rmi_rtt_set_ripas", codes "(no_progress)") ∷
     (codes "rmi_psci_complete", codes "(status)") ∷ []
 
--- the pairs are of these commands and checks, one by one
+-- the pairs are the indices of these commands and checks, in the same sequence
 unfoldable pub are_pairs : List (List ℕ × List ℕ) → List (ℕ × ℕ) → Bool
 are_pairs [] [] = true
 are_pairs (row ∷ rows) (pair ∷ pairs) =

@@ -11,8 +11,9 @@ use Rattle.rmm_trace.specs.Cuts.{before_mark, after_mark}
 use Rattle.rmm_trace.specs.Names.{names, nth_text}
 use Rattle.rmm_trace.specs.Numbers.{plain_value}
 
--- ---- as they are written
+-- ---- words as they are written
 
+-- the text of a name or a number; a hexadecimal number begins with `0x`
 abbrev pub atom_text : Atom → List ℕ
 atom_text (Name place) = nth_text place names
 atom_text (Decimal n) = decimal n
@@ -25,12 +26,13 @@ tail_text mark (Some a) = mark ++ atom_text a
 abbrev pub comma_text : Bool → List ℕ
 comma_text is_listed = if is_listed then codes "," else []
 
--- a value, a mask after `/`, a step after `+`, and a comma
+-- the text of a word: its value and, if it has them, its mask after `/`, its step after `+`, and its comma
 abbrev pub word_text : TraceWord → List ℕ
 word_text w = atom_text w.value ++ tail_text (codes "/") w.mask ++ tail_text (codes "+") w.step ++ comma_text w.is_listed
 
--- ---- as they are read
+-- ---- words as they are read
 
+-- the decimal or hexadecimal number that a text spells, if any
 abbrev pub number_in : List ℕ → Option Atom
 number_in bs =
     if starts_with nat_eq bs (codes "0x") then option_map (λ n. Hexadecimal n) (plain_value 16 (drop 2 bs))
@@ -48,7 +50,7 @@ comma_in None = Some false
 comma_in (Some []) = Some true
 comma_in (Some (b ∷ bs)) = None
 
--- the text is cut at its comma, at its `+`, and at its `/`
+-- the word that a text spells, if any; the text is cut at its comma, its `+` and its `/`
 abbrev pub word_in : List ℕ → Option TraceWord
 word_in bs =
     let front = before_mark 44 bs in
@@ -59,6 +61,7 @@ word_in bs =
 
 -- ---- words that can be written
 
+-- the name is in the table of names, or the number fits in 64 bits
 abbrev pub IsAtom : Atom → Type 0
 IsAtom (Name place) = place < length names
 IsAtom (Decimal n) = n < 2 ^ 64

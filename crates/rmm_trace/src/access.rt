@@ -1,4 +1,4 @@
-//! Reads the registers of calls, and other values, from the lines of a trace.
+//! Functions that read the registers of calls, and other values, from the lines of a trace.
 ghost use Rattle.std.specs.Prelude.{◌≡◌};
 ghost use Rattle.rmm_trace.specs.Access.{number_or_zero, number_at, operand_at, after_name, call_registers};
 
@@ -54,8 +54,8 @@ pub(crate) fn number_at(word: TraceWord, round: u64) -> u64
     number_or_zero(Some(word.value)).wrapping_add(number_or_zero(word.step).wrapping_mul(round))
 }
 
-/// Returns an operand's value in one round of a `repeat` line, or in any other line at round 0. The operand is the word
-/// at the index `place`. The value is 0 if there is no such word, or if the word is a name without a number.
+/// Returns the value of an operand in a given round of a `repeat` line; any other line has only round 0. The operand is
+/// the word at the index `place`. The value is 0 if there is no such word, or if the word is a name without a number.
 pub fn operand(words: &[TraceWord], place: usize, round: u64) -> u64
     ensures { result ≡ operand_at words.now place round }
 {
@@ -82,7 +82,7 @@ pub fn after_name(words: &[TraceWord], name: usize) -> &[TraceWord]
 }
 
 /// Returns the registers X0 to X6 of a call in a given round of a `repeat`. The call begins with the name of a command,
-/// or with `smc`.
+/// or with `smc`; the result is `None` for other words.
 pub fn call_registers(call: &[TraceWord], round: u64) -> Option<[u64; 7]>
     ensures { result ≡ call_registers call.now round }
 {

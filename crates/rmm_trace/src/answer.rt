@@ -1,4 +1,4 @@
-//! Makes the words of a trace's answers from X0 and output values.
+//! Functions that make the words of a trace's answers from X0 and output values.
 ghost use Rattle.std.specs.Prelude.{◌≡◌, ◌<◌, ◌≤◌, ◌++◌, [], ◌∷◌, length};
 ghost use Rattle.rmm_trace.specs.Answers.{plain, status_of, index_of, output_atom, with_comma, listed};
 

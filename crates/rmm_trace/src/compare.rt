@@ -1,5 +1,5 @@
-//! The comparison of answers in a trace with the answers of the RMM model. Parts that a call's written answer omits are
-//! not compared.
+//! The comparison of answers in a trace with the answers of the RMM model. Parts that a call's answer in the trace
+//! omits are not compared.
 ghost use Rattle.std.specs.Prelude.{◌≡◌, ◌<◌, ◌∷◌, length};
 ghost use Rattle.std.specs.List.{list_any};
 ghost use Rattle.rmm_trace.specs.Compare.{is_name_among, ordinal, atom_number, mask_of, is_same_number, is_same_atom};
@@ -108,7 +108,7 @@ fn is_same_value(written: TraceWord, ours: TraceWord) -> bool
     is_dash(written.value) || is_same_atom(mask_of(written.mask), written.value, ours.value)
 }
 
-/// Returns whether a word of a trace can be the written value of a register. Such a word represents a number or is `-`,
+/// Returns whether a word of a trace can be the value of a register. Such a word represents a number or is `-`,
 /// and has no comma after it.
 pub fn is_register(word: TraceWord) -> bool
     ensures { result ≡ is_register word }
@@ -116,7 +116,7 @@ pub fn is_register(word: TraceWord) -> bool
     !word.is_listed && (is_dash(word.value) || atom_number(word.value).is_some())
 }
 
-/// Returns whether the register value in a trace agrees with the model's value.
+/// Returns whether a register value written in a trace agrees with the model's value.
 pub fn is_same_register(written: TraceWord, ours: TraceWord) -> bool
     ensures { result ≡ is_same_register written ours }
 {
@@ -130,7 +130,8 @@ const ZERO: TraceWord = TraceWord {
     is_listed: false,
 };
 
-/// Splits words into the first one and the rest. For an empty list, the results are the number 0 and an empty list.
+/// Splits a list of words into the first word and the rest. For an empty list, the results are the number 0 and an
+/// empty list.
 pub fn split_word(words: &[TraceWord]) -> (TraceWord, &[TraceWord])
     ensures first { result.0 ≡ first_of words.now }
     ensures rest { result.1.now ≡ rest_of words.now }
@@ -295,7 +296,7 @@ fn are_first(written: &[TraceWord], ours: &[TraceWord]) -> bool
 
 // ---- checks
 
-/// The pairs of a command and one of its checks whose name is not compared. Each check is uncertain, or not in the
+/// The checks whose names are not compared, each in a pair after its command. Each check is uncertain, or not in the
 /// standard.
 pub const UNSURE: [(usize, usize); 20] = [
     (RMI_VERSION, CHECK_VERSION),

@@ -1,4 +1,4 @@
-//! Checks that the numbers in a line of a trace are consistent with each other.
+//! The check that the numbers in a line of a trace are consistent with each other.
 ghost use Rattle.std.specs.Prelude.{◌≡◌, ◌+◌, ◌*◌};
 ghost use Rattle.rmm_trace.specs.Consistent.{is_secure_right, is_platform_right, limit_of, is_access, is_step_right};
 ghost use Rattle.rmm_trace.specs.Consistent.{is_guest_right, are_bytes, is_fill_right, is_repeat_right};
@@ -126,7 +126,7 @@ fn is_repeat_right(words: &[TraceWord]) -> bool
     }
 }
 
-/// Returns whether the numbers in a grammatical question of a trace are consistent with each other.
+/// Returns whether the numbers in a question that the grammar accepts are consistent with each other.
 ///
 /// Compared are the machine of a platform, the access of a guest, and the rounds of a fill.
 pub fn is_consistent(words: &[TraceWord]) -> bool

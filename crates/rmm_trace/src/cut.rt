@@ -1,4 +1,4 @@
-//! Splits a text at the first byte that has a given value.
+//! A function that splits a text at the first byte that has a given value.
 ghost use Rattle.std.specs.Prelude.{◌≡◌};
 ghost use Rattle.std.specs.Option.{option_copied};
 ghost use Rattle.rmm_trace.specs.Cuts.{before_mark, after_mark};

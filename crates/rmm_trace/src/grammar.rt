@@ -9,8 +9,8 @@ use crate::word::{Atom, TraceWord};
 
 /// A kind of value in a trace line: the numbers and the names that it allows.
 ///
-/// A number is in the range, a multiple of the unit, and a divisor of the multiple if that is not 0. A name is one of
-/// `name_count` names of the table, from `first_name` on.
+/// A number is in the range, and a multiple of the unit. Unless `multiple` is 0, the number is also a divisor of it, or
+/// 0. A name is one of `name_count` names of the table, from `first_name` on.
 #[derive(Clone, Copy)]
 pub struct ValueKind {
     pub least: u64,

@@ -1,4 +1,5 @@
-//! Theorems about the text of traces: printed text is read back unchanged, and the tables have the right names.
+//! Theorems about the text of traces: printed text is read back unchanged, and the tables of names, commands and
+//! uncertain checks are as specified.
 ghost use Rattle.std.specs.Prelude.{◌≡◌, ◌≤◌, ◌==◌, ◌++◌, true, ℕ, List, Some, length, codes};
 ghost use Rattle.hex.specs.Hex.{encode_lower, IsBytes};
 ghost use Rattle.std.specs.List.{slice_split};
@@ -40,8 +41,8 @@ pub fn answered_questions_are_read_back()
         ≡ question_of (record { items = ws }) }
 {}
 
-/// Proves that the answer of a printed line is read back unchanged. The line consists of a question's text, ` = ` and
-/// the answer's text.
+/// Proves that the answer in a printed trace line is read back unchanged. The line consists of a question's text, ` = `
+/// and the answer's text.
 pub fn printed_answers_are_read_back()
     ensures { (ws vs : List TraceWord) → IsSentence vs
         → answer_in (bare_text (sentence_text ws ++ (codes " = " ++ sentence_text vs))) ≡ Some (sentence_text vs) }
@@ -57,7 +58,8 @@ pub fn places_are_of_their_names()
     ensures { are_places_named ≡ true }
 {}
 
-/// Proves that each command is in the tables of names, function identifiers and operands.
+/// Proves that the tables `NAMES`, `FUNCTIONS` and `GROUPS` have the name, the function identifier and the number of
+/// operands of each command.
 pub fn commands_have_their_rows()
     ensures { are_commands_named ≡ true }
 {}

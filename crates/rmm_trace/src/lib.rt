@@ -1,5 +1,5 @@
-//! Text traces of RMI calls, each with its operands as register values. The crate reads lines, prints words as text,
-//! and compares answers.
+//! The text of traces: RMI calls with their operands as register values, and the answers. The crate reads lines, prints
+//! words as text, and compares answers.
 //!
 //! A line is words with one space between two. A word is a name or a number, with what may follow it: a mask after `/`,
 //! a step after `+`, and a comma. A number keeps its base, so words and their texts determine each other: what is

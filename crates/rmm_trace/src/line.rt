@@ -16,7 +16,7 @@ use crate::word::TraceWord;
 /// The maximum length, in bytes, of a trace line that has a question.
 pub const MOST_LINE: usize = 65_536;
 
-/// The kind of a trace line: without content, with valid content, or invalid.
+/// The kind of a trace line: one without a question, one with a valid question, or an invalid one.
 #[derive(Clone, Copy)]
 pub enum LineKind {
     /// A line that is blank or a comment, or has only ` = ` and an answer.
@@ -26,7 +26,7 @@ pub enum LineKind {
     Neither,
 }
 
-/// A parsed line of a trace: its kind, and the words of its question. A line that is no question has no words here.
+/// A parsed line of a trace: its kind, and the words of its question. A line that is not a question has no words here.
 ///
 /// A caller reuses it for each line, and it is filled in place.
 #[derive(Drop)]
@@ -154,7 +154,7 @@ impl RmmTraceLine {
     /// Parses a line of a trace into `self`. Returns the text of the line's answer, if any. The function takes no
     /// memory.
     ///
-    /// A line of more than `MOST_LINE` bytes is no question.
+    /// A line of more than `MOST_LINE` bytes is not a question.
     pub fn parse<'a>(&mut self, line: &'a [u8]) -> Option<&'a [u8]>
         ensures line { self.new ≡ line_in GROUPS START line.now }
         ensures written { option_copied result ≡ answer_in (bare_text line.now) }

@@ -30,7 +30,7 @@ fn value(base: u64, digits: &[u8]) -> Option<u64>
     Some(value)
 }
 
-/// Returns the 64-bit number that the digits spell in a base. There must be a digit, and no leading zeros.
+/// Returns the 64-bit number that the digits spell in a base, if any. There must be a digit, and no leading zeros.
 pub(crate) fn plain_value(base: u64, digits: &[u8]) -> Option<u64>
     ensures { result ≡ plain_value base digits.now }
 {

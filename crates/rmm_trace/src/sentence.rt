@@ -15,7 +15,7 @@ pub const MOST_WORDS: usize = 64;
 pub type Sentence = ArrayVec<TraceWord, MOST_WORDS>;
 
 /// Parses the words of a text into an empty list of trace words. Returns whether the text is a sentence. If the text is
-/// no sentence, the list may have any words. The function takes no memory.
+/// not a sentence, the list may have any words. The function takes no memory.
 ///
 /// A sentence has 64 places. It is filled in place, since a move costs more than the reading.
 pub fn read_into(text: &[u8], words: &mut Sentence) -> bool

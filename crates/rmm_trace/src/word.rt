@@ -18,7 +18,7 @@ pub enum Atom {
     Hexadecimal(u64),
 }
 
-/// A word of a trace line: a value, with an optional mask after `/`, step after `+`, and comma.
+/// A word of a trace line: a value, with an optional mask after `/`, an optional step after `+`, and an optional comma.
 #[derive(Clone, Copy)]
 pub struct TraceWord {
     pub value: Atom,

@@ -1,5 +1,5 @@
--- Proofs that mapping or unmapping a page of data changes one row of a realm, moves one granule, and leaves other
--- realms unchanged.
+-- Proofs that mapping or unmapping a page of data changes one row of a realm and the state of one granule, and leaves
+-- other realms unchanged.
 use Rattle.std.proofs.Common.{◌≡◌, ◌≢◌, ℕ, ◌<◌, Bool, true, List, [], length, set, Some, None, refl, sym, ap, subst, ◌∙◌, arith}
 use Rattle.std.proofs.lemmas.List.{length-set, get_or-set_same, get_or-set_other}
 use Rattle.std.proofs.lemmas.Option.{same_Some}

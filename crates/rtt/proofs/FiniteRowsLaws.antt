@@ -1,4 +1,5 @@
--- The proof that the finite map of a function's rows has the function's row at each place.
+-- A proof that the finite map made from a function has the function's row at each place, if the function has no row
+-- outside the map's bounds.
 use Rattle.std.specs.Prelude.{◌≡◌, ◌≢◌, ℕ, zero, suc, ◌<◌, ◌≤◌, cond, List, [], ◌∷◌, ◌++◌, Option, Some, None, ◌⊎◌, true, false}
 use Rattle.std.specs.Ordering.{eq_by_cmp}
 use Rattle.std.specs.FinMap.{find, get, get-from_entries, same_map}

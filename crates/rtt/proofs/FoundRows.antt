@@ -1,4 +1,5 @@
--- Proofs that the end of an RTT walk decides whether a command is refused, and which level the refusal reports.
+-- Proofs that the row at which an RTT walk ends decides whether a command is refused, and with which level; for
+-- destroying a table, its own entries decide too.
 use Rattle.std.proofs.Common.{◌≡◌, ◌≢◌, ℕ, ◌-◌, Bool, true, false, Some, None, Err, ◌⊎◌, ⊎_elim, sym, ap, ◌∙◌}
 use Rattle.std.specs.Prelude.{◌==◌}
 use Rattle.std.proofs.lemmas.Bool.{cases_eq, eq-eqb, ne_eqb}

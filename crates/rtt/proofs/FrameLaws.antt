@@ -1,4 +1,5 @@
--- Proofs that a realm's tables depend only on the pages of the realm's RTT granules.
+-- Proofs that a realm's rows and tables stay the same if its RTT granules keep their state and pages, and its DATA
+-- granules keep their state.
 use Rattle.std.specs.Prelude.{◌≡◌, ℕ, zero, suc, ◌<◌, ◌≤◌, true, false, cond, List, Option, Some, None, option_and_then}
 use Rattle.std.proofs.Common.{refl, sym, ap, subst, ◌∙◌, arith}
 use Rattle.granule_addr.specs.Ipa.{entry_index}

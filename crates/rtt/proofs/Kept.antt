@@ -1,4 +1,5 @@
--- Proofs on calls that write pages of tables and move at most one granule: preconditions hold, and invariants are kept.
+-- Proofs that the pages of a realm's tables are not free, and that a call which writes to them and changes at most one
+-- granule's state keeps the invariants.
 use Rattle.std.proofs.Common.{◌≡◌, ◌≢◌, ℕ, ◌<◌, Bool, false, set, List, length, Option, Some, inl, inr, sym, ap, ◌∙◌, arith}
 use Rattle.std.proofs.lemmas.Bool.{cases_eq}
 use Rattle.std.proofs.lemmas.List.{length-set, get_or-set_other}

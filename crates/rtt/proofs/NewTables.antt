@@ -1,4 +1,4 @@
--- The proof that creating a table gives the realm the table's rows and its granule, and leaves other realms unchanged.
+-- A proof that creating a table gives the realm the table's rows and its granule, and leaves other realms unchanged.
 use Rattle.std.proofs.Common.{◌≡◌, ◌≢◌, ℕ, ◌+◌, ◌-◌, ◌<◌, ◌≤◌, Bool, true, false, List, length, set, Some, None, refl, sym, ap, subst, ◌∙◌, arith}
 use Rattle.std.proofs.lemmas.Option.{same_Some}
 use Rattle.std.specs.FinMap.{get}

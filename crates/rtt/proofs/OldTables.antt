@@ -1,5 +1,4 @@
--- The proof that destroying a table removes its rows from the realm, clears its page, and leaves other realms
--- unchanged.
+-- A proof that destroying a table removes its rows from the realm, clears its page, and leaves other realms unchanged.
 use Rattle.std.proofs.Common.{◌≡◌, ◌≢◌, ℕ, ◌+◌, ◌-◌, ◌<◌, ◌≤◌, Bool, true, false, List, [], length, set, Some, None, refl, sym, ap, subst, ◌∙◌, arith}
 use Rattle.std.specs.Prelude.{IsTrue, ◌↔◌}
 use Rattle.std.proofs.lemmas.List.{length-set, get_or-set_same, get_or-set_other}

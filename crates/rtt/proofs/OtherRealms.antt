@@ -1,4 +1,4 @@
--- The proof that a call on one realm's tables leaves the tables of other realms unchanged.
+-- A proof that a call on one realm's tables leaves the tables of other realms unchanged.
 use Rattle.std.proofs.Common.{◌≡◌, ◌≢◌, ℕ, Bool, List, Option, Some, refl, sym, ap, ◌∙◌}
 use Rattle.granule_addr.specs.declared.width.Root.{Root}
 use Rattle.rtt.specs.Granules.{granule_at, IsIn}

@@ -1,4 +1,4 @@
--- The proof that a realm still owns the granules of its tables and data pages after an entry is written.
+-- A proof that a realm still owns the granules of its tables and data pages after an entry is written.
 use Rattle.std.proofs.Common.{◌≡◌, ◌≢◌, ℕ, suc, ◌/◌, ◌<◌, ◌≤◌, cond, set, List, length, Option, Some, None, ◌⊎◌, inl, inr, ⊎_elim, refl, sym, ap, ◌∙◌, arith}
 use Rattle.std.specs.Prelude.{option_and_then}
 use Rattle.std.proofs.lemmas.List.{length-set, get_or-set_same, get_or-set_other}

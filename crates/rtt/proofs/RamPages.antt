@@ -1,4 +1,5 @@
--- The proof that setting several pages of one table to RAM changes only their rows, and leaves other realms unchanged.
+-- A proof that setting the RIPAS of several pages of one table to RAM changes only the rows of these pages, and leaves
+-- other realms unchanged.
 use Rattle.std.proofs.Common.{◌≡◌, ◌≢◌, ℕ, ◌+◌, ◌-◌, ◌/◌, ◌%◌, ◌<◌, ◌≤◌, Bool, true, false, List, ◌⊎◌, Some, None, refl, sym, ap, subst, ◌∙◌, arith}
 use Rattle.std.specs.Prelude.{IsTrue, ◌↔◌}
 use Rattle.std.proofs.lemmas.Bool.{and_parts, leb-true, eqb-true}

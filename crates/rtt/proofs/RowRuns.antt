@@ -1,4 +1,5 @@
--- Lemmas on several consecutive rows of a level: the rows after they are written, and the test that all of them pass.
+-- Lemmas on consecutive rows of a level: writing them leaves all other rows unchanged, and all of them pass a test
+-- exactly if each one does.
 use Rattle.std.proofs.Common.{◌≡◌, ℕ, zero, suc, ◌+◌, ◌*◌, ◌<◌, Bool, true, false, cond, ◌&&◌, Option, Some, None, ⊎_elim, refl, sym, ap, ◌∙◌, arith}
 use Rattle.std.specs.FinMap.{get, insert, get-insert}
 use Rattle.std.proofs.lemmas.Bool.{and_from}

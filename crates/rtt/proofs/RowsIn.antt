@@ -1,5 +1,5 @@
--- Proofs that the row at each place of a realm is the entry of its tables there, and that an RTT walk ends at such a
--- row.
+-- Proofs that the row at each place is the entry that the realm's tables have there, and that an RTT walk ends at such
+-- an entry.
 use Rattle.std.proofs.Common.{◌≡◌, ℕ, zero, suc, ◌<◌, ◌≤◌, true, false, cond, Option, Some, None, ◌⊎◌, inl, inr, ⊎_elim, refl, sym, ap, ◌∙◌, arith}
 use Rattle.std.specs.Prelude.{option_and_then}
 use Rattle.std.specs.FinMap.{get}

@@ -1,4 +1,5 @@
--- Lemmas on the starting tables of a realm: they are adjacent granules, and each serves 2^27 IPA granules.
+-- Lemmas on list elements that are all set to one value, and on a realm's starting tables by number: their granules,
+-- and the IPA granules that each serves.
 use Rattle.std.proofs.Common.{◌≡◌, ◌≢◌, ℕ, zero, suc, ◌+◌, ◌-◌, ◌*◌, ◌<◌, ◌≤◌, List, length, set, get_or, ◌⊎◌, inl, inr, ⊎_elim, refl, sym, ap, subst, ◌∙◌, arith}
 use Rattle.std.specs.List.{All, range_with_len}
 use Rattle.std.proofs.lemmas.List.{length-set, get_or-set_same, get_or-set_other}

@@ -1,4 +1,5 @@
--- Lemmas on the table of each level that serves an IPA granule, and on the entry and the page for the IPA granule.
+-- Lemmas on the table of each level that serves an IPA granule, and on the entry and the page of data for that IPA
+-- granule.
 use Rattle.std.proofs.Common.{◌≡◌, ℕ, zero, suc, ◌+◌, ◌/◌, ◌≤◌, Option, Some, None, inl, inr, refl, sym, ap, ◌∙◌, arith}
 use Rattle.std.specs.Prelude.{option_and_then}
 use Rattle.std.proofs.lemmas.Bool.{cases_eq}

@@ -1,4 +1,5 @@
--- Proofs on RTT walks over the words of pages: each step leads to a table that is inside the machine.
+-- Proofs that each step of an RTT walk in pages leads to a granule of the realm, and that the walk over the realm's
+-- rows ends at the same entry.
 use Rattle.std.proofs.Common.{◌≡◌, ℕ, ◌+◌, ◌*◌, ◌<◌, ◌≤◌, List, length, Some, None, ◌⊎◌, ⊎_elim, inl, inr, refl, sym, ap, ◌∙◌, arith, add-one}
 use Rattle.std.specs.Prelude.{option_and_then}
 use Rattle.granule_addr.specs.Ipa.{entry_index, served_count}

@@ -1,4 +1,5 @@
--- The proof that the word of each entry is read back as that entry.
+-- Proofs that the word that encodes an entry fits in 64 bits and is decoded to the same entry, and that each word is
+-- decoded to an entry.
 use Rattle.std.specs.Prelude.{◌≡◌, ℕ, ◌+◌, ◌*◌, ◌/◌, ◌%◌, ◌^◌, ◌<◌, Option, Some, None}
 use Rattle.std.proofs.Common.{refl, sym, ap, ◌∙◌, arith}
 use Rattle.realm_model.specs.declared.states.EntryState.{EntryState}

@@ -1,4 +1,5 @@
--- Proofs that an entry that is written to the page of a table is read back, and that all other words stay.
+-- Proofs that an entry that is written to the page of a table is read back from it, and that all other words stay the
+-- same.
 use Rattle.std.proofs.Common.{◌≡◌, ◌≢◌, ℕ, ◌+◌, ◌<◌, ◌≤◌, Bool, List, length, ◌⊎◌, ⊎_elim, inl, inr, sym, ap, subst, ◌∙◌, arith}
 use Rattle.std.proofs.lemmas.Bool.{cases_eq, cases_lt}
 use Rattle.page_arena.specs.Page.{page_at, IsSized}

@@ -1,4 +1,4 @@
--- The conditions and effects that the contracts of calls on translation tables state.
+-- The conditions and effects that are stated in the contracts of calls on translation tables.
 use Rattle.std.specs.Prelude.{◌≡◌, ℕ, ◌-◌, Bool, List, Option, Some, unwrap_or, slice_set}
 use Rattle.granule_addr.specs.declared.width.Root.{Root}
 use Rattle.rtt.specs.declared.granule.Granule.{Granule}
@@ -9,11 +9,11 @@ use Rattle.realm_model.specs.Rows.{Row, Rows, row_at, unassigned, assigned, unma
 use Rattle.realm_model.specs.StepLaw.{set_each}
 use Rattle.rtt.specs.Realm.{IsBacked, HasTables, IsTableOf, LeavesOthers}
 
--- the granules with one set to the given state, and to the given realm or to none
+-- the granules, with one of them changed to the given state and to the given realm, or to no realm
 abbrev pub with_state : List Granule → ℕ → GranuleState → Option ℕ → List Granule
 with_state granules granule state realm = slice_set granules granule (record { state = state; realm = realm })
 
--- the granules with several set to the given state, and to the given realm or to none
+-- the granules, with several of them changed to the given state and to the given realm, or to no realm
 abbrev pub with_states : List Granule → List ℕ → GranuleState → Option ℕ → List Granule
 with_states granules these state realm = set_each (record { state = state; realm = realm }) these granules
 
@@ -31,34 +31,36 @@ pub record KeepsRest (rd : ℕ) (pages : List (List ℕ)) (free : List Bool) (gr
   pub flags : new_free ≡ free
   pub other_realms : LeavesOthers rd pages granules new_pages new_granules
 
--- The further invariant of a call that leaves the realm its starting tables or creates them: the realm has its tables.
+-- The invariants after a call that leaves the realm with starting tables: those that every call keeps, and the
+-- invariant of the realm's tables.
 pub record Keeps (rd : ℕ) (root : Root) (pages : List (List ℕ)) (free : List Bool) (granules : List Granule)
     (new_pages : List (List ℕ)) (new_free : List Bool) (new_granules : List Granule) : Type 0 where
   pub tables : HasTables new_pages new_granules rd root
   pub rest : KeepsRest rd pages free granules new_pages new_free new_granules
 
--- A page that is not one of the realm's tables is as it was.
+-- Each page is unchanged, except the pages of the realm's tables.
 abbrev pub ChangesTablesOnly : Root → List (List ℕ) → List (List ℕ) → Type 0
 ChangesTablesOnly root pages new_pages = (granule : ℕ) → ¬ (IsTableOf pages root granule) → page_at new_pages granule ≡ page_at pages granule
 
--- Each page is unchanged, except the realm's tables and those of which `IsOneMore` holds.
+-- Each page is unchanged, except the pages of the realm's tables and the pages for which `IsOneMore` holds.
 abbrev pub ChangesTablesAnd : (ℕ → Type 0) → Root → List (List ℕ) → List (List ℕ) → Type 0
 ChangesTablesAnd IsOneMore root pages new_pages =
     (granule : ℕ) → ¬ (IsOneMore granule) → ¬ (IsTableOf pages root granule) → page_at new_pages granule ≡ page_at pages granule
 
 -- ---- rows after a call that was not refused
 
--- The rows gain a table at a level, with rows that have the RIPAS of the row above. RMM 1.0, RMI_RTT_CREATE.
+-- After the call, the realm has one more table, whose rows have the RIPAS that the row above it had. RMM 1.0,
+-- RMI_RTT_CREATE.
 abbrev pub GainsTable : Rows → ℕ → ℕ → ℕ → Rows → Type 0
 GainsTable old level ipa granule new =
     (above : Row) → row_at old (level - 1) ipa ≡ Some above → new ≡ with_table old level ipa granule above.ripas
 
--- The row at an IPA granule leads to a page. It has the given RIPAS, or its own if none is given. RMM 1.0,
--- RMI_DATA_CREATE and RMI_DATA_CREATE_UNKNOWN.
+-- After the call, the row at an IPA granule leads to a page of data. It gets the given RIPAS, or keeps its own if none
+-- is given. RMM 1.0, RMI_DATA_CREATE and RMI_DATA_CREATE_UNKNOWN.
 abbrev pub GainsPage : Rows → ℕ → ℕ → Option Ripas → Rows → Type 0
 GainsPage old ipa page ripas new = (row : Row) → row_at old 3 ipa ≡ Some row → new ≡ put_row old 3 ipa (assigned (unwrap_or ripas row.ripas) page)
 
--- The row at an IPA granule becomes UNASSIGNED, and its RIPAS, if RAM, becomes DESTROYED. RMM 1.0,
+-- The row at an IPA granule becomes UNASSIGNED, and its RIPAS becomes DESTROYED if it was RAM. RMM 1.0,
 -- RMI_DATA_DESTROY.
 abbrev pub LosesPage : Rows → ℕ → Rows → Type 0
 LosesPage old ipa new = (row : Row) → row_at old 3 ipa ≡ Some row → new ≡ put_row old 3 ipa (unassigned (unmapped_ripas row.ripas))

@@ -8,11 +8,11 @@ use Rattle.rtt.specs.declared.granule.Granule.{Granule}
 abbrev pub undelegated : Granule
 undelegated = record { state = Undelegated; realm = None }
 
--- a granule of a machine; one outside counts as UNDELEGATED
+-- the granule with a number; a granule outside the machine counts as UNDELEGATED and of no realm
 abbrev pub granule_at : List Granule → ℕ → Granule
 granule_at granules granule = slice_index_or granules granule undelegated
 
--- a granule of the machine is in a state, and belongs to that realm or to none
+-- the granule is inside the machine and in this state, and belongs to this realm, or to none
 pub record IsIn (granules : List Granule) (granule : ℕ) (state : GranuleState) (realm : Option ℕ) : Type 0 where
   pub inside : granule < length granules
   pub is : granule_at granules granule ≡ record { state = state; realm = realm }

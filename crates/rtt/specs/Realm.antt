@@ -12,7 +12,7 @@ use Rattle.rtt.specs.Word.{entry_word}
 use Rattle.realm_model.specs.Sound.{mapping_at, IsSoundRows}
 use Rattle.rtt.specs.Tables.{Entries, entries_of, table_at, data_at, rows}
 
--- There is a granule for each page, and each that is not UNDELEGATED has a taken page.
+-- There is one granule for each page, and the page of each granule that is not UNDELEGATED is taken.
 pub record IsBacked (pages : List (List ℕ)) (flags : List Bool) (granules : List Granule) : Type 0 where
   pub as_many : length granules ≡ length pages
   pub taken : (granule : ℕ) → granule < length granules → (granule_at granules granule).state ≢ Undelegated → is_free flags granule ≡ false
@@ -23,7 +23,7 @@ pub record IsInside (width level ipa : ℕ) : Type 0 where
   pub most : level ≤ 3
   pub below : ipa < served_space width
 
--- Each table is an RTT granule of the realm, each data page a DATA granule, and none occurs twice.
+-- Each table is an RTT granule of the realm, each data page is a DATA granule of the realm, and none occurs twice.
 pub record HasGranules (entries : Entries) (granules : List Granule) (rd : ℕ) (root : Root) : Type 0 where
   pub tables : (level ipa table : ℕ) → IsInside root.width level ipa → table_at entries root level ipa ≡ Some table → IsIn granules table Rtt (Some rd)
   pub tables_once : (level ipa other_level other table : ℕ) → IsInside root.width level ipa → IsInside root.width other_level other
@@ -34,7 +34,7 @@ pub record HasGranules (entries : Entries) (granules : List Granule) (rd : ℕ) 
       → data_at entries root level ipa ≡ Some page → data_at entries root other_level other ≡ Some page
       → (level ≡ other_level) × (ipa / covered_count level ≡ other / covered_count other_level)
 
--- each word of a realm's tables is the word of its entry
+-- each word of a realm's tables is decoded to an entry that is encoded as the same word
 abbrev pub AreWords : List (List ℕ) → Root → Type 0
 AreWords pages root = (level ipa table index : ℕ) → IsInside root.width level ipa → table_at (entries_of pages) root level ipa ≡ Some table → index < 512
     → word_at pages table index ≡ entry_word (entries_of pages table index)
@@ -46,7 +46,7 @@ pub record HasTables (pages : List (List ℕ)) (granules : List Granule) (rd : �
   pub words : AreWords pages root
   pub sound : IsSoundRows root.width (mapping_at (rows pages root))
 
--- a granule is one of the tables
+-- the granule is one of the realm's tables
 pub record IsTableOf (pages : List (List ℕ)) (root : Root) (granule : ℕ) : Type 0 where
   pub level : ℕ
   pub ipa : ℕ

@@ -1,4 +1,5 @@
--- The words of tables as functions of the rows alone. RMM 1.0, RTT entry.
+-- The condition that the words of translation tables encode the rows, where the rows alone say which granules are the
+-- tables. RMM 1.0, RTT entry.
 use Rattle.std.specs.Prelude.{◌≡◌, ℕ, ◌-◌, ◌==◌, List, Option, Some, option_and_then, if◌then◌else◌}
 use Rattle.granule_addr.specs.Ipa.{entry_index}
 use Rattle.granule_addr.specs.Root.{start_table}
@@ -9,17 +10,17 @@ use Rattle.rtt.specs.Word.{entry_word}
 use Rattle.rtt.specs.Tables.{rows}
 use Rattle.rtt.specs.Realm.{IsInside}
 
--- the table of a level that serves an IPA granule: a starting table, or the one that the row above leads to
+-- the table of a level that serves an IPA granule: a starting table, or the table that the row above leads to
 abbrev pub table_by : Rows → Root → ℕ → ℕ → Option ℕ
 table_by rows root level ipa =
     if level == 1 then Some (start_table root ipa) else option_and_then table_of (row_at rows (level - 1) ipa)
 
--- Each word of the tables, from the starting tables on, is the word of its row.
+-- Each word of the tables, from the starting tables down, encodes its row.
 abbrev pub AreWordsOf : List (List ℕ) → Rows → Root → Type 0
 AreWordsOf pages rows root =
     (level ipa table : ℕ) (row : Row) → IsInside root.width level ipa → table_by rows root level ipa ≡ Some table
     → row_at rows level ipa ≡ Some row → word_at pages table (entry_index level ipa) ≡ entry_word row
 
--- Each word of a realm's tables is the word of its row.
+-- Each word of a realm's tables encodes its row.
 abbrev pub AreRowWords : List (List ℕ) → Root → Type 0
 AreRowWords pages root = AreWordsOf pages (rows pages root) root

@@ -1,4 +1,4 @@
--- The rows of a realm's tables, as functions of the entries in granules. RMM 1.0, Realm Translation Table.
+-- A realm's rows, computed from the entries in the granules of its tables. RMM 1.0, Realm Translation Table.
 use Rattle.std.specs.Prelude.{ℕ, zero, suc, ◌&&◌, ◌==◌, Bool, cond, nat_lt, nat_le, List, Option, Some, None, option_and_then}
 use Rattle.granule_addr.specs.Ipa.{first_covered, entry_index}
 use Rattle.granule_addr.specs.Root.{start_table, served_space}
@@ -8,7 +8,7 @@ use Rattle.realm_model.specs.Rows.{Row, Rows, table_of, data_of}
 use Rattle.rtt.specs.Word.{entry_of}
 use Rattle.rtt.specs.FiniteRows.{rows_by}
 
--- the entry of a granule at an index
+-- a function that gives the entry at each index of each granule
 abbrev pub Entries : Type 0
 Entries = ℕ → ℕ → Row
 
@@ -24,11 +24,11 @@ table_at entries root (suc zero) ipa = Some (start_table root ipa)
 table_at entries root (suc (suc level)) ipa =
     option_and_then (λ table. table_of (entries table (entry_index (suc level) ipa))) (table_at entries root (suc level) ipa)
 
--- the entry for an IPA granule in the table of a level that serves it
+-- the entry for an IPA granule in the table of this level, if a table of this level serves the IPA granule
 abbrev pub entry_at : Entries → Root → ℕ → ℕ → Option Row
 entry_at entries root level ipa = option_and_then (λ table. Some (entries table (entry_index level ipa))) (table_at entries root level ipa)
 
--- the data page to which the entry of a level for an IPA granule leads, if any
+-- the page of data that the entry for an IPA granule in the table of this level leads to, if any
 abbrev pub data_at : Entries → Root → ℕ → ℕ → Option ℕ
 data_at entries root level ipa = option_and_then (λ table. data_of (entries table (entry_index level ipa))) (table_at entries root level ipa)
 
@@ -36,13 +36,13 @@ data_at entries root level ipa = option_and_then (λ table. data_of (entries tab
 unfoldable pub is_place : ℕ → ℕ → ℕ → Bool
 is_place width level ipa = nat_le 1 level && nat_le level 3 && nat_lt ipa (served_space width) && first_covered level ipa == ipa
 
--- the row at a place
+-- the row at a place; none if no row can begin there, or if no table of the level serves it
 unfoldable pub row_in : Entries → Root → ℕ → ℕ → Option Row
 row_in entries root level ipa = cond (is_place root.width level ipa) (entry_at entries root level ipa) None
 
 unfoldable pub rows_in : Entries → Root → Rows
 rows_in entries root = rows_by (served_space root.width) (row_in entries root)
 
--- A realm's rows: the entries of its tables, from the starting tables on, in the words of pages.
+-- A realm's rows, decoded from the words of pages: the entries of its tables, from the starting tables down.
 unfoldable pub rows : List (List ℕ) → Root → Rows
 rows pages root = rows_in (entries_of pages) root

@@ -1,4 +1,5 @@
-//! Theorems on the translation tables of realms. They are in terms of a machine's pages and the states of its granules.
+//! Theorems about the translation tables of realms. They are in terms of a machine's pages and the states of its
+//! granules.
 ghost use Rattle.std.specs.Prelude.{◌≡◌, ℕ, List, Some};
 ghost use Rattle.granule_addr.specs.declared.width.Root.{Root};
 ghost use Rattle.rtt.specs.declared.granule.Granule.{Granule};
@@ -8,7 +9,7 @@ ghost use Rattle.rtt.specs.Tables.{rows};
 ghost use Rattle.rtt.specs.Realm.{HasTables, LeavesAlone};
 ghost use Rattle.rtt.specs.RowWords.{AreRowWords};
 
-/// The page of a translation table holds the words that encode its entries. RMM 1.0, RTT entry.
+/// Proves that the page of a translation table holds the words that encode its entries. RMM 1.0, RTT entry.
 pub fn tables_are_words()
     ensures { (pages : List (List ℕ)) (granules : List Granule) (rd : ℕ) (root : Root) → HasTables pages granules rd root → AreRowWords pages root }
 {}
@@ -19,8 +20,8 @@ pub fn rows_are_entries()
     ensures { (pages : List (List ℕ)) (root : Root) (level ipa : ℕ) (row : Row) → row_at (rows pages root) level ipa ≡ Some row → IsEntry row }
 {}
 
-/// A realm's translation tables keep their entries if its RTT granules keep their state and bytes, and its DATA
-/// granules keep their state. The tables keep their invariant too.
+/// Proves that a realm's translation tables keep their entries if its RTT granules keep their state and bytes, and its
+/// DATA granules keep their state. The tables keep their invariant too.
 pub fn tables_left_alone_stay()
     ensures { (rd : ℕ) (root : Root) (pages : List (List ℕ)) (granules : List Granule) (new_pages : List (List ℕ)) (new_granules : List Granule)
         → HasTables pages granules rd root → LeavesAlone rd pages granules new_pages new_granules

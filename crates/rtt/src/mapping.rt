@@ -1,4 +1,4 @@
-//! Functions that map and unmap a realm's data pages, and set RIPAS values.
+//! Functions that map and unmap a realm's pages of data, and set the RIPAS of IPA granules to RAM.
 ghost use Rattle.std.specs.Prelude.{◌≡◌, ℕ, ◌<◌, true, Some, None, OnOk, OnErr};
 ghost use Rattle.rtt.specs.Granules.{IsIn};
 ghost use Rattle.granule_addr.specs.Page.{zero_page};

@@ -1,4 +1,4 @@
-//! The refusal of an operation on translation tables, with its RTT level.
+//! The refusal of an operation on translation tables, with the RTT level that it reports.
 ghost use Rattle.std.specs.Prelude.{◌≡◌};
 ghost use Rattle.realm_model.specs.Command.Check.{error_rtt};
 
@@ -14,7 +14,7 @@ pub struct Rtt {
     pub level: Level,
 }
 
-/// Converts the refusal of an operation on translation tables to a refusal by the RMM.
+/// Converts the refusal of an operation on translation tables to the result RMI_ERROR_RTT with the refusal's level.
 impl From<Rtt> for Rmi {
     ghost from_gives = { λ refusal rmi. rmi ≡ error_rtt refusal.level };
 

@@ -1,4 +1,5 @@
--- Proofs that appending the items of the next number or element gives the items of all numbers or elements so far.
+-- Proofs that a list with the items of the first n numbers or elements has those of the first n + 1 once the next one's
+-- are appended.
 use Rattle.std.proofs.Common.{◌≡◌, ℕ, ◌+◌, ◌-◌, ◌<◌, ◌≤◌, List, [], ◌∷◌, ◌++◌, length, take, get_or, sym, ap, ◌∙◌, subst, arith}
 use Rattle.std.specs.List.{flat_map, range_with_len, AllZip}
 use Rattle.std.proofs.lemmas.List.{flat_map_more, take_more}

@@ -1,5 +1,5 @@
--- Proof that runs of equal rows, read by ascending address until no row follows, are all translation table rows of a
--- realm.
+-- Proofs that reading runs of equal rows by ascending address, until no row follows, gives all translation table rows
+-- of a realm.
 use Rattle.std.proofs.Common.{◌≡◌, ℕ, ◌+◌, ◌*◌, ◌<◌, Bool, true, false, List, [], ◌∷◌, ◌++◌, Option, Some, None, refl, sym, ap, ap₂, ◌∙◌, subst, arith, append_assoc, if◌then◌else◌, below_more}
 use Rattle.std.specs.List.{flat_map}
 use Rattle.std.proofs.lemmas.List.{flat_map_more}

@@ -1,5 +1,5 @@
--- Proofs that appending a turn to a document's turns gives turns of the longer schedule, and that a document's turns
--- are a run of the plan.
+-- Proofs that the list of turn items stays correct when an item is appended, and that the turns of a whole document are
+-- a run of the plan.
 use Rattle.std.proofs.Common.{ℕ, List, [], ◌∷◌, ◌++◌, length, refl, subst, ◌≤◌, take}
 use Rattle.std.proofs.lemmas.List.{take_all}
 use Rattle.std.specs.List.{flat_map}

@@ -21,7 +21,7 @@ refusal_number (refusal.NoBlock order) = 11
 refusal_number refusal.NoVmid = 12
 refusal_number (refusal.Rmi rmi) = 13
 
--- the numbers of an answer, in the order of its text
+-- the numbers of an answer, in the sequence in which the answer's text has them
 abbrev pub answer_numbers : TurnAnswer → List ℕ
 answer_numbers (Replied reply) = reply_numbers reply
 answer_numbers (Marked length) = length ∷ []

@@ -5,7 +5,8 @@ use Rattle.granule_addr.specs.Root.{start_count}
 use Rattle.realm_model.specs.declared.act.Act.{Act}
 use Rattle.realm_model.specs.declared.act.Act.TheVariants.{Take, UnTake, Delegate, Undelegate, Realm, UnRealm, Activate, Rtt, UnRtt, Ripas, Data, Unknown, UnData, Rec, UnRec, Enter, Exit}
 
--- one granule, `count` granules from the number `from` on, and others
+-- The granules that an operation changes. They are `granule`, the `count` granules from number `from` on, and those in
+-- `also`.
 pub record ChangedGranules : Type 0 where
   pub granule : ℕ
   pub from : ℕ
@@ -32,7 +33,7 @@ granules_of (Rec g auxiliaries number) = Some (record { granule = g; from = 0; c
 granules_of (UnRec g auxiliaries number) = Some (record { granule = g; from = 0; count = 0; also = auxiliaries.items })
 granules_of _ = None
 
--- the REC that an operation makes, changes or destroys
+-- the number of the REC that an operation makes, changes or destroys, if any
 abbrev pub rec_named_by : Act → Option ℕ
 rec_named_by (Rec g auxiliaries number) = Some number
 rec_named_by (UnRec g auxiliaries number) = Some number
@@ -40,7 +41,7 @@ rec_named_by (Enter number) = Some number
 rec_named_by (Exit number) = Some number
 rec_named_by _ = None
 
--- whether an operation changes what the host keeps of the realm itself
+-- whether an operation changes a realm's existence, state, measurement or next REC number
 abbrev pub changes_realm : Act → Bool
 changes_realm (Realm rd root vmid) = true
 changes_realm (UnRealm rd root vmid) = true
@@ -50,6 +51,6 @@ changes_realm (Data g ipa source) = true
 changes_realm (Rec g auxiliaries number) = true
 changes_realm _ = false
 
--- the level of the table above a table of that level
+-- the level of the parent table of a table at this level; for a table of level 1 it is 1
 abbrev pub level_above : ℕ → ℕ
 level_above level = if level == 3 then 2 else 1

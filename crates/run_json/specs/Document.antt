@@ -12,7 +12,7 @@ use Rattle.run_json.specs.declared.turn.TurnItem.{TurnItem}
 abbrev pub settings_of : Plan → MachineSettings
 settings_of plan = record { pages = plan.pages; vmids = plan.vmids; aux = plan.aux; history = plan.history; builds = length plan.builds }
 
--- The item of a turn: the build, its step with its place, and the answer of the host. Then the event that the turn
+-- The item of a turn: the build, its step with the step's index, and the host's answer. Then the event that the turn
 -- added to the history, and what that changed. Last, what the host keeps of the build after the turn.
 pub record IsTurnItem (plan : Plan) (from : Position) (build : ℕ) (to : Position) (item : TurnItem) : Type 0 where
   pub turn : Turn
@@ -22,26 +22,26 @@ pub record IsTurnItem (plan : Plan) (from : Position) (build : ℕ) (to : Positi
   pub step_is : option_map step_view item.step ≡ option_map (placed (place_of from.places build).done) turn.told
   pub after : IsAfterTurn to.host build (length from.host.history) item
 
--- a turn of the build, whose item was appended
+-- a turn of the build leads from one position to the other, and its item is appended
 pub record AddsTurnItem (plan : Plan) (from : Position) (build : ℕ) (to : Position) (old new : List TurnItem) : Type 0 where
   pub item : TurnItem
   pub is_item : IsTurnItem plan from build to item
   pub appended : new ≡ old ++ item ∷ []
 
--- turns of these builds, one after the other
+-- the items describe turns of the given builds, in sequence, that lead from one position to the other
 abbrev pub AreTurnItems : Plan → List ℕ → Position → Position → List TurnItem → Type 0
 AreTurnItems plan [] from to [] = to ≡ from
 AreTurnItems plan (build ∷ order) from to (item ∷ items) = (between : Position) × IsTurnItem plan from build between item × AreTurnItems plan order between to items
 AreTurnItems plan _ from to _ = ⊥
 
--- the items are those of the plan's turns, which lead from the first host to the second
+-- the items describe the plan's turns, which lead from the first state of the host to the second
 pub record HasTurnItems (plan : Plan) (from to : HostView) (items : List TurnItem) : Type 0 where
   pub end : Position
   pub host : end.host ≡ to
   pub turns : AreTurnItems plan plan.order (start from) end items
 
--- The document of some run of the plan from a host: the format's version, the machine's size, the turns, and the last
--- world.
+-- The document of some run of the plan from a host: the format's version, the machine's settings, the turns, and the
+-- last world.
 pub record IsDocument (plan : Plan) (from to : HostView) (document : Document) : Type 0 where
   pub version_is : document.realmview ≡ 1
   pub settings_are : document.settings ≡ settings_of plan

@@ -3,6 +3,6 @@ use Rattle.std.specs.Prelude.{ℕ, List, [], Some}
 use Rattle.serde.specs.Event.{Log}
 use Rattle.serde_json.specs.Sent.{IsTextOf}
 
--- the text that serde_json has, with no space, for events which the value writes
+-- the text is what `serde_json` writes, without spaces, for the serde events that the value sends
 abbrev pub IsJsonOf : (Log → Log → Type 0) → List ℕ → Type 0
 IsJsonOf writes text = (log : Log) × writes (Some []) log × IsTextOf log text

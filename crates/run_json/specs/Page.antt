@@ -3,17 +3,18 @@ use Rattle.std.specs.Prelude.{ℕ, List, [], ◌∷◌, ◌++◌, codes, ◌==�
 use Rattle.std.specs.List.{flat_map}
 use Rattle.run_json.specs.declared.template.TheConstants.{HEAD, TAIL}
 
--- a byte of JSON as the page has it: `<`, which occurs only in strings, is escaped
+-- a byte of JSON as it is written in the page: an escape for `<`, which JSON has only in strings, and the byte itself
+-- otherwise
 abbrev pub escaped_byte : ℕ → List ℕ
 escaped_byte byte = if byte == 60 then codes "\\u003c" else byte ∷ []
 
 abbrev pub escaped : List ℕ → List ℕ
 escaped json = flat_map escaped_byte json
 
--- the element of the page that has the data: a browser runs no script of this type
+-- the script element with the data; a browser does not run a script of this type
 abbrev pub data_element : List ℕ → List ℕ
 data_element json = codes "<script id=\"data\" type=\"application/json\">" ++ (escaped json ++ codes "</script>")
 
--- the template's head, the element of the data, and the template's tail
+-- the page: the template's head, the script element with the data, and the template's tail
 unfoldable pub page_bytes : List ℕ → List ℕ
 page_bytes json = HEAD.now ++ (data_element json ++ TAIL.now)

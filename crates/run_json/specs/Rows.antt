@@ -11,22 +11,23 @@ use Rattle.run_json.specs.declared.items.RowItem.{RowItem}
 
 -- ---- runs: successive rows of one table with the same entry
 
--- the first IPA granule after `count` rows, the first of which is this one
+-- the IPA granule right after a run of `count` equal rows that begins with this row
 abbrev pub first_after : RowView → ℕ → ℕ
 first_after row count = row.first + count * covered_count row.level
 
--- The run goes on at an IPA granule: an equal row begins there, and no table does. The starting tables count as one.
+-- A run of rows equal to this one goes on at an IPA granule: an equal row begins there, and no table begins there. The
+-- starting tables count as one.
 pub record RunGoesOn (world : World) (build : ℕ) (row : RowView) (ipa : ℕ) : Type 0 where
   pub same : row_at world build ipa 3 ≡ Some (record row { first = ipa })
   pub inside : is_table_place ipa row.level ≡ false
 
--- the run that begins with this row has exactly `count` rows
+-- the run of equal rows that begins with this row has exactly `count` rows
 pub record IsRowRun (world : World) (build : ℕ) (row : RowView) (count : ℕ) : Type 0 where
   pub some : 0 < count
   pub same : (k : ℕ) → 0 < k → k < count → RunGoesOn world build row (first_after row k)
   pub longest : ¬ RunGoesOn world build row (first_after row count)
 
--- all runs from an IPA granule on, one after another
+-- the items are the runs of equal rows of the build's realm, one after another, from an IPA granule to the last row
 abbrev pub AreRowRuns : World → ℕ → ℕ → List RowItem → Type 0
 AreRowRuns world build ipa [] = row_at world build ipa 3 ≡ None
 AreRowRuns world build ipa (run ∷ runs) =
@@ -34,17 +35,18 @@ AreRowRuns world build ipa (run ∷ runs) =
 
 -- ---- items
 
--- the item of this row alone, if the row begins at that IPA granule
+-- a list of the one item of this row, if the row begins at that IPA granule; an empty list otherwise
 abbrev pub beginning_at : ℕ → Option RowView → List RowItem
 beginning_at ipa None = []
 beginning_at ipa (Some row) = if row.first == ipa then record { row = row; count = 1 } ∷ [] else []
 
--- The rows above this one that begin where it does, in rising level: the TABLE rows by which the walk to the first row
--- of a table reaches it.
+-- For each level above this row's, from level 1 on, the row that begins at the same IPA granule, if there is one. They
+-- are the TABLE rows of the tables that begin with this row.
 abbrev pub rows_above : World → ℕ → RowView → List RowItem
 rows_above world build row = flat_map (λ level. beginning_at row.first (row_at world build row.first level)) (range_with_len 1 (row.level - 1))
 
--- a run, after the rows above it
+-- the items of a run of equal rows: the rows of higher levels that begin at its first IPA granule, and then the run
+-- itself
 abbrev pub run_items : World → ℕ → RowItem → List RowItem
 run_items world build run = rows_above world build run.row ++ run ∷ []
 

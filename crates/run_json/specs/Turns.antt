@@ -22,7 +22,7 @@ use Rattle.run_json.specs.declared.turn.TurnItem.{TurnItem}
 
 -- ---- steps
 
--- a step's place in the build's list, its text, and the answer
+-- what a step's item says: the step's index in the build's list, its text, and the answer
 abbrev pub step_view : StepItem → ℕ × List ℕ × TurnAnswer
 step_view step = (step.place, string_bytes step.step, step.answer)
 
@@ -31,7 +31,7 @@ placed place told = (place, spelling told.0, told.1)
 
 -- ---- granules
 
--- the item of the granule with that number, if the number is below 4096
+-- a list of the one item of the granule with that number; an empty list if the number is 4096 or more
 abbrev pub numbered_granule : HostView → ℕ → List (Option GranuleItem)
 numbered_granule host number = if nat_lt number 4096 then granule_item host number ∷ [] else []
 
@@ -71,7 +71,7 @@ rows_after host build _ = []
 
 -- ---- RECs and realms
 
--- the item is of the REC with that number, or None if no number is given
+-- the item describes the REC with this number, or is None if no number is given
 abbrev pub IsRecNamed : HostView → ℕ → Option ℕ → Option RecItem → Type 0
 IsRecNamed host build None item = item ≡ None
 IsRecNamed host build (Some number) (Some item) = IsRecItem host build number item
@@ -85,7 +85,7 @@ realm_after host build act = if changes_realm act then Some (realm_item host bui
 
 -- ---- events
 
--- an event, and what it changed
+-- the item of an event: the event, and the objects that it changed
 pub record IsEventItem (host : HostView) (build : ℕ) (event : Event) (item : EventItem) : Type 0 where
   pub event_is : item.event ≡ event
   pub granules_are : item.granules.items ≡ granules_after host event.act
@@ -93,13 +93,13 @@ pub record IsEventItem (host : HostView) (build : ℕ) (event : Event) (item : E
   pub rec_is : IsRecAfter host build event.act item.rec
   pub realm_is : item.realm ≡ realm_after host build event.act
 
--- the item is of the event, or None if there is no event
+-- the item describes the event, or is None if there is no event
 abbrev pub IsEventAt : HostView → ℕ → Option Event → Option EventItem → Type 0
 IsEventAt host build None item = item ≡ None
 IsEventAt host build (Some event) (Some item) = IsEventItem host build event item
 IsEventAt host build (Some event) None = ⊥
 
--- the event at that place of the history, what it changed, and what the host keeps of the build
+-- the item has the event at this index of the history, what the event changed, and what the host keeps of the build
 pub record IsAfterTurn (host : HostView) (build place : ℕ) (item : TurnItem) : Type 0 where
   pub event_is : IsEventAt host build (slice_get host.history place) item.event
   pub open_is : item.open ≡ length (open_of host build)

@@ -16,23 +16,23 @@ use Rattle.run_json.specs.declared.world.RealmContents.{RealmContents}
 use Rattle.run_json.specs.declared.world.BuildItem.{BuildItem}
 use Rattle.run_json.specs.declared.world.WorldItem.{WorldItem}
 
--- the granules of the machine
+-- the items of all granules of the machine
 abbrev pub all_granules : HostView → List (Option GranuleItem)
 all_granules host = more_granules host 0 host.limits.pages
 
--- `count` pages of a build, from the first one on
+-- the items of the first `count` pages of a build
 abbrev pub page_items : HostView → ℕ → ℕ → List (Option PageItem)
 page_items host build count = flat_map (λ page. page_item host build page ∷ []) (range_with_len 0 count)
 
--- operations of a build, each as the event that it was
+-- the items of a build's operations, each written as its event
 abbrev pub open_lines : ℕ → List Act → List EventLine
 open_lines build acts = flat_map (λ act. record { 0 = record { build = build; act = act } } ∷ []) acts
 
--- the items of the RECs with numbers below `next`, in rising number
+-- the items describe the RECs with numbers below `next`, in ascending order
 abbrev pub AreRecItems : HostView → ℕ → ℕ → List RecItem → Type 0
 AreRecItems host build next items = AllZip (IsRecItem host build) (range_with_len 0 next) items
 
--- a realm, with all of its rows and RECs
+-- the item describes the realm, with all of its rows and RECs, or is None if there is no realm
 abbrev pub IsRealmWith : HostView → ℕ → Option RealmItem → Option RealmContents → Type 0
 IsRealmWith host build None item = item ≡ None
 IsRealmWith host build (Some realm) None = ⊥
@@ -42,7 +42,7 @@ IsRealmWith host build (Some realm) (Some item) =
 abbrev pub IsRealmContents : HostView → ℕ → Option RealmContents → Type 0
 IsRealmContents host build item = IsRealmWith host build (realm_item host build) item
 
--- a build, with all that it has
+-- the item of a build: its mark, its abort flag, its open operations, its pages and its realm
 pub record IsBuildItem (host : HostView) (build : ℕ) (item : BuildItem) : Type 0 where
   pub build_is : item.build ≡ build
   pub kept_is : item.kept ≡ build_kept host build
@@ -50,7 +50,7 @@ pub record IsBuildItem (host : HostView) (build : ℕ) (item : BuildItem) : Type
   pub pages_are : item.pages.items ≡ page_items host build (length (pages_of_build host build))
   pub realm_is : IsRealmContents host build item.realm
 
--- all builds
+-- the items describe the first `count` builds, in ascending order
 abbrev pub AreBuildItems : HostView → ℕ → List BuildItem → Type 0
 AreBuildItems host count items = AllZip (IsBuildItem host) (range_with_len 0 count) items
 

@@ -62,7 +62,7 @@ fn numbers_of_refusal(refusal: Refusal) -> ArrayVec<u32, MOST_NUMBERS>
     numbers
 }
 
-/// Converts the host's answer to a turn to a list of numbers. The first number of a refusal is that of the refusal's
+/// Converts the host's answer to a turn into a list of numbers. The first number of a refusal is that of the refusal's
 /// kind.
 pub fn numbers_of(answer: &TurnAnswer) -> ArrayVec<u32, MOST_NUMBERS>
     ensures { result.items ≡ answer_numbers answer.now }

@@ -5,7 +5,8 @@ ghost use Rattle.run_json.specs.Changes.{one_granule, granules_of, changes_realm
 use granule_addr::{Gran, Level, RecNo};
 use realm_model::Act;
 
-/// The granules that an operation changes: `granule`, the `count` granules from number `from` on, and those in `also`.
+/// The granules that an operation changes. They are `granule`, the `count` granules from number `from` on, and those in
+/// `also`.
 #[derive(Drop)]
 pub struct Changed<'a> {
     pub granule: Gran,

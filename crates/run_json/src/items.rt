@@ -34,7 +34,7 @@ impl Serialize for GranuleItem {
     }
 }
 
-/// Returns the JSON object of a granule of a host's machine. The result is `None` if the machine has no such granule.
+/// Returns the JSON object of a granule, or `None` if the host's machine has no such granule.
 pub fn granule_item<S: PageStore>(host: &Host<S>, granule: Gran) -> Option<GranuleItem>
     ensures { result ≡ granule_item host.now granule }
 {
@@ -67,7 +67,7 @@ impl Serialize for RowItem {
 }
 
 /// Creates the JSON object for `count` rows of a realm's translation tables. The first row is the one at which the RTT
-/// walk for an IPA granule towards a level ends.
+/// walk of an IPA granule towards a level ends. The result is `None` if there is no such row.
 pub fn row_item<S: PageStore>(
     host: &Host<S>,
     build: BuildId,
@@ -161,7 +161,7 @@ impl Serialize for PageItem {
     }
 }
 
-/// Returns the JSON object of a build's page. The result is `None` if the build has no such page.
+/// Returns the JSON object of a build's page, or `None` if the build has no such page.
 pub fn page_item<S: PageStore>(host: &Host<S>, build: BuildId, page: u16) -> Option<PageItem>
     ensures { result ≡ page_item host.now build page }
 {

@@ -1,4 +1,4 @@
-//! Writes values as JSON text.
+//! A writer for JSON objects, and the conversion of values to JSON text.
 ghost use Rattle.std.specs.Prelude.{IfOk, string_bytes};
 ghost use Rattle.run_json.specs.JsonText.{IsJsonOf};
 

@@ -1,4 +1,4 @@
-//! The JSON members `mark` and `aborting` of a build: the build's rollback mark, and whether the build is aborting.
+//! The JSON members `mark` and `aborting` of a build: its mark, if it has one, and whether it is in abort.
 ghost use Rattle.std.specs.Prelude.{◌≡◌};
 ghost use Rattle.run_json.specs.Items.{build_kept};
 
@@ -9,7 +9,7 @@ use realm_host::Host;
 use serde::Serializer;
 
 /// The members `mark` and `aborting` in the JSON object of a build or of a turn. `mark` is the number of operations
-/// that the build had open at its rollback mark, if it has one. `aborting` is whether the build is aborting.
+/// that the build had open at its mark, if it has one. `aborting` is whether the build is in abort.
 #[derive(Clone, Copy)]
 pub struct BuildKept {
     pub mark: Option<u16>,
@@ -24,7 +24,7 @@ impl BuildKept {
     }
 }
 
-/// Returns a build's rollback mark, if any, and whether the build is aborting.
+/// Returns the JSON members `mark` and `aborting` of a build, with the values that the host has.
 pub fn build_kept<S: PageStore>(host: &Host<S>, build: BuildId) -> BuildKept
     ensures { result ≡ build_kept host.now build }
 {

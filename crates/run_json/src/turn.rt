@@ -28,8 +28,8 @@ pub struct StepItem {
     pub answer: TurnAnswer,
 }
 
-/// A history event, with the RMM objects that it changed. The objects are as the host has them after the turn. A list
-/// is empty if the event changes no such object.
+/// The JSON object of a history event: the event, and the RMM objects that it changed. The objects are as the host has
+/// them after the turn. A list is empty if the event changes no such object.
 pub struct EventItem {
     pub event: Event,
     pub granules: Vec<Option<GranuleItem>>,
@@ -150,8 +150,7 @@ fn step_item(
     })
 }
 
-/// Returns the JSON object of a turn's step: index, text and answer. The result is `None` if the build has no step
-/// left.
+/// Returns the JSON object of a turn's step, with index, text and answer, or `None` if the turn had no step.
 pub fn step_of(
     alloc: Global,
     place: usize,

@@ -1,5 +1,5 @@
--- Proof that two hosts that differ only in the schedule give a call the same answers, and still agree on which marks
--- they keep.
+-- Proofs that two hosts that differ only in the schedule answer a call alike, and then still agree on which marks they
+-- keep.
 use Rattle.std.proofs.Common.{◌≡◌, ◌≢◌, ℕ, ◌&&◌, false, List, [], ◌∷◌, ◌++◌, drop, length, get_or, set, Option, Some, None, Result, Ok, Err, refl, sym, ap, ◌∙◌, subst}
 use Rattle.std.specs.Prelude.{nat_le, not, slice_index_or, option_map}
 use Rattle.std.specs.List.{list_any}

@@ -1,4 +1,4 @@
--- Proof that the path counts of a layer follow from the path counts of the next layer.
+-- Proofs that the path counts of a layer follow from the path counts of the next layer.
 use Rattle.std.proofs.Common.{◌≡◌, ℕ, zero, suc, ◌+◌, Bool, true, false, not, cond, ◌||◌, List, [], ◌∷◌, map, length, length-append, Vec, Global, vec_items, Some, None, refl, sym, ap, ◌∙◌}
 use Rattle.std.specs.Prelude.{sum_by, filter, slice_get, slice_index_or}
 use Rattle.std.specs.List.{flat_map}

@@ -1,4 +1,4 @@
--- Proof that the path counts lead, edge by edge, to the first path with, or without, a label that has a property.
+-- Proofs that the path counts lead, edge by edge, to the first path with, or without, a label that has a property.
 use Rattle.std.proofs.Common.{◌≡◌, ℕ, zero, suc, ◌+◌, ◌<◌, ◌≤◌, Bool, true, false, cond, ◌||◌, List, [], ◌∷◌, ◌++◌, map, length, take, drop, drop-cons, append_assoc, add-one, Vec, Global, vec_items, Option, Some, None, refl, sym, ap, ◌∙◌, subst, arith}
 use Rattle.std.specs.Prelude.{filter, nat_lt, option_map, slice_index_or}
 use Rattle.std.specs.List.{find, flat_map}

@@ -1,4 +1,4 @@
--- Proof that each path in a plan's state graph is a run of the plan.
+-- A proof that each path in a plan's state graph is a run of the plan.
 use Rattle.std.proofs.Common.{◌≡◌, ℕ, List, [], ◌∷◌, ◌++◌, map, Some, None, refl, sym, ◌∙◌, subst}
 use Rattle.std.specs.Prelude.{slice_get}
 use Rattle.std.specs.List.{AllByRecursion, flat_map}

@@ -1,5 +1,5 @@
--- Lemmas on marks and cursors: a mark stays kept while no fewer operations are open than at the mark, and equal
--- progress stays equal.
+-- Lemmas about marks and cursors: the host keeps a mark while no fewer operations are open than at the mark, and the
+-- same answer keeps two cursors' progress equal.
 use Rattle.std.proofs.Common.{◌≡◌, ℕ, zero, suc, ◌==◌, ◌&&◌, Bool, true, false, cond, List, [], ◌∷◌, map, get_or, set, length, Option, Some, None, refl, sym, ap, ◌∙◌, eq-eqb, eqb-true, arith}
 use Rattle.std.specs.Prelude.{nat_le, option_map}
 use Rattle.std.proofs.lemmas.Bool.{and_parts}

@@ -1,4 +1,4 @@
--- Proof that counting paths layer by layer, from the last layer to the first, gives the path counts of all layers.
+-- Proofs that counting paths layer by layer, from the last layer to the first, gives the path counts of all layers.
 use Rattle.std.proofs.Common.{◌≡◌, ℕ, zero, suc, ◌+◌, ◌-◌, ◌<◌, ◌≤◌, Vec, Global, vec_items, Bool, true, List, [], ◌∷◌, ◌++◌, map, length, drop, get_or, drop-cons, refl, sym, ap, ◌∙◌, subst, arith}
 use Rattle.std.specs.Prelude.{filter, reverse, slice_index_or}
 use Rattle.std.proofs.lemmas.List.{reverse-append, get_or-reverse, map-append, length-map}

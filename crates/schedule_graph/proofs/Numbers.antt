@@ -1,5 +1,5 @@
--- Lemmas on the number that a list of decimal digits represents: the effect of an appended digit, a replaced digit and
--- a carry.
+-- Lemmas about the number that a list of decimal digits represents: the effect of an appended digit, a replaced digit
+-- and a carry.
 use Rattle.std.proofs.Common.{◌≡◌, ℕ, zero, suc, ◌+◌, ◌*◌, ◌^◌, ◌/◌, ◌%◌, ◌<◌, List, [], ◌∷◌, ◌++◌, length, length-append, take, set, get_or, refl, ap, ◌∙◌, arith, mul_left_comm, mul_assoc, add-mul, add-one}
 use native.Mathlib.Nat.{pow-succ'}
 use Rattle.schedule_graph.specs.Number.{number_of}

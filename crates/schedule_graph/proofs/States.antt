@@ -1,5 +1,5 @@
--- Proof that run positions in the same state have the same possible turns and answers, and that each turn leads both to
--- the same state.
+-- Proofs that run positions in the same state have the same possible turns and answers, and that each turn leads both
+-- to the same state.
 use Rattle.std.proofs.Common.{◌≡◌, ◌≢◌, ℕ, ◌-◌, ◌==◌, Bool, true, false, cond, List, [], ◌∷◌, map, get_or, set, Option, Some, None, Result, Ok, Err, refl, sym, ap, ◌∙◌, subst, ⊎_elim}
 use Rattle.std.specs.Prelude.{option_map}
 use Rattle.std.specs.Bool.{OnTrue, OnFalse}

@@ -1,4 +1,4 @@
--- Proof that removing the leading zeros from a list of digits leaves the decimal digits of the number that the list
+-- Proofs that removing the leading zeros from a list of digits leaves the decimal digits of the number that the list
 -- represents.
 use Rattle.std.proofs.Common.{◌≡◌, ℕ, zero, suc, ◌+◌, ◌*◌, ◌^◌, ◌/◌, ◌%◌, ◌<◌, ◌≤◌, ◌==◌, Bool, true, false, cond, List, [], ◌∷◌, ◌++◌, length, map, reverse, take, get_or, add-one, All, refl, sym, ap, subst, ◌∙◌, arith}
 use Rattle.std.specs.Str.{bytes_eq}

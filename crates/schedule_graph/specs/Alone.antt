@@ -5,8 +5,8 @@ use Rattle.host_commands.specs.declared.cmd.Cmd.TheVariants.{Take, Realm}
 use Rattle.host_ledger.specs.View.{HostView, is_aborting}
 use Rattle.realm_host.specs.Call.{Call, Ask}
 
--- Both hosts have legal histories, the same machine, and the same events of the build. The build is in abort on
--- both or on neither.
+-- Both hosts have legal histories, the same limits and capacity, and the same events of the build. The build is in
+-- abort on both or on neither.
 pub record DidTheSameAlone (build : ℕ) (host twin : HostView) : Type 0 where
   pub legal : IsLegal host.limits host.history
   pub twin_legal : IsLegal twin.limits twin.history

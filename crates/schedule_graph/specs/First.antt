@@ -5,14 +5,16 @@ use Rattle.std.specs.declared.alloc.Global.{Global}
 use Rattle.schedule_graph.specs.Paths.{Layer, Path, paths, shows, count_at}
 use Rattle.schedule_graph.specs.declared.graph.Edge.{Edge}
 
--- the layers, and next the path numbers, that nested vectors hold
+-- the layers of a graph as lists, given the nested vectors that hold them
 abbrev pub layers_in : {L : Type 0} → List (Vec (Vec (Edge L) Global) Global) → List (Layer L)
 layers_in layers = map (λ layer. map vec_items (vec_items layer)) layers
 
+-- the path counts of all layers as lists, given the vectors that hold them
 abbrev pub path_numbers_in : List (Vec ℕ Global) → List (List ℕ)
 path_numbers_in counts = map vec_items counts
 
--- For each state of each layer, the number of paths from it that satisfy `like`. A number that is left out is 0.
+-- For each state of each layer, the given count is the number of paths from the state that satisfy `like`. A count that
+-- is left out is 0.
 abbrev pub ArePathNumbers : {L : Type 0} → (Path L → Bool) → List (Layer L) → List (List ℕ) → Type 0
 ArePathNumbers like layers counts =
     (depth state : ℕ) → count_at (slice_index_or counts depth []) state ≡ length (filter like (paths (drop depth layers) state))
@@ -21,7 +23,7 @@ ArePathNumbers like layers counts =
 abbrev pub first_like : {L : Type 0} → (Path L → Bool) → List (Path L) → Option (List L)
 first_like like ps = option_map (λ path. map (λ edge. edge.label) path) (find like ps)
 
--- any path
+-- the condition that every path satisfies
 abbrev pub any_path : {L : Type 0} → Path L → Bool
 any_path path = true
 
@@ -31,7 +33,7 @@ shows_none is path = not (shows is path)
 
 -- ---- the next edge of a path
 
--- Some path sought continues along the edge, by the path numbers of the next layer. One list is for paths that have
--- shown a label sought, here or before, and one for the others.
+-- By the path counts of the next layer, some path that is sought goes on along the edge. One list is for paths on which
+-- this edge or an earlier one has a label that satisfies `is`, and one for the other paths.
 abbrev pub goes_on : {L : Type 0} → (L → Bool) → Bool → List ℕ → List ℕ → Edge L → Bool
 goes_on is shown with_it without_it edge = nat_lt 0 (count_at (cond (shown || is edge.label) with_it without_it) edge.to)

@@ -21,25 +21,26 @@ AreEdges plan states next layer =
     (number : ℕ) (at : Position) (edges : List (Edge Turn))
     → slice_get states number ≡ Some at → slice_get layer number ≡ Some edges → AllByRecursion (IsEdge plan at next) edges
 
--- the states of the first layer
+-- the states of the first layer, or none if there is no layer
 abbrev pub first_of : List (List Position) → List Position
 first_of [] = []
 first_of (states ∷ rest) = states
 
--- The layers have these states, each as one position of a run, and the edges are turns of the plan.
+-- The edges of the layers are turns of the plan between states, and each state is given by one position.
 abbrev pub IsGraph : Plan → List (List Position) → List (Layer Turn) → Type 0
 IsGraph plan [] [] = Unit {0}
 IsGraph plan (states ∷ rest) (layer ∷ layers) = AreEdges plan states (first_of rest) layer × IsGraph plan rest layers
 IsGraph plan _ _ = ⊥
 
--- the schedule of a path, and its turns
+-- the schedule of a path: the build of each of its turns
 abbrev pub schedule_of : Path Turn → List ℕ
 schedule_of path = map (λ edge. edge.label.build) path
 
+-- the turns of a path
 abbrev pub turns_of : Path Turn → List Turn
 turns_of path = map (λ edge. edge.label) path
 
--- The plan can be run from a position in the schedule of a path, with the answers that the path has.
+-- From a given position, the plan can be run in the schedule of a path, with the answers that the path has.
 pub record IsPathRun (plan : Plan) (from : Position) (path : Path Turn) : Type 0 where
   pub to : Position
   pub are_turns : AreTurns plan (schedule_of path) from (turns_of path) to

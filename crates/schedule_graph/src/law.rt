@@ -1,5 +1,5 @@
-//! Theorems on the states of a plan's runs, on calls that other builds do not affect, and on the paths of a state
-//! graph.
+//! Theorems about the states of a plan's runs, about calls that other builds do not affect, and about the paths of a
+//! state graph.
 ghost use Rattle.std.specs.Prelude.{◌≡◌, ℕ, List, Some, slice_get};
 ghost use Rattle.std.specs.List.{AllByRecursion};
 ghost use Rattle.realm_plan.specs.Plan.{Plan};

@@ -3,8 +3,10 @@
 //! Two positions of runs are one state if each build has the same events, progress and abort flag, and a valid mark in
 //! both or in neither. A state decides all further turns and their answers, whatever the schedule was (`law.rt`). So
 //! schedules are paths of a graph of states, which are counted layer by layer (`graph.rt`, `layers.rt`) in numbers of
-//! any size (`path_number.rt`). The counts lead to the first path with, or without, a label that has a property
-//! (`first.rt`). Numbers are printed in decimal (`number.rt`).
+//! any size (`path_number.rt`).
+//!
+//! The counts lead to the first path with, or without, a label that has a property (`first.rt`). Numbers are printed in
+//! decimal (`number.rt`).
 #![tactic(auto)]
 
 mod first;

@@ -1,4 +1,4 @@
-//! Tests of the free blocks of an arena.
+//! Tests of the free blocks of a page store (`BuddyArena`).
 ghost use Rattle.std.specs.Prelude.{◌≡◌, IsTrue};
 ghost use Rattle.page_arena.specs.Block.{IsTakenBlock};
 

@@ -13,7 +13,7 @@ use std::process::Abort;
 /// A test script: a sequence of calls, each with the number of its build.
 pub(crate) type Script = &'static [(u8, Call)];
 
-/// A command of a test script, which the host gets from a build.
+/// A command in a test script, which a build gives the host.
 pub(crate) enum Command {
     /// Leases a block of 2^order pages.
     Take(u8),
@@ -34,11 +34,11 @@ pub(crate) enum AcceptedAnswer {
     Number(u16),
 }
 
-/// The reason for which a script expects a call to be refused.
+/// The expected reason for the refusal of a call in a test script.
 pub(crate) enum No {
     Build,
     Aborting,
-    /// A refusal because the build does not have the page.
+    /// A refusal because the build has no page of the given number.
     Page(u16),
     NothingToUndo,
 }
@@ -53,13 +53,13 @@ pub(crate) enum Which {
 /// A call to a host, with the expected answer. Some calls only read the host's state.
 pub(crate) enum Call {
     Ask(Command, Result<AcceptedAnswer, No>),
-    /// Undoes the build's newest open operation, with the expected answer. The answer is the kind of the undone
+    /// An undo of the build's newest open operation, with its expected answer. The answer is the kind of the undone
     /// operation, and the number of operations left open.
     Undo(Result<(Kind, u16), No>),
     BeginAbort(Result<u16, No>),
     Abort(Result<u16, No>),
-    /// Sets a mark to which the build can be rolled back, with the expected answer. The answer is the number of
-    /// operations open at the mark.
+    /// A request for a mark to which the build can be rolled back, with its expected answer. The answer is the number
+    /// of operations open at the mark.
     Mark(Result<u16, No>),
     CheckBack(Which, Result<u16, No>),
     /// Checks whether the build can be rolled back to a mark, and rolls it back. Both calls have the same expected
@@ -69,7 +69,7 @@ pub(crate) enum Call {
     Pages(u16, u16, u16),
     /// Checks the state of a build's page and the sum of its bytes.
     Page(u16, GranuleState, u32),
-    /// Checks the state and the VMID of the build's realm.
+    /// Checks the state and the VMID of the build's realm, or that the build has no realm.
     Realm(Option<(RealmState, u8)>),
     Measurement(Option<[u8; 32]>),
 }
@@ -221,8 +221,8 @@ fn run<S: PageStore + Drop>(rt: &impl Abort, name: &str, mut host: Host<S>, scri
     }
 }
 
-/// Runs a script on two new hosts, over a `PlainStore` and over a `BuddyArena`. Each host has the given numbers of
-/// pages and builds.
+/// Runs a script on two new hosts, one over a `PlainStore` and one over a `BuddyArena`. Each host has the given numbers
+/// of pages and builds.
 pub(crate) fn over_both(
     rt: &impl Abort,
     alloc: Global,

@@ -98,7 +98,7 @@ pub(crate) struct Devices<'a> {
 }
 
 impl<'a> Devices<'a> {
-    /// Creates devices that do not fail. Each read and each write is of up to 1,000 bytes.
+    /// Creates the settings of devices that do not fail. Each read and each write is of up to 1,000 bytes.
     pub(crate) fn working(case: &'a str, input: &'a [u8]) -> Devices<'a> {
         Devices {
             case,
@@ -112,8 +112,8 @@ impl<'a> Devices<'a> {
         }
     }
 
-    /// Creates devices that fail at one read. The number of the read is `read`, counted from 0. Each other read gives
-    /// up to 25 bytes.
+    /// Creates the settings of devices of which one read fails. The number of the read is `read`, counted from 0. Each
+    /// other read gives up to 25 bytes.
     pub(crate) fn read_fails(input: &'a [u8], read: usize) -> Devices<'a> {
         Devices {
             call: read,
@@ -123,8 +123,8 @@ impl<'a> Devices<'a> {
         }
     }
 
-    /// Creates devices that fail at one write. The number of the write is `write`, counted from 0. Each other write
-    /// takes one byte.
+    /// Creates the settings of devices of which one write fails. The number of the write is `write`, counted from 0.
+    /// Each other write takes one byte.
     pub(crate) fn write_fails(input: &'a [u8], write: usize) -> Devices<'a> {
         Devices {
             call: write,
@@ -135,7 +135,7 @@ impl<'a> Devices<'a> {
         }
     }
 
-    /// Creates devices that fail at the flush. Each write takes up to ten bytes.
+    /// Creates the settings of devices whose flush fails. Each write takes up to ten bytes.
     pub(crate) fn flush_fails(input: &'a [u8]) -> Devices<'a> {
         Devices {
             most_read: 25,
@@ -170,8 +170,8 @@ impl<'a> Devices<'a> {
     }
 }
 
-/// The expected outcome of a tested program: its result, input left, and output. The input left is a number of bytes.
-/// With the output are the numbers of writes and flushes.
+/// The expected outcome of a tested program: its result, the input that it leaves, and its output. The input left is a
+/// number of bytes. With the output are the numbers of writes and flushes.
 #[derive(Clone, Copy)]
 pub(crate) struct Outcome<'a> {
     pub end: Result<(), Fault>,

@@ -50,7 +50,7 @@ impl<'a, C: Clock> Gate for MeetingGate<'a, C> {
     }
 }
 
-/// A turn scheduler that stops all builds but build 0 at their turn 1.
+/// A turn scheduler that stops every build except build 0 at turn 1.
 #[derive(Drop)]
 pub(crate) struct ForBuild0;
 

@@ -5,7 +5,7 @@ use granule_addr::RecNo;
 use realm_host::{Kind, Refusal, Reply, Rmi, Undone};
 use std::process::Abort;
 
-/// The reason for which a test expects a step to be refused.
+/// The expected reason for the refusal of a step in a test.
 #[derive(Drop)]
 pub(crate) enum No {
     HistoryFull,
@@ -13,11 +13,11 @@ pub(crate) enum No {
     RecRunning,
     /// A refusal by the RMM with the status RMI_ERROR_INPUT.
     Input,
-    /// A refusal because the build does not have the page.
+    /// A refusal because the build has no page of the given number.
     Page(u16),
 }
 
-/// An expected line of a worker's report. The first number of a step's line is that of the step.
+/// An expected line of a worker's report. The first number of a step's line is the number of the step.
 #[derive(Drop)]
 pub(crate) enum Line {
     Done(usize),
@@ -28,13 +28,14 @@ pub(crate) enum Line {
     /// An abort step or a `back` step with nothing to undo.
     Nothing(usize),
     No(usize, No),
-    /// An undo of one operation by an abort step or a `back` step. The last number is that of the operations left open.
+    /// An undo of one operation by an abort step or a `back` step. The last number says how many operations are left
+    /// open.
     StepUndone(usize, Kind, u16),
-    /// An accepted undo after a refused step. The number is that of the operations left open.
+    /// An accepted undo after a refused step. The number says how many operations are left open.
     Undone(Kind, u16),
     /// A refused undo after a refused step. The undo is refused because the history is full.
     UndoRefused,
-    /// An accepted exit of a running REC after a refused step. The number is that of the REC.
+    /// An accepted exit of a running REC after a refused step. The number is the REC's.
     Exited(u16),
 }
 

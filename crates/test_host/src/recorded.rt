@@ -1,4 +1,4 @@
-//! Tests of applying recorded events to a host.
+//! Tests that apply recorded events to a host.
 use crate::expected::{equal, holds_at};
 use crate::hosts::{booted, over_arena};
 use granule_addr::{BuildId, Gran, Order};

@@ -28,8 +28,8 @@ fn accepted(rt: &impl Abort, report: &Report, steps: usize) {
     }
 }
 
-/// Checks by a report that all steps of a guest build were accepted. The lines of the report are exactly those of the
-/// steps.
+/// Checks in a guest build's report that all of the build's steps were accepted. The lines of the report are exactly
+/// those of the steps.
 pub(crate) fn is_accepted(rt: &impl Abort, report: &Report) {
     accepted(rt, report, STEPS);
     equal(rt, "lines", report.lines.len() as u64, STEPS as u64);
@@ -63,7 +63,7 @@ fn is_undone(rt: &impl Abort, report: &Report, mut place: usize, refused: usize)
     equal(rt, "lines", report.lines.len() as u64, place as u64);
 }
 
-/// Checks by a report that step `refused` of a guest build was refused. All steps before this step are accepted. Then a
+/// Checks in a guest build's report that step `refused` was refused. All steps before this step are accepted. Then a
 /// REC that runs exits, and all is undone.
 pub(crate) fn is_refused(rt: &impl Abort, report: &Report, refused: usize) {
     accepted(rt, report, refused);

@@ -29,7 +29,7 @@ pub(crate) const READS: Words = &["take 0", "fill 0 2", "peek 0 4095"];
 /// The number of steps of each guest build in the tests.
 pub(crate) const STEPS: usize = 18;
 
-/// The index of the guest build's step that enters its REC. The REC runs from then on.
+/// The index of the step by which a guest build enters its REC. The REC runs from then on.
 pub(crate) const ENTER: usize = 16;
 
 // The steps of a guest, from leasing a block of eight pages to running a realm. Its one page of memory has the bytes of

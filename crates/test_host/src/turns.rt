@@ -1,4 +1,4 @@
-//! A turn scheduler for tests, under which builds wait for one another.
+//! A turn scheduler for tests, under which some builds wait for another build.
 use crate::steps::STEPS;
 use builders::{Gate, Stuck};
 use granule_addr::BuildId;
@@ -17,8 +17,8 @@ pub enum Waiting {
     ForBuild1,
 }
 
-/// A turn scheduler under which three builds wait for one another. The scheduler counts the turns that each build has
-/// passed.
+/// A turn scheduler for three builds, under which some of them wait for another one. The scheduler counts the turns
+/// that each build has passed.
 #[derive(Drop)]
 pub struct Turns<'a, C: Clock> {
     clock: &'a C,

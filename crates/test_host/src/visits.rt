@@ -1,4 +1,4 @@
-//! Tests of the number of block sizes that an arena reads in one call.
+//! Tests of the number of block sizes that a page store (`BuddyArena`) reads in one call.
 use crate::expected::{built, equal, holds};
 use crate::names::order;
 use buddy::BuddyArena;

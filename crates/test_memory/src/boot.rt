@@ -1,4 +1,4 @@
-//! Boots a host, and tries again if an allocation fails.
+//! Functions that boot a host, and try again if an allocation fails.
 ghost use Rattle.std.specs.Prelude.{◌≡◌, [], true, length, replicate, IfOk};
 ghost use Rattle.granule_addr.specs.Page.{zero_page};
 

@@ -1,4 +1,4 @@
-//! The calls to a host with which the handling of failed allocations is tested.
+//! The calls to a host that are tested not to allocate memory.
 use crate::boot::booted;
 use crate::{Fault, tell};
 use arrayvec::ArrayVec;

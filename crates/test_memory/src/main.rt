@@ -29,7 +29,7 @@ use std::sync::Wait;
 use std::thread::Threads;
 use std::time::CpuClock;
 
-/// The error with which the test program stops.
+/// The error that ends the test program.
 #[derive(Clone, Copy)]
 pub(crate) enum Fault {
     /// A failed allocation that is not tried again.

@@ -1,4 +1,4 @@
-//! Applies the recorded events of one host to a fresh host.
+//! A test that applies the recorded events of one host to a fresh host.
 use crate::boot::booted;
 use crate::{Fault, tell};
 use buddy::BuddyArena;

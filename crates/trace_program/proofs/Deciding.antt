@@ -1,5 +1,4 @@
--- Proofs that the explanation of a refused call begins with the first failed check, as its lines are appended one by
--- one.
+-- Proofs that the explanation of a refused call, appended line by line, begins with the first failed check.
 use Rattle.std.proofs.Common.{◌≡◌, ℕ, Bool, true, false, List, [], ◌∷◌, ◌++◌, refl, sym, ap, ◌∙◌, subst, append_assoc, append-nil, ◌+◌, ◌<◌, suc, length, get_or, drop, add-one, drop-cons, ◌⊎◌, inl, inr}
 use Rattle.rmm_checks.specs.declared.evaluated.CheckOutcome.{CheckOutcome}
 use Rattle.rmm_checks.specs.declared.evaluated.CheckOutcome.TheVariants.{NotMade, Passed, Failed}

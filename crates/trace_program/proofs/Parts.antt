@@ -1,4 +1,4 @@
--- Lemmas on the split of a text at line feeds: appended bytes extend the last line or begin new lines, and earlier
+-- Lemmas about splitting a text at line feeds: appended bytes extend the last line or begin new lines, and earlier
 -- lines stay.
 use Rattle.std.proofs.Common.{◌≡◌, ℕ, ◌<◌, ◌==◌, Bool, true, false, cond, not, List, [], ◌∷◌, ◌++◌, length, refl, sym, ap, ◌∙◌, subst, append_assoc, append-nil, arith, length-append, true-eqb, inl, inr}
 use Rattle.std.specs.Prelude.{Option, Some, None}

@@ -1,4 +1,4 @@
--- A proof that no checks are evaluated for a reply that refuses no call.
+-- A proof that no checks are evaluated if the reply does not refuse a call.
 use Rattle.std.proofs.Common.{◌≡◌, ℕ, List, refl, ap}
 use Rattle.std.specs.Prelude.{Option, Some, None, option_and_then}
 use Rattle.rmm_model.specs.Machine.{Machine}

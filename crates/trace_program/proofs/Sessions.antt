@@ -1,4 +1,4 @@
--- Proofs that a session can take one more line, and that a check which is done ignores further lines.
+-- Proofs that a session takes one more line unless its check is done, and ignores all further lines once it is done.
 use Rattle.std.proofs.Common.{◌≡◌, ℕ, Bool, true, false, List, [], ◌∷◌, ◌++◌, refl, sym, ap, ◌∙◌, subst, append_assoc, append-nil, inl, inr}
 use Rattle.command_line.specs.declared.rmitrace.TraceSubcommand.{TraceSubcommand}
 use Rattle.trace_program.specs.declared.session.Session.{Session}

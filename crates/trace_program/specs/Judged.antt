@@ -24,6 +24,7 @@ use Rattle.trace_program.specs.LineText.{name_place, raw_call, read}
 
 -- ---- lines that are no command
 
+-- a word's value is the name with the given index
 abbrev pub is_name_place : Atom → ℕ → Bool
 is_name_place (Name place) name = place == name
 is_name_place _ name = false
@@ -37,7 +38,7 @@ are_no_command (w ∷ []) = false
 are_no_command (w ∷ v ∷ []) = is_name w NO && is_name v COMMAND
 are_no_command (w ∷ v ∷ u ∷ ws) = false
 
--- the answer to a line that is no command
+-- the answer is `no command`, as for a line that is not a command
 unfoldable pub is_no_command : TraceReply → Bool
 is_no_command reply = are_no_command reply.words.items
 
@@ -55,7 +56,7 @@ abbrev pub has_check_written : NameSet → Option (List TraceWord) → Bool
 has_check_written set (Some words) = has_check set words
 has_check_written set None = false
 
--- the call or the fill that a question repeats, or the question itself
+-- the call or the fill that a question repeats, or the question itself if it is not a repeat
 abbrev pub repeated : List TraceWord → List TraceWord
 repeated [] = []
 repeated (w ∷ []) = w ∷ []
@@ -65,17 +66,18 @@ abbrev pub call_place : Option (List TraceWord) → List TraceWord → ℕ
 call_place (Some call) question = name_place call
 call_place None question = name_place (repeated question)
 
--- the index of a question's command name; for a repeated call, or a raw call of a command, that of the inner command
+-- the index of the name of a question's command; for a repeat or a raw call this is the command inside it
 unfoldable pub command_place : List TraceWord → ℕ
 command_place question = call_place (raw_call question) question
 
--- A set names the question or the command of a line, or a check in one of its answers.
+-- A set has the name of a line's question or command, or of a check in one of the line's answers.
 unfoldable pub is_named : NameSet → List TraceWord → List ℕ → TraceReply → Bool
 is_named set question written reply =
     is_name_in set (name_place question) || is_name_in set (command_place question) || has_check set reply.words.items || has_check_written set (read written)
 
 -- ---- lines that are compared
 
+-- the line has one of the names that are asked for, or none are asked for
 abbrev pub is_asked_for : Option NameSet → List TraceWord → List ℕ → TraceReply → Bool
 is_asked_for None question written reply = true
 is_asked_for (Some only) question written reply = is_named only question written reply
@@ -84,14 +86,15 @@ abbrev pub is_left_out : Option NameSet → List TraceWord → List ℕ → Trac
 is_left_out None question written reply = false
 is_left_out (Some skip) question written reply = is_named skip question written reply
 
--- A line is compared if it has one of the names that are asked for, if any are. It has to have none of those that are
--- left out.
+-- A line is compared if it has one of the names that are asked for, if any are, and none of the names that are left
+-- out.
 unfoldable pub is_compared : Comparison → List TraceWord → List ℕ → TraceReply → Bool
 is_compared asked question written reply =
     is_asked_for asked.only question written reply && not (is_left_out asked.skip question written reply)
 
 -- ---- verdicts
 
+-- the verdict on an answer, as the verdict on its line
 abbrev pub as_line_verdict : Verdict → LineVerdict
 as_line_verdict answer.Same = Same
 as_line_verdict answer.Allowed = Allowed
@@ -101,7 +104,7 @@ abbrev pub answer_verdict : Comparison → Option Machine → List TraceWord →
 answer_verdict asked m question written reply =
     if is_compared asked question written reply then as_line_verdict (judged m question written reply) else NotCompared
 
--- the verdict on a line that is no command: the written answer has to be `no command`
+-- the verdict on a line that is not a command, which is `Same` only if the written answer is `no command`
 abbrev pub no_command_verdict : Option (List ℕ) → LineVerdict
 no_command_verdict (Some written) = if bytes_eq written (codes "no command") then Same else Wrong
 no_command_verdict None = Wrong

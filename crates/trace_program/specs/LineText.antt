@@ -20,7 +20,7 @@ trace_line_of bytes = line_in GROUPS START bytes
 abbrev pub question_in_line : List ℕ → List ℕ
 question_in_line bytes = before_answer (bare_text bytes)
 
--- the answer that a line has
+-- the written answer of a line, if it has one
 abbrev pub written_in : List ℕ → Option (List ℕ)
 written_in bytes = answer_in (bare_text bytes)
 
@@ -34,7 +34,7 @@ tail_of bytes = drop (length (bare_text bytes)) bytes
 
 -- ---- answers
 
--- the answer after its sign; nothing if there is none
+-- an answer after an equals sign, or nothing if there is no answer
 abbrev pub sign_and_answer : TraceReply → List ℕ
 sign_and_answer reply = if is_unanswered reply then [] else codes " = " ++ reply_text reply
 
@@ -42,17 +42,18 @@ abbrev pub answered_text_by : LineKind → List ℕ → TraceReply → List ℕ
 answered_text_by Remark bytes reply = bytes ++ 10 ∷ []
 answered_text_by _ bytes reply = question_in_line bytes ++ sign_and_answer reply ++ (tail_of bytes ++ 10 ∷ [])
 
--- A line with an answer: the answer that it had is replaced. A remark is as it was.
+-- The text of a line with the model's answer in place of any written one. A remark is as it was.
 unfoldable pub answered_text : List ℕ → RmmTraceLine → TraceReply → List ℕ
 answered_text bytes line reply = answered_text_by line.kind bytes reply
 
 -- ---- names
 
+-- the index of the name that is a question's first word, or `DASH` if there is no such name
 abbrev pub name_place : List TraceWord → ℕ
 name_place [] = DASH
 name_place (w ∷ ws) = place_of w.value
 
--- a raw call rewritten with the name of its command; none if the question is no such call
+-- the question rewritten with the name of its command, if it is a raw call of a command
 abbrev pub raw_call : List TraceWord → Option (List TraceWord)
 raw_call question = if name_place question == SMC then named_question question else None
 
@@ -60,7 +61,7 @@ abbrev pub question_named_by : LineKind → List TraceWord → Option (List Trac
 question_named_by Question q = raw_call q
 question_named_by _ q = None
 
--- the question of a raw line, rewritten with the name of its command; none if it has no command, or for any other line
+-- the question of a line, rewritten with the name of its command, if the line is a raw call of a command
 abbrev pub question_named : RmmTraceLine → Option (List TraceWord)
 question_named line = question_named_by line.kind line.words.items
 
@@ -68,11 +69,11 @@ abbrev pub answer_named_by : LineKind → List TraceWord → List ℕ → Option
 answer_named_by Question q written = option_and_then (named_answer q) (read written)
 answer_named_by _ q written = None
 
--- the answer of a raw line by names, if it can be named
+-- the written answer to a raw call, rewritten with the names of the outputs, if this is possible
 abbrev pub answer_named : RmmTraceLine → List ℕ → Option (List TraceWord)
 answer_named line written = answer_named_by line.kind line.words.items written
 
--- the text of the named answer, or the written answer if there is no named one
+-- the text of the answer rewritten with names if it could be rewritten, and otherwise the written answer
 abbrev pub named_or_written : Option (List TraceWord) → List ℕ → List ℕ
 named_or_written (Some answer) written = sentence_text answer
 named_or_written None written = written
@@ -85,6 +86,7 @@ abbrev pub named_by : List ℕ → RmmTraceLine → Option (List TraceWord) → 
 named_by bytes line (Some question) = sentence_text question ++ sign_and_named line (written_in bytes) ++ (tail_of bytes ++ 10 ∷ [])
 named_by bytes line None = bytes ++ 10 ∷ []
 
--- A raw line by the names of its command and its outputs; any other line is as it was.
+-- The text of a trace line, with a raw call rewritten with the names of its command and outputs. A line that cannot be
+-- rewritten so is as it was.
 unfoldable pub named_text : List ℕ → RmmTraceLine → List ℕ
 named_text bytes line = named_by bytes line (question_named line)

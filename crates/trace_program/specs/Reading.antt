@@ -11,25 +11,25 @@ use Rattle.trace_program.specs.declared.session.Session.{Session}
 use Rattle.trace_program.specs.Counting.{summary_text, trace_verdict}
 use Rattle.trace_program.specs.Session.{IsSession, fresh_session, is_check_done}
 
--- The bytes of a line that are kept. They are one more than a question may have, so a line that is too long is
--- recognized.
+-- The bytes that a run keeps of a line: 65,537 at most. That is one more than a question may have, so a line that is
+-- too long is recognized.
 unfoldable pub kept_of_line : List ℕ → List ℕ
 kept_of_line line = take 65537 line
 
--- the lines of an input, as they are taken
+-- the lines of an input, each with only the bytes that are kept of it
 abbrev pub taken_lines : List ℕ → List (List ℕ)
 taken_lines bytes = map kept_of_line (lines_in bytes)
 
 -- ---- bytes that were read
 
--- one part of the input is left, the beginning of the next line, of which `line` is kept
+-- only the beginning of the next line is left, and `line` has the bytes that are kept of it
 pub record HasRest (left : List (List ℕ)) (line : List ℕ) : Type 0 where
   pub rest : List ℕ
   pub alone : left ≡ rest ∷ []
   pub is_kept : line ≡ kept_of_line rest
 
--- Lines of the bytes that were read are taken, and their texts are `written` and then `text`. Unless the check is done,
--- only the beginning of the next line is left.
+-- A run has taken lines of the bytes that were read, and their output texts are `written` followed by `text`. Unless
+-- the check is done, only the beginning of the next line is left.
 pub record IsTraceLineTaken (asked : TraceSubcommand) (source read written : List ℕ) (s : Session) (line text : List ℕ) : Type 0 where
   pub lines : List (List ℕ)
   pub left : List (List ℕ)
@@ -38,11 +38,11 @@ pub record IsTraceLineTaken (asked : TraceSubcommand) (source read written : Lis
   pub begun : is_check_done asked s ≡ false → HasRest left line
   pub session : IsSession asked source fresh_session (map kept_of_line lines) (written ++ text) s
 
--- All lines of the bytes that were read are taken.
+-- A run has taken all lines of the bytes that were read.
 abbrev pub AreTraceLinesTaken : TraceSubcommand → (source read written : List ℕ) → Session → List ℕ → Type 0
 AreTraceLinesTaken asked source read written s text = IsSession asked source fresh_session (taken_lines read) (written ++ text) s
 
--- a run is under way: `IsTraceLineTaken` holds for the bytes that the reader gave and the writer got
+-- a run is under way: it has taken lines of the bytes that the reader gave, and the writer has got their texts
 pub record IsUnderway (asked : TraceSubcommand) (source : List ℕ) (input left old new : Option (List ℕ)) (s : Session) (line : List ℕ) : Type 0 where
   pub read : List ℕ
   pub consumed : Consumes input left read
@@ -50,7 +50,7 @@ pub record IsUnderway (asked : TraceSubcommand) (source : List ℕ) (input left 
   pub taken : IsTraceLineTaken asked source read written s line []
   pub appended : Appends old new written
 
--- at least so many bytes of the input were read
+-- at least `count` bytes of the input were read
 pub record HasRead (count : ℕ) (input left : Option (List ℕ)) : Type 0 where
   pub read : List ℕ
   pub consumed : Consumes input left read
@@ -62,7 +62,7 @@ pub record HasReadPart (before : List ℕ) (input left : Option (List ℕ)) : Ty
   pub consumed : Consumes input left (before ++ part)
   pub short : length part ≤ 4096
 
--- Up to the last 4,096 bytes that were read, the check was not done.
+-- The last part of the input that was read has at most 4,096 bytes, and the check was not yet done before it.
 pub record IsReadToStop (asked : TraceSubcommand) (source : List ℕ) (input left : Option (List ℕ)) : Type 0 where
   pub before : List ℕ
   pub last : HasReadPart before input left
@@ -74,7 +74,7 @@ pub record IsReadToStop (asked : TraceSubcommand) (source : List ℕ) (input lef
 
 -- ---- ends
 
--- The input was read to its end, or the run is done before it.
+-- A run is over: the input was read to its end, or the check is done.
 pub record IsOver (asked : TraceSubcommand) (source : List ℕ) (input left old new : Option (List ℕ)) (s : Session) : Type 0 where
   pub read : List ℕ
   pub consumed : Consumes input left read
@@ -83,12 +83,12 @@ pub record IsOver (asked : TraceSubcommand) (source : List ℕ) (input left old 
   pub session : IsSession asked source fresh_session (taken_lines read) text s
   pub written : Appends old new text
 
--- if true, the run is under way and the check is not done; if false, the run is over
+-- whether there may be more to read: if true, the run is under way and its check is not done; if false, the run is over
 abbrev pub ReadsOn : Bool → TraceSubcommand → (source : List ℕ) → (input left old new : Option (List ℕ)) → Session → List ℕ → Type 0
 ReadsOn true asked source input left old new s line = IsUnderway asked source input left old new s line × (is_check_done asked s ≡ false)
 ReadsOn false asked source input left old new s line = IsOver asked source input left old new s
 
--- the text after those of all lines: the counts of a check
+-- the text that follows the texts of all lines: the counts if the run is a check, and otherwise nothing
 abbrev pub last_text : TraceSubcommand → Session → List ℕ
 last_text (asks.Check asked) s = summary_text s.counts
 last_text _ s = []
@@ -97,8 +97,8 @@ abbrev pub verdict_asked : TraceSubcommand → Session → TraceVerdict
 verdict_asked (asks.Check asked) s = trace_verdict s.counts
 verdict_asked _ s = Agrees
 
--- A run: each line that was read is taken, until it is done. The text of each line is written, and the counts of a
--- check.
+-- A complete run of a trace: its lines are taken in sequence, to the end of the input or until the check is done. The
+-- texts of these lines are written, and after them the counts if the run is a check.
 pub record IsTraceRun (asked : TraceSubcommand) (source : List ℕ) (input left old new : Option (List ℕ)) (verdict : TraceVerdict) : Type 0 where
   pub read : List ℕ
   pub consumed : Consumes input left read

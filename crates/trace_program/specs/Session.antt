@@ -20,18 +20,20 @@ use Rattle.trace_program.specs.Refusal.{TellsDecision}
 use Rattle.trace_program.specs.Judged.{is_no_command, line_verdict}
 use Rattle.trace_program.specs.LineText.{answered_text, trace_line_of, written_in, named_text}
 
--- a session that has had no line
+-- a session before its first line
 abbrev pub fresh_session : Session
 fresh_session = record { machine = None; counts = record { lines = 0; same = 0; allowed = 0; wrong = 0 }; reply = no_answer }
 
 -- ---- one line
 
+-- the session after a line is performed, given the line's kind and words
 abbrev pub performed_by : LineKind → List TraceWord → Session → Session
 performed_by Remark q s = s
 performed_by Question q s = record s { machine = (answered q s.machine).1; reply = (answered q s.machine).0 }
 performed_by Neither q s = record s { reply = no_command }
 
--- The session after a line is performed: the model's answer to it, and the machine after it. A remark changes nothing.
+-- The session after a line is performed, with the model's answer to the line and the machine after it. A remark changes
+-- nothing.
 abbrev pub performed : Session → RmmTraceLine → Session
 performed s line = performed_by line.kind line.words.items s
 
@@ -39,20 +41,21 @@ performed s line = performed_by line.kind line.words.items s
 abbrev pub verdict_on : Comparison → List ℕ → Session → LineVerdict
 verdict_on asked bytes s = line_verdict asked s.machine (written_in bytes) (trace_line_of bytes) s.reply
 
--- the session after a line that was performed is judged
+-- the session after the judgement of a line that was performed
 abbrev pub judged : Comparison → List ℕ → Session → Session
 judged asked bytes s = record s { counts = with_line_counted s.counts (verdict_on asked bytes s) }
 
--- the line that was performed cannot be counted with the verdict on it
+-- the line that was performed cannot be counted, because a count for its verdict has reached its maximum
 abbrev pub IsUncounted : Comparison → List ℕ → Session → Type 0
 IsUncounted asked bytes s = IsCountFull s.counts (verdict_on asked bytes s)
 
--- A line is one too many for a subcommand: it is a check, whose counts are at their bound.
+-- The subcommand is a check, and the line is one too many for its counts.
 abbrev pub IsTooMany : TraceSubcommand → List ℕ → Session → Type 0
 IsTooMany (asks.Check asked) bytes s = IsUncounted asked bytes (performed s (trace_line_of bytes))
 IsTooMany _ bytes s = ⊥
 
--- The session after a line. The subcommand that names calls leaves it as it was, and requires no RMM.
+-- The session after a subcommand takes a line. The subcommand that names calls leaves it as it was, and requires no
+-- RMM.
 unfoldable pub after_line : TraceSubcommand → Session → List ℕ → Session
 after_line asks.Answer s bytes = performed s (trace_line_of bytes)
 after_line (asks.Check asked) s bytes = judged asked bytes (performed s (trace_line_of bytes))
@@ -61,22 +64,22 @@ after_line asks.Why s bytes = performed s (trace_line_of bytes)
 
 -- ---- texts
 
--- the checks of a question that is refused, in a session after it
+-- the checks of a refused question, given the session after the question
 abbrev pub checks_refused : List TraceWord → Session → Option (List EvaluatedCheck)
 checks_refused q s = option_and_then (refused_checks q s.reply) s.machine
 
--- The reasons for a refused call: none if no call is refused, and else first the check that decides.
+-- The reasons for a refused call begin with the check that decides the answer; there are none if no call is refused.
 abbrev pub IsRefusalText : List TraceWord → Session → List ℕ → Type 0
 IsRefusalText q s text = (s.reply.refused ≡ None → text ≡ []) × TellsDecision (checks_refused q s) text
 
--- The lines below an answer, in a session after it. There are none below a remark, and below a question that is not
--- refused. Those below a refused call begin with the check that decides.
+-- The lines below the answer to a trace line, given the session after that line. There are none below a remark, and
+-- below a question that is not refused. Those below a refused call begin with the check that decides.
 abbrev pub AreReasons : LineKind → List TraceWord → Session → List ℕ → Type 0
 AreReasons Remark q s text = text ≡ []
 AreReasons Question q s text = is_no_command s.reply ≡ false → IsRefusalText q s text
 AreReasons Neither q s text = Unit {0}
 
--- a line with its answer, and reasons below it
+-- the text of a line with its answer and the reasons below it
 pub record IsExplained (bytes : List ℕ) (after : Session) (text : List ℕ) : Type 0 where
   pub reasons : List ℕ
   pub are_reasons : AreReasons (trace_line_of bytes).kind (trace_line_of bytes).words.items after reasons
@@ -85,36 +88,36 @@ pub record IsExplained (bytes : List ℕ) (after : Session) (text : List ℕ) : 
 abbrev pub heading_text : List ℕ → ℕ → List ℕ → List ℕ
 heading_text source number verdict = source ++ codes ":" ++ decimal number ++ codes ": " ++ verdict ++ codes "\n"
 
--- the model's answer, as a note has it
+-- the text of the model's answer in a note
 abbrev pub here_text : TraceReply → List ℕ
 here_text reply = if is_unanswered reply then codes "no answer" else reply_text reply
 
--- The lines of a note on a difference: the line, the model's answer, and help if the line is no command.
+-- The lines of a note on a difference: the line, the model's answer, and help if the line is not a command.
 pub record IsDifference (bytes : List ℕ) (reply : TraceReply) (text : List ℕ) : Type 0 where
   pub help : List ℕ
   pub no_help : is_no_command reply ≡ false → help ≡ []
   pub whole : text ≡ bytes ++ 10 ∷ codes "here: " ++ here_text reply ++ 10 ∷ help
 
--- A note on a difference. Its first line has the trace's name, the number of the line that is judged, and the verdict
--- on it.
+-- A note on a difference, with its heading. This first line has the trace's name, the number of the line that is
+-- judged, and the verdict on it.
 pub record IsHeaded (source : List ℕ) (number : ℕ) (verdict bytes : List ℕ) (reply : TraceReply) (text : List ℕ) : Type 0 where
   pub rest : List ℕ
   pub is_rest : IsDifference bytes reply rest
   pub whole : text ≡ heading_text source number verdict ++ rest
 
--- The note on a line with the verdict same. It is the heading alone, or empty unless each verdict is asked for.
+-- The note on a line with the verdict `Same`. It is the heading alone, or empty unless each verdict is asked for.
 abbrev pub IsSameNote : Bool → (source : List ℕ) → ℕ → List ℕ → Type 0
 IsSameNote true source number text = text ≡ heading_text source number (codes "same")
 IsSameNote false source number text = text ≡ []
 
--- The note on a line that is judged, in a session after it. There is none if it is not compared.
+-- The note on a judged line, given the session after the line. There is none if the line is not compared.
 abbrev pub IsNote : Comparison → (source bytes : List ℕ) → Session → LineVerdict → List ℕ → Type 0
 IsNote asked source bytes after NotCompared text = text ≡ []
 IsNote asked source bytes after Same text = IsSameNote asked.is_each source after.counts.lines text
 IsNote asked source bytes after Allowed text = IsHeaded source after.counts.lines (codes "allowed") bytes after.reply text
 IsNote asked source bytes after Wrong text = IsHeaded source after.counts.lines (codes "wrong") bytes after.reply text
 
--- The text that a subcommand writes for a line, from the sessions before and after the line. A check names the trace.
+-- The text that a subcommand writes for a line, given the sessions before and after the line. A check names the trace.
 abbrev pub IsLineText : TraceSubcommand → (source bytes : List ℕ) → Session → Session → List ℕ → Type 0
 IsLineText asks.Answer source bytes before after text = text ≡ answered_text bytes (trace_line_of bytes) after.reply
 IsLineText (asks.Check asked) source bytes before after text =
@@ -122,7 +125,7 @@ IsLineText (asks.Check asked) source bytes before after text =
 IsLineText asks.Names source bytes before after text = text ≡ named_text bytes (trace_line_of bytes)
 IsLineText asks.Why source bytes before after text = IsExplained bytes after text
 
--- the session and the text after a line
+-- a line is taken: the session after it is the one that `after_line` gives, and its text is appended to the output
 pub record TakesLine (asked : TraceSubcommand) (source bytes : List ℕ) (before after : Session) (old new : List ℕ) : Type 0 where
   pub session : after ≡ after_line asked before bytes
   pub text : List ℕ
@@ -131,12 +134,13 @@ pub record TakesLine (asked : TraceSubcommand) (source bytes : List ℕ) (before
 
 -- ---- lines in sequence
 
--- No further line is taken: one is wrong, and the check stops there.
+-- The check is done: it stops at the first wrong line, and there was one.
 abbrev pub is_check_done : TraceSubcommand → Session → Bool
 is_check_done (asks.Check asked) s = asked.stops && nat_lt 0 s.counts.wrong
 is_check_done _ s = false
 
--- The session and the text after lines are taken one after another, until the check is done.
+-- Lines that are taken one after another, to the last one or until the check is done, lead to the given session and
+-- text.
 abbrev pub IsSession : TraceSubcommand → (source : List ℕ) → Session → List (List ℕ) → List ℕ → Session → Type 0
 IsSession asked source s [] text new = (text ≡ []) × (new ≡ s)
 IsSession asked source s (bytes ∷ more) text new =

@@ -17,7 +17,7 @@ pub enum LineVerdict {
     Wrong,
 }
 
-/// The verdict on a whole trace, by the counts of its lines.
+/// The verdict on a whole trace, from the counts of its lines.
 #[derive(Clone, Copy)]
 pub enum TraceVerdict {
     /// A trace that agrees with the model: no line is wrong, and at least one line has the model's answer.

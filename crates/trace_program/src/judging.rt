@@ -74,8 +74,8 @@ fn name_place(question: &[TraceWord]) -> usize
     }
 }
 
-/// Rewrites a raw call `smc FID ..` as a call of a named command. Returns `None` if the question is no raw call, or if
-/// its function is no command.
+/// Rewrites a raw call `smc FID ..` as a call of a named command. Returns `None` if the question is not a raw call, or
+/// if its function is not a command.
 pub(crate) fn raw_call(question: &[TraceWord]) -> Option<Sentence>
     ensures { option_map (λ call. call.items) result ≡ raw_call question.now }
 {
@@ -98,7 +98,7 @@ pub(crate) fn command_place(question: &[TraceWord]) -> usize
     }
 }
 
-// Whether a set has the name of a line's question, or of a check in one of the line's answers.
+// Whether a set has the name of a line's question or command, or of a check in one of the line's answers.
 #[tactic(auto, unfolding(crate::specs::Judged::is_named))]
 fn is_named(set: &NameSet, question: &[TraceWord], written: &[u8], reply: &TraceReply) -> bool
     ensures { result ≡ specs.is_named set.now question.now written.now reply.now }

@@ -1,4 +1,4 @@
-//! Rewrites raw SMC calls in a trace with the names of commands and outputs.
+//! The rewriting of raw SMC calls in a trace with the names of commands and outputs.
 ghost use Rattle.std.specs.Prelude.{◌≡◌, ◌++◌, OnOk, option_map};
 ghost use Rattle.trace_program.specs.LineText.{answer_named, named_text, question_named};
 
@@ -28,7 +28,7 @@ fn answer_of(line: &RmmTraceLine, written: &[u8]) -> Option<Sentence>
     }
 }
 
-/// Appends a trace line, with a raw call rewritten by the names of its command and outputs. A line that is not raw or
+/// Appends a trace line, with a raw call rewritten with the names of its command and outputs. A line that is not raw or
 /// cannot be named is appended as it is.
 #[tactic(auto, unfolding(crate::specs::LineText::named_text))]
 pub(crate) fn push_named(

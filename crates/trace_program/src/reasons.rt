@@ -1,5 +1,5 @@
-//! The explanations of a trace's wrong lines and refused calls. The heading, the line and the answer of a note are
-//! proved, and so is the name of the check that decides. The other words are tested.
+//! The explanations of trace lines whose answers differ from the model's, and of refused calls. The heading, the line
+//! and the answer of a note are proved, and so is the name of the check that decides. The other words are tested.
 ghost use Rattle.std.specs.Prelude.{◌≡◌, ◌++◌, [], true, false, IfOk, OnOk, string_bytes};
 ghost use Rattle.rmm_checks.specs.Evaluated.{first_failed, is_failure};
 ghost use Rattle.trace_program.specs.Judged.{is_no_command};

@@ -44,7 +44,7 @@ pub struct Session {
     pub machine: TraceMachine,
     /// The counts of the trace lines that were checked so far, by verdict.
     pub counts: Counts,
-    /// The answer to the last trace line that is neither a comment nor empty.
+    /// The answer to the last trace line that was not a remark (`LineKind::Remark`).
     pub reply: TraceReply,
 }
 

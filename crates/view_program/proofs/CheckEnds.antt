@@ -1,4 +1,5 @@
--- Proofs that the subcommand `check` writes all of the report, a prefix, or nothing, according to the outcome.
+-- Lemmas on the outcomes of the subcommand `check`: nothing is written if a read fails, and a prefix of the report if a
+-- write fails. A report on the bytes that are kept of an input is one on the input.
 use Rattle.std.proofs.Common.{◌≡◌, ◌↔◌, ℕ, List, Option, Some, None, Ok, Err, Bool, true, false, refl, sym, ap, ◌∙◌, subst, string_bytes}
 use Rattle.std.specs.Prelude.{IfSome, is_ok}
 use Rattle.realm_plan.specs.Plan.{plan_of}

@@ -1,5 +1,5 @@
--- Lemmas on chosen builds: a build that can be chosen for a turn has a step left, and one more choice extends a run by
--- a turn.
+-- Lemmas about chosen builds: a build that can be chosen for a turn has a step left, and one more choice extends a run
+-- by a turn.
 use Rattle.std.proofs.Common.{◌≡◌, ℕ, zero, suc, ◌<◌, Bool, true, false, List, [], ◌∷◌, ◌++◌, length, ◌+◌, Some, refl, sym, subst, ◌∙◌, cond, arith}
 use Rattle.std.specs.List.{find, range_with_len}
 use Rattle.std.proofs.lemmas.List.FromFn.{get_or-map-range_with_len}

@@ -1,4 +1,4 @@
--- Proof that each event in a legal history belongs to a build of the machine.
+-- A proof that each event in a legal history belongs to a build of the machine.
 use Rattle.std.proofs.Common.{◌≡◌, ℕ, zero, suc, ◌<◌, true, List, [], ◌∷◌, length, get_or, Option, Some, None, refl, subst}
 use Rattle.std.specs.Prelude.{is_some, slice_get}
 use Rattle.std.proofs.lemmas.Option.{same_Some, option_and_then_some, slice_get_read}

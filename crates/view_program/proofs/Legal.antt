@@ -1,4 +1,4 @@
--- Proof that the lines of a history that a host accepts are the text of a legal history.
+-- A proof that the lines of a history that a host accepts are the text of a legal history.
 use Rattle.std.proofs.Common.{◌≡◌, ℕ, List, [], ◌∷◌, ◌++◌, refl, sym, ap, ◌∙◌, append_assoc, subst}
 use mathlib.Core.List.{append-nil}
 use Rattle.realm_model.specs.declared.act.Event.{Event}

@@ -1,5 +1,5 @@
--- Lemmas on schedules as text: a schedule's text grows turn by turn, and a plan's new text differs only in the
--- schedule.
+-- Lemmas about the text of a schedule, which grows turn by turn, and about a plan's new text, which differs only in the
+-- schedule. An input that is a plan is kept whole.
 use Rattle.std.proofs.Common.{◌≡◌, ℕ, ◌+◌, ◌<◌, List, [], ◌∷◌, ◌++◌, length, get_or, take, drop, sym, ap, ◌∙◌, arith, subst, inl, inr, Option, None, Some, Ok, true, ltb}
 use Rattle.std.specs.Prelude.{IfSome}
 use Rattle.std.proofs.lemmas.Bool.{cases_Bool, lt-ltb}

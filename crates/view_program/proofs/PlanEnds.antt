@@ -1,4 +1,5 @@
--- Proofs that printing a plan's text writes all of it, a prefix, or nothing, according to the outcome.
+-- Lemmas on printing a text made from a plan: without a plan nothing is written, and a prefix of the text if a write
+-- fails.
 use Rattle.std.proofs.Common.{◌≡◌, ℕ, List, Option, Ok, Err, Bool, true, false, refl, ap, sym, ◌∙◌, subst, string_bytes}
 use Rattle.std.specs.Prelude.{IfSome}
 use Rattle.realm_plan.specs.Plan.{Plan, plan_of}

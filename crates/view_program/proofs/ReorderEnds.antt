@@ -1,4 +1,5 @@
--- Proofs that all of the text of a plan with a new schedule, a prefix, or nothing is written, according to the outcome.
+-- Lemmas on the outcomes of the subcommand `order`: nothing is written without a new schedule, and a prefix of the new
+-- text if a write fails.
 use Rattle.std.proofs.Common.{◌≡◌, ℕ, List, Option, Ok, Err, Bool, true, false, refl, inr, string_bytes}
 use Rattle.std.specs.Prelude.{IfSome}
 use Rattle.checked_io.specs.Whole.{AppendsFront}

@@ -1,4 +1,4 @@
--- Proof that the derived `==` of step outcomes decides equality.
+-- A proof that the derived `==` of step outcomes decides equality.
 use Rattle.std.proofs.Common.{◌≡◌, Bool, Option, Some, None, refl, ap}
 use Rattle.std.specs.Bool.{Decides}
 use Rattle.std.specs.Option.{option_eq}

@@ -1,4 +1,4 @@
--- Lemma for the comparison of two plans: equal prefixes of two lists stay equal when equal elements follow.
+-- Lemmas for the comparison of two plans: equal prefixes of two lists stay equal when equal elements follow.
 use Rattle.std.proofs.Common.{◌≡◌, ℕ, ◌+◌, ◌<◌, List, [], ◌∷◌, ◌++◌, map, length, get_or, take, sym, ap, ◌∙◌}
 use Rattle.std.proofs.lemmas.List.{map-append, take-map, take_more}
 

@@ -1,4 +1,4 @@
--- Proofs that one more tested build is added to the list of builds that pass a test if and only if it passes.
+-- Proofs that testing one more build adds it to the list of builds that pass the test if and only if it passes.
 use Rattle.std.proofs.Common.{◌≡◌, ℕ, ◌+◌, Bool, true, false, if◌then◌else◌, List, [], ◌∷◌, ◌++◌, map, ap, sym, ◌∙◌, append_assoc, append-nil, arith}
 use Rattle.std.specs.Prelude.{filter}
 use Rattle.std.specs.List.{range_with_len}

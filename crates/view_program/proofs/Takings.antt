@@ -1,4 +1,4 @@
--- The loop invariant of applying a history's lines to a host one after another, and proofs that each line preserves it.
+-- The invariant of the loop that applies a history's lines to a host, and proofs that each line preserves it.
 use Rattle.std.proofs.Common.{◌≡◌, ◌↔◌, Bool, true, false, Ok, Err, ℕ, ◌+◌, ◌<◌, List, [], ◌∷◌, ◌++◌, length, length-append, Option, Some, None}
 use Rattle.std.proofs.Common.{IfSome, refl, sym, ap, ◌∙◌, append_assoc, arith, subst}
 use mathlib.Core.List.{append-nil}

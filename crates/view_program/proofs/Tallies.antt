@@ -1,4 +1,5 @@
--- The loop invariant of counting one more outcome in a list of tallies, and proofs that each iteration preserves it.
+-- The invariant of the loop that counts one more outcome in a list of tallies, and proofs that each iteration preserves
+-- it.
 use Rattle.std.proofs.Common.{◌≡◌, ℕ, ◌+◌, ◌<◌, ◌≤◌, Bool, true, false, ◌||◌, if◌then◌else◌, List, [], ◌∷◌, length, map, get_or, set, take, refl, ap, sym, subst}
 use Rattle.std.proofs.Common.{◌∙◌, inl, inr, arith}
 use Rattle.std.proofs.Math.ListN.{length-map}

@@ -1,4 +1,4 @@
--- Proofs that the text of a run's turns, followed by that of one more turn, is the text of the longer run.
+-- Proofs that the text of a run's turns, followed by the text of one more turn, is the text of the longer run.
 use Rattle.std.proofs.Common.{◌≡◌, ℕ, Bool, List, [], ◌∷◌, ◌++◌, refl, sym, ap, ◌∙◌, append_assoc}
 use Rattle.std.proofs.lemmas.List.{append-nil}
 use Rattle.explain.specs.declared.explained.ExplainedTurn.{ExplainedTurn}

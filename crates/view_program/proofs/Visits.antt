@@ -1,4 +1,5 @@
--- Proofs that the outcomes of a run are counted correctly in the totals of all runs.
+-- Proofs that a run leaves the host's settings as they were, and that its outcomes are counted in the totals of all
+-- runs.
 use Rattle.std.proofs.Common.{◌≡◌, ℕ, List, [], ◌∷◌, ◌++◌, length, string_bytes, sym, ◌∙◌, ap, subst}
 use Rattle.std.specs.declared.alloc.Global.{Global}
 use Rattle.std.specs.declared.string.String.{String}

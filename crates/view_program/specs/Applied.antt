@@ -14,7 +14,7 @@ use Rattle.plan_replay.specs.Run.{map_text}
 use Rattle.view_program.specs.declared.fault.ViewError.{ViewError}
 use Rattle.view_program.specs.declared.fault.ViewError.TheVariants.{NoOpening, NoEvent, Refused, EraseNamesNoBuild, Memory, Device}
 
--- the host of the size that an opening gives, before any event
+-- a host whose machine has the size that a history's first line states, before any event
 abbrev pub host_of_opening : Opening → HostView
 host_of_opening o = booted o.pages o.vmids o.aux o.builds o.history
 
@@ -32,7 +32,7 @@ abbrev pub AreTaken : HostView → List (List ℕ) → HostView → Type 0
 AreTaken old [] new = new ≡ old
 AreTaken old (line ∷ lines) new = (mid : HostView) × IsLineTaken old line mid × AreTaken mid lines new
 
--- The lines are a history: the first opens a machine, and the others are events, each of which can be applied after
+-- The lines are a history: the first describes a machine, and the others are events, each of which can be applied after
 -- those before it. They lead to this host.
 pub record IsHistory (lines : List (List ℕ)) (o : Opening) (host : HostView) : Type 0 where
   pub first : List ℕ
@@ -41,7 +41,7 @@ pub record IsHistory (lines : List (List ℕ)) (o : Opening) (host : HostView) :
   pub opens : IsOpeningText first o
   pub taken : AreTaken (host_of_opening o) events host
 
--- each line is the text of the event at its index
+-- each line is the text of the event at the same index, and there are as many lines as events
 abbrev pub AreTexts : List (List ℕ) → List Event → Type 0
 AreTexts [] [] = Unit {0}
 AreTexts (line ∷ lines) (event ∷ events) = IsEventText line event × AreTexts lines events
@@ -55,7 +55,7 @@ pub record IsLegalText (lines : List (List ℕ)) (host : HostView) : Type 0 wher
   pub texts : AreTexts events host.history
   pub legal : IsLegal host.limits host.history
 
--- some lines are a history that leads to the host, and they are those of the input if it is known
+-- some lines are a history that leads to the host; if the input is known, they are its lines
 pub record IsHistoryIn (input : Option (List ℕ)) (o : Opening) (host : HostView) : Type 0 where
   pub lines : List (List ℕ)
   pub of_input : IfSome input (λ bytes. lines_in bytes ≡ lines)
@@ -63,23 +63,24 @@ pub record IsHistoryIn (input : Option (List ℕ)) (o : Opening) (host : HostVie
 
 -- ---- lines that are no history
 
--- there is no first line, or it opens no machine
+-- there is no first line, or it does not describe a machine
 abbrev pub OpensNone : List (List ℕ) → Type 0
 OpensNone [] = Unit {0}
 OpensNone (first ∷ more) = (o : Opening) → IsOpeningText first o → ⊥
 
--- the line is no event
+-- the line is not the text of an event
 abbrev pub IsNoEvent : List ℕ → Type 0
 IsNoEvent line = (event : Event) → IsEventText line event → ⊥
 
--- the line is an event that cannot be applied, for this reason
+-- the line is the text of an event that cannot be applied to the host, for this reason
 pub record IsEventRefused (why : WhyNot) (host : HostView) (line : List ℕ) : Type 0 where
   pub event : Event
   pub is_text : IsEventText line event
   pub cannot : CanApply host event → ⊥
   pub because : IsWhyNot host event why
 
--- The lines before line `number` are a history, and `IsReason` holds of its host and that line. The opening is line 1.
+-- The lines before line `number` are a history, and `IsReason` holds of the host that they lead to and of line
+-- `number`. The first line has the number 1.
 pub record StopsAt (IsReason : HostView → List ℕ → Type 0) (lines : List (List ℕ)) (number : ℕ) : Type 0 where
   pub o : Opening
   pub host : HostView
@@ -91,8 +92,8 @@ pub record StopsAt (IsReason : HostView → List ℕ → Type 0) (lines : List (
   pub number_is : number ≡ length before + 1
   pub reason : IsReason host line
 
--- The error is a reason why the input, if it is known, is no history. A failure of allocation or of a device does not
--- depend on its lines.
+-- The error is a reason why no history could be read from the input. If the input is known, an error about its lines is
+-- true of them.
 abbrev pub IsNoHistoryIn : Option (List ℕ) → ViewError → Type 0
 IsNoHistoryIn input NoOpening = IfSome input (λ bytes. OpensNone (lines_in bytes))
 IsNoHistoryIn input (NoEvent number) = IfSome input (λ bytes. StopsAt (λ host line. IsNoEvent line) (lines_in bytes) number)

@@ -29,12 +29,12 @@ comment_start Rows = codes "// "
 
 -- ---- an event
 
--- the lines of actions, none of which is refused
+-- the trace lines of a host's actions, none of which is refused
 abbrev pub action_lines : List HostAction → List ℕ
 action_lines actions = flat_map (λ action. action_line action None) actions
 
--- The lines of the actions for an event that a host has recorded. The run pages are `runs` before it, and `next` after
--- it.
+-- The trace lines of the actions for an event that a host has recorded. The run pages are `runs` before it, and `next`
+-- after it.
 pub record AreEventLines (frame : Place) (runs next : List (Option ℕ)) (host : HostView) (event : Event) (text : List ℕ) : Type 0 where
   pub place : RealmAndRec
   pub is_place : IsPlaceOf (world_of host) event.build event.act place
@@ -45,13 +45,13 @@ abbrev pub is_poke : Act → Bool
 is_poke (Poke number ipa offset value) = true
 is_poke act = false
 
--- a comment in place of a guest's write that RMM 1.0 refuses
+-- the text is a comment in place of a guest's write that RMM 1.0 refuses
 pub record IsNoWrite (runs next : List (Option ℕ)) (event : Event) (text : List ℕ) : Type 0 where
   pub of_guest : is_poke event.act ≡ true
   pub comment : text ≡ codes "# no call: the RIPAS there is not RAM, and in RMM 1.0 the guest's write is refused\n"
   pub pages : next ≡ runs
 
--- the text for an event of a host: the lines of its actions, or that comment
+-- the text for an event of a host: the lines of the event's actions, or the comment in place of a guest's write
 abbrev pub AreCallsOfEvent : Place → (runs next : List (Option ℕ)) → HostView → Event → List ℕ → Type 0
 AreCallsOfEvent frame runs next host event text = AreEventLines frame runs next host event text ⊎ IsNoWrite runs next event text
 
@@ -62,7 +62,7 @@ pub record AppendsCallsOfEvent (frame : Place) (runs next : List (Option ℕ)) (
 
 -- ---- a turn
 
--- the RMM has refused the command
+-- the answer is a refusal by the RMM
 abbrev pub is_refusal_of_rmm : TurnAnswer → Bool
 is_refusal_of_rmm (Refused (Rmi rmi)) = true
 is_refusal_of_rmm answer = false
@@ -71,20 +71,22 @@ abbrev pub is_refused_by_rmm : Option (PlanStep × TurnAnswer) → Bool
 is_refused_by_rmm None = false
 is_refused_by_rmm (Some told) = is_refusal_of_rmm told.1
 
--- The text below the line of a turn, before which the history had `before` events. If the turn has added an event, a
--- trace has its text. If not, the text is empty, unless the RMM has refused the command.
+-- The text that belongs below the line of a turn. The history had `before` events before the turn. If the turn has
+-- added an event, a trace has the text of that event. If not, the text is empty, unless the RMM has refused the
+-- command.
 pub record IsBelowTurn (form : CallsForm) (frame : Place) (runs next : List (Option ℕ)) (before : ℕ) (host : HostView) (turn : Turn) (below : List ℕ) : Type 0 where
   pub event : form ≡ Trace → IfSome (slice_get host.history before) (λ event. AreCallsOfEvent frame runs next host event below)
   pub nothing : length host.history ≤ before → is_refused_by_rmm turn.told ≡ false → below ≡ []
   pub pages : length host.history ≤ before → next ≡ runs
 
--- the line of the turn is appended, and what is below it
+-- the line of the turn is appended, with the text that belongs below it
 pub record AppendsTurnAndCalls (form : CallsForm) (frame : Place) (runs next : List (Option ℕ)) (before : ℕ) (host : HostView) (turn : Turn) (old new : List ℕ) : Type 0 where
   pub below : List ℕ
   pub is_below : IsBelowTurn form frame runs next before host turn below
   pub appended : new ≡ old ++ (turn_text turn ++ below)
 
--- A turn of the build leads from one position to the other. Its line is appended as a comment, and what is below it.
+-- A turn of the build leads from `from` to `to`, and its line is appended as a comment, with the text that belongs
+-- below it.
 pub record AppendsCallsOfTurn (form : CallsForm) (frame : Place) (plan : Plan) (runs next : List (Option ℕ)) (from : Position) (build : ℕ) (to : Position)
     (old new : List ℕ) : Type 0 where
   pub turn : Turn
@@ -94,19 +96,19 @@ pub record AppendsCallsOfTurn (form : CallsForm) (frame : Place) (plan : Plan) (
 
 -- ---- a run
 
--- the turns of these builds, one after the other
+-- the turns of a schedule, given as a list of builds, are taken in sequence, and the text of each is appended
 abbrev pub AppendsCallsOfTurns : CallsForm → Place → Plan → List ℕ → (runs next : List (Option ℕ)) → Position → Position → List ℕ → List ℕ → Type 0
 AppendsCallsOfTurns form frame plan [] runs next from to old new = (to ≡ from) × (new ≡ old) × (next ≡ runs)
 AppendsCallsOfTurns form frame plan (build ∷ order) runs next from to old new =
     (between : Position) × (text : List ℕ) × (pages : List (Option ℕ))
     × AppendsCallsOfTurn form frame plan runs pages from build between old text × AppendsCallsOfTurns form frame plan order pages next between to text new
 
--- the place of the plan's machine, whose granule 0 is at this address
+-- the address range of the plan's machine, with granule 0 at the address `base`
 abbrev pub frame_of : ℕ → Plan → Place
 frame_of base plan = record { base = base; pages = plan.pages }
 
--- The text of some run of the plan: an opening, and each turn of the run as a comment, with the text below it. A trace
--- opens with the line of the machine.
+-- The text of the RMM calls of some run of the plan: an opening, then the line of each turn as a comment, with the text
+-- below it. A trace opens with the line that describes the machine.
 pub record IsCallsText (form : CallsForm) (base : ℕ) (plan : Plan) (text : List ℕ) : Type 0 where
   pub opening : List ℕ
   pub of_machine : form ≡ Trace → opening ≡ platform_line (frame_of base plan) plan.aux

@@ -15,22 +15,22 @@ abbrev pub verdict_of : Bool → ViewOutcome
 verdict_of true = Done
 verdict_of false = HasErrors
 
--- the report on a known input, of which at most one byte more is kept than a plan can have
+-- if the input is known, the report is on the bytes that are kept of it: at most one byte more than a plan can have
 abbrev pub IsReportOn : List ℕ → Option (List ℕ) → LintReport → Type 0
 IsReportOn source input report = IfSome input (λ bytes. IsReport source (kept_of bytes) report)
 
--- for a known input the verdict is `Done` if it is a plan, and `HasErrors` if not
+-- if the input is known, the verdict is `Done` for a plan, and `HasErrors` for anything else
 abbrev pub IsVerdictOn : Option (List ℕ) → ViewOutcome → Type 0
 IsVerdictOn input verdict = IfSome input (λ bytes. verdict ≡ verdict_of (is_ok (plan_of bytes)))
 
--- the whole report on the input was written, and the verdict is the one on the input
+-- the whole report on the input was written, and the verdict is correct for the input
 pub record IsReported (source : List ℕ) (input old new : Option (List ℕ)) (verdict : ViewOutcome) : Type 0 where
   pub report : LintReport
   pub of_input : IsReportOn source input report
   pub written : Appends old new (string_bytes report.text)
   pub verdict_is : IsVerdictOn input verdict
 
--- a prefix of the text was written
+-- a prefix of the report on the input was written
 pub record IsReportCut (source : List ℕ) (input old new : Option (List ℕ)) : Type 0 where
   pub report : LintReport
   pub of_input : IsReportOn source input report
@@ -41,7 +41,8 @@ abbrev pub IsReportEndOfDevice : List ℕ → Bool → Option (List ℕ) → Opt
 IsReportEndOfDevice source true input old new = Keeps old new
 IsReportEndOfDevice source false input old new = IsReportCut source input old new
 
--- The text is written whole or not at all, unless a write fails on the way. `unread` is whether a read failed.
+-- The report of `check` is written whole or not at all, unless a write fails on the way. `unread` is whether a read
+-- failed.
 abbrev pub IsCheckEnd : List ℕ → Bool → Option (List ℕ) → Option (List ℕ) → Option (List ℕ) → Result ViewOutcome ViewError → Type 0
 IsCheckEnd source unread input old new (Ok verdict) = IsReported source input old new verdict
 IsCheckEnd source unread input old new (Err Memory) = Keeps old new
@@ -50,21 +51,21 @@ IsCheckEnd source unread input old new (Err fault) = ⊥
 
 -- ---- no plan
 
--- These are the errors of the input, which is no plan.
+-- The input is not a plan, and `errors` is the text that lists its errors.
 pub record AreErrorsOf (source : List ℕ) (input : Option (List ℕ)) (errors : List ℕ) : Type 0 where
   pub report : LintReport
   pub of_input : IsReportOn source input report
   pub text : errors ≡ string_bytes report.text
   pub no_plan : IsVerdictOn input HasErrors
 
--- the errors of bytes that are no plan
+-- the bytes are not a plan, and `errors` is the text that lists their errors
 pub record AreErrorsOfBytes (source bytes errors : List ℕ) : Type 0 where
   pub report : LintReport
   pub is_report : IsReport source bytes report
   pub text : errors ≡ string_bytes report.text
   pub no_plan : is_ok (plan_of bytes) ≡ false
 
--- the reason why no plan is read from bytes: their errors, or a failed allocation
+-- the reason why no plan is read from some bytes: the errors in them, or a failed allocation
 abbrev pub GivesNoPlan : List ℕ → List ℕ → ViewError → Type 0
 GivesNoPlan source bytes (NoPlan errors) = AreErrorsOfBytes source bytes (string_bytes errors)
 GivesNoPlan source bytes Memory = Unit {0}

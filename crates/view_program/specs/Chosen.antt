@@ -14,7 +14,7 @@ use Rattle.plan_states.specs.declared.step_end.EndOfStep.{EndOfStep}
 
 -- ---- the possible choices
 
--- whether the build could have the turn, by flags of the builds with a step left
+-- the build can have the turn: the flags, one for each build, say that it has a step left
 abbrev pub could : List Bool → ℕ → Bool
 could left build = slice_index_or left build false
 
@@ -25,11 +25,11 @@ has_left plan places build = is_some (step_after plan build (place_of places bui
 unfoldable pub builds_left : Plan → List PlanCursor → List Bool
 builds_left plan places = map (has_left plan places) (range_with_len 0 8)
 
--- the lowest build that has a step left, if one has
+-- the lowest build that has a step left, if there is one
 unfoldable pub lowest_of : List Bool → Option ℕ
 lowest_of left = find (could left) (range_with_len 0 8)
 
--- The choice lists the builds that have a step left at these places, and one of them is chosen.
+-- The choice says which builds have a step left, given how far each has come, and selects one of them.
 pub record IsOpen (plan : Plan) (places : List PlanCursor) (choice : Choice) : Type 0 where
   pub left : choice.left ≡ builds_left plan places
   pub could : could choice.left choice.build ≡ true
@@ -52,12 +52,12 @@ abbrev pub refusal_of_turn : Option (PlanStep × TurnAnswer) → Option Refusal
 refusal_of_turn None = None
 refusal_of_turn (Some told) = refusal_in told.1
 
--- the outcome of a turn's step if the turn finishes the step, and else none
+-- the outcome of a turn's step if the turn finishes the step, and otherwise nothing
 abbrev pub ended : Turn → ℕ → ℕ → List EndOfStep
 ended turn before after =
     if before == after then [] else record { build = turn.build; step = before; refusal = refusal_of_turn turn.told } ∷ []
 
--- A turn of the build leads from one stage to the other.
+-- A turn of the build leads from stage `from` to stage `to`.
 pub record IsStageTurn (plan : Plan) (from : Stage) (build : ℕ) (to : Stage) : Type 0 where
   pub turn : Turn
   pub of_build : turn.build ≡ build
@@ -66,7 +66,7 @@ pub record IsStageTurn (plan : Plan) (from : Stage) (build : ℕ) (to : Stage) :
 
 -- ---- runs
 
--- The turns of these choices, one after the other, lead from one stage to the other.
+-- The turns of the chosen builds, one after another, lead from stage `from` to stage `to`.
 abbrev pub AreChosen : Plan → Stage → List Choice → Stage → Type 0
 AreChosen plan from [] to = to ≡ from
 AreChosen plan from (choice ∷ choices) to =
@@ -85,8 +85,8 @@ pub record IsChosenRun (plan : Plan) (from : HostView) (choices : List Choice) (
   pub host : last.at.host ≡ to
   pub ends : last.ends ≡ noted
 
--- From this stage the lowest build with a step left takes each turn, until no build has one. `choices` is `front`, and
--- then the choices of these turns.
+-- From this stage on, each turn goes to the lowest build with a step left, until no build has a step left. `choices` is
+-- `front`, and then the choices of these turns.
 pub record GoesOnTo (plan : Plan) (from : Stage) (front choices : List Choice) (to : Stage) : Type 0 where
   pub more : List Choice
   pub appended : choices ≡ front ++ more

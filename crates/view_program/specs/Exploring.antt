@@ -20,7 +20,7 @@ pub record IsAdded (plan : Plan) (host : HostView) (choices : List Choice) (ends
   pub counted : (visits : List Visit) → AreTotals (length plan.builds) visits old
       → AreTotals (length plan.builds) (visits ++ record { choices = choices; ends = ends; map = map } ∷ []) new
 
--- A schedule that the stream draws was run on a host of its own, and is counted.
+-- A run on a new host, in a schedule drawn from the stream, is counted in the totals.
 pub record IsDrawnAndCounted (plan : Plan) (stream after : Stream) (old new : Totals) : Type 0 where
   pub visit : Visit
   pub is_drawn : IsDrawn plan (opening_host plan) stream visit after

@@ -11,12 +11,12 @@ use Rattle.realm_program.specs.Replay.{opening_host}
 abbrev pub opening_of : Plan → Opening
 opening_of plan = record { pages = plan.pages; vmids = plan.vmids; aux = plan.aux; history = plan.history; builds = length plan.builds }
 
--- a build that is left out is one of the plan's
+-- the build to leave out, if any, is one of the plan's
 abbrev pub IsBuildOfPlan : Option ℕ → Plan → Type 0
 IsBuildOfPlan None plan = Unit {0}
 IsBuildOfPlan (Some build) plan = build < length plan.builds
 
--- The text of the history of some run of the plan, all of it or without a build's events.
+-- The text of the history of some run of the plan, complete or without one build's events.
 pub record IsHistoryText (erase : Option ℕ) (plan : Plan) (text : List ℕ) : Type 0 where
   pub of_plan : IsBuildOfPlan erase plan
   pub last : HostView

@@ -6,8 +6,8 @@ use Rattle.realm_program.specs.Replay.{opening_host}
 use Rattle.run_json.specs.Document.{IsDocument}
 use Rattle.run_json.specs.declared.document.Document.{Document}
 
--- Some run of the plan has a document; the text can be any. That the text is what JSON writes for it is tested, and in
--- no clause.
+-- Some run of the plan has a JSON document; nothing is said about the text. That the text is what JSON writes for it is
+-- tested, and no clause states it.
 pub record IsJsonText (plan : Plan) (text : List ℕ) : Type 0 where
   pub last : HostView
   pub document : Document

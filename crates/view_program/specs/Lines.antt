@@ -13,11 +13,11 @@ use Rattle.view_program.specs.declared.schedules.totals.Totals.{Totals}
 abbrev pub drawn_line : ℕ → List ℕ
 drawn_line schedule_count = codes "schedules drawn " ++ (numeral schedule_count ++ 10 ∷ [])
 
--- the lines for a final map: the share of schedules that end in it, and the map
+-- the lines for a final map: how many of the schedules end with it, and then the map
 abbrev pub map_lines : ℕ → PathTally (String Global) → List ℕ
 map_lines schedule_count tally = map_shown schedule_count (string_bytes tally.outcome) tally.first.items tally.count
 
--- the outcomes of schedules that were drawn
+-- the text of the outcomes of randomly drawn schedules
 abbrev pub drawn_text : Plan → Totals → List ℕ
 drawn_text plan totals =
     drawn_line totals.steps.schedule_count ++ (step_outcomes_text plan totals.steps ++ flat_map (map_lines totals.steps.schedule_count) totals.maps.items)

@@ -11,24 +11,26 @@ use Rattle.run_json.specs.Page.{page_bytes}
 use Rattle.run_json.specs.declared.world.WorldItem.{WorldItem}
 use Rattle.view_program.specs.declared.plan_page.PageData.{PageData}
 
--- the world is that of the host's history without the build's events
+-- the host's history without the build's events leads to this world
 pub record IsWithoutWorld (host : HostView) (build : ℕ) (world : WorldItem) : Type 0 where
   pub fresh : HostView
   pub without : IsWithout host build fresh
   pub is_world : IsWorldItem fresh world
 
--- the worlds of the host's history without each of the first `count` builds, in sequence
+-- the list has, for each of the first `count` builds, the world that the host's history leads to without the build's
+-- events
 abbrev pub AreWorldsWithout : HostView → ℕ → List WorldItem → Type 0
 AreWorldsWithout host count worlds = AllZip (IsWithoutWorld host) (range_with_len 0 count) worlds
 
--- the document of some run of the plan, and for each build the world of its history without the build's events
+-- the data are the document of some run of the plan and, for each build, the world that the run's history leads to
+-- without the build's events
 pub record IsPageData (plan : Plan) (shown : PageData) : Type 0 where
   pub last : HostView
   pub is_document : IsDocument plan (opening_host plan) last shown.run
   pub are_worlds : AreWorldsWithout last (length plan.builds) shown.without.items
 
--- The text is the page around some bytes, and some run of the plan has page data. That the bytes are what JSON writes
--- for these data is tested, and in no clause.
+-- The text is the browser page with some bytes put in, and some run of the plan has page data. That the bytes are what
+-- JSON writes for these data is tested, and no clause states it.
 pub record IsPageText (plan : Plan) (text : List ℕ) : Type 0 where
   pub shown : PageData
   pub is_data : IsPageData plan shown

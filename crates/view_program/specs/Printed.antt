@@ -1,4 +1,5 @@
--- The outcomes of printing the map of a history, and the outcome of each subcommand of `realmview`.
+-- The outcomes of printing the map of a history, and the outcome of each subcommand of `realmview`. Bounds on the
+-- number of read calls are here too.
 use Rattle.std.specs.Prelude.{◌≡◌, ℕ, ◌+◌, ◌≤◌, Bool, true, false, List, Option, None, IfSome, Result, Ok, Err, string_bytes}
 use Rattle.std.specs.Io.KnownBytes.{Appends, Keeps}
 use Rattle.host_ledger.specs.View.{HostView}
@@ -69,15 +70,15 @@ IsApplyEnd erase unread input old new (Err fault) = ⊥
 
 -- ---- the request
 
--- the text is one of the plan that was read from these bytes, which are those of the input if it is known
+-- this text may be printed for the plan, which was parsed from the input (from some bytes, if the input is unknown)
 pub record IsTextFrom (texts : List ℕ → plan.Plan → List ℕ → Type 0) (input : Option (List ℕ)) (it : plan.Plan) (text : List ℕ) : Type 0 where
   pub bytes : List ℕ
   pub of_input : IfSome input (λ known. bytes ≡ known)
   pub is_plan : plan.plan_of bytes ≡ Ok it
   pub is_text : texts bytes it text
 
--- The end of a request for a plan's text: it is printed whole or not at all, unless a write fails on the way. For an
--- input that is no plan the fault has the errors.
+-- The end of a request for a plan's text: the text is printed whole or not at all, unless a write fails on the way. For
+-- an input that is not a plan, the fault has the errors.
 abbrev pub IsPlanEnd : (List ℕ → plan.Plan → List ℕ → Type 0) → (plan.Plan → plan_fault.Fault → Type 0) → List ℕ → Bool → Option (List ℕ) → Option (List ℕ) → Option (List ℕ) → Result (Unit {0}) ViewError → Type 0
 IsPlanEnd texts without source unread input old new (Ok done) = IsPrinted (IsTextFrom texts input) input old new
 IsPlanEnd texts without source unread input old new (Err (NoPlan errors)) = AreErrorsOf source input (string_bytes errors) × Keeps old new
@@ -86,7 +87,7 @@ IsPlanEnd texts without source unread input old new (Err Memory) = Keeps old new
 IsPlanEnd texts without source unread input old new (Err Device) = IsEndOfDevice (IsTextFrom texts input) unread input old new
 IsPlanEnd texts without source unread input old new (Err fault) = ⊥
 
--- the end of a request other than a check: it never ends with the verdict `HasErrors`
+-- the end of a request other than `check`: its verdict is never `HasErrors`
 abbrev pub EndsAs : (Result (Unit {0}) ViewError → Type 0) → Result ViewOutcome ViewError → Type 0
 EndsAs IsEndOf (Ok Done) = IsEndOf (Ok tt)
 EndsAs IsEndOf (Ok HasErrors) = ⊥
@@ -103,12 +104,13 @@ IsRunEnd (Explore schedules after) source unread input old new result = EndsAs (
 IsRunEnd (Order turns) source unread input old new result = EndsAs (IsReorderEnd turns source unread input old new) result
 IsRunEnd Check source unread input old new result = IsCheckEnd source unread input old new result
 
--- The number of reads, before and after: a plan takes up to 1,048,578 of them. For a history there is no bound.
+-- A plan is read from an input with at most 1,048,578 read calls. For a history there is no bound.
 abbrev pub AreFewReads : ViewSubcommand → (old new : ℕ) → Type 0
 AreFewReads (Apply erase) old new = Unit {0}
 AreFewReads asked old new = new ≤ old + 1048578
 
--- A known input is read once. For a history, no clause states that.
+-- A known input is read once: at most one read for each byte, and one for its end. For a history, no clause states
+-- that.
 abbrev pub ReadsOnceFor : ViewSubcommand → Option (List ℕ) → (old new : ℕ) → Type 0
 ReadsOnceFor (Apply erase) input old new = Unit {0}
 ReadsOnceFor asked input old new = ReadsOnce input old new

@@ -1,4 +1,5 @@
--- Plans whose schedule is replaced by one with all the turns that their builds need.
+-- Plans whose schedule is replaced by one with all the turns that their builds need, and the outcomes of writing such a
+-- plan.
 use Rattle.std.specs.Prelude.{◌≡◌, ◌<◌, ◌⊎◌, ℕ, Bool, true, false, List, length, Option, IfSome, Result, Ok, Err, string_bytes}
 use Rattle.std.specs.Io.KnownBytes.{Appends, Keeps}
 use Rattle.realm_plan.specs.Plan as plan
@@ -18,6 +19,7 @@ use Rattle.view_program.specs.declared.fault.ViewError.TheVariants.{NoPlan, Plan
 
 -- ---- the schedule
 
+-- the rule by which a policy chooses the build of each turn
 abbrev pub rule_of : SchedulingPolicy → List Choice → Type 0
 rule_of InRotation = AreInRotation 0
 rule_of OneByOne = AreOneByOne
@@ -29,14 +31,14 @@ IsOrderOf turns it order = IsWholeSchedule (rule_of turns) it (opening_host it) 
 
 -- ---- the text
 
--- the text is a plan, and its schedule is that of a complete run under the policy
+-- the text is a plan whose own schedule is the schedule of a complete run under the policy
 pub record IsWholeText (turns : SchedulingPolicy) (text : List ℕ) : Type 0 where
   pub it : plan.Plan
   pub is_plan : plan.plan_of text ≡ Ok it
   pub whole : IsOrderOf turns it it.order
 
--- The text of a plan that was read, with the schedule of a complete run of that plan in it. Read back, it is that plan
--- with this schedule.
+-- The text of a plan that was read, with the schedule of a complete run of the plan put in. Read back, the text is the
+-- plan with this schedule.
 pub record IsReorderedText (turns : SchedulingPolicy) (read : plan.Plan) (bytes text : List ℕ) : Type 0 where
   pub order : List ℕ
   pub is_order : IsOrderOf turns read order
@@ -53,13 +55,13 @@ IsNotWhole text (Plan run_fault.Mismatch) = Unit {0}
 IsNotWhole text Memory = Unit {0}
 IsNotWhole text fault = ⊥
 
--- with this schedule the plan has too many turns, or the text with it exceeds a plan's limits
+-- with this schedule the plan has too many turns, or its text exceeds a plan's limits
 abbrev pub IsOutsideLimits : List ℕ → List ℕ → Type 0
 IsOutsideLimits order bytes =
     (16384 < length order) ⊎ ((text : List ℕ) × IsWithOrder order bytes text × (plan.plan_of text ≡ Err plan_fault.Limit))
 
--- The reason why a plan is not reordered: a mismatch, a failed allocation, or that the plan exceeds its limits with the
--- schedule of a complete run.
+-- The reason why a plan gets no new schedule: a mismatch, a failed allocation, or limits that the plan would exceed
+-- with the schedule of a complete run.
 abbrev pub IsNotReordered : SchedulingPolicy → plan.Plan → List ℕ → ViewError → Type 0
 IsNotReordered turns read bytes OrderOutsideLimits = (order : List ℕ) × IsOrderOf turns read order × IsOutsideLimits order bytes
 IsNotReordered turns read bytes (Plan run_fault.Mismatch) = Unit {0}
@@ -68,38 +70,39 @@ IsNotReordered turns read bytes fault = ⊥
 
 -- ---- the end
 
--- The input is a plan, and the text is a plan with a complete schedule under the policy. It is the input with the
--- schedule of a complete run of the plan that was read.
+-- The input is a plan, and the text is a plan whose schedule is that of a complete run under the policy. If the input
+-- is known, the text is the input with this schedule put in.
 pub record IsReorderedIn (turns : SchedulingPolicy) (input : Option (List ℕ)) (text : List ℕ) : Type 0 where
   pub read : plan.Plan
   pub of_input : IsPlanOf input read
   pub is_whole : IsWholeText turns text
   pub is_reordered : IfSome input (λ bytes. IsReorderedText turns read bytes text)
 
--- the input is a plan that is not reordered, for this reason
+-- the input is a plan that gets no new schedule, for this reason
 pub record HasNoOrder (turns : SchedulingPolicy) (input : Option (List ℕ)) (fault : ViewError) : Type 0 where
   pub read : plan.Plan
   pub of_input : IsPlanOf input read
   pub not_reordered : IfSome input (λ bytes. IsNotReordered turns read bytes fault)
 
--- the whole text was written
+-- the whole text of the plan with its new schedule was written
 pub record IsReorderWritten (turns : SchedulingPolicy) (input old new : Option (List ℕ)) : Type 0 where
   pub text : List ℕ
   pub is_text : IsReorderedIn turns input text
   pub written : Appends old new text
 
--- a prefix of the text was written
+-- a prefix of the text of the plan with its new schedule was written
 pub record IsReorderCut (turns : SchedulingPolicy) (input old new : Option (List ℕ)) : Type 0 where
   pub text : List ℕ
   pub is_text : IsReorderedIn turns input text
   pub written : AppendsFront old new text
 
--- after a failed read nothing was written, and after a failed write a prefix of the text
+-- after a failed read nothing was written, and after a failed write a prefix of the plan's new text
 abbrev pub IsReorderEndOfDevice : SchedulingPolicy → Bool → Option (List ℕ) → Option (List ℕ) → Option (List ℕ) → Type 0
 IsReorderEndOfDevice turns true input old new = Keeps old new
 IsReorderEndOfDevice turns false input old new = IsReorderCut turns input old new
 
--- The text is written whole or not at all, unless a write fails on the way. `unread` is whether a read failed.
+-- The plan with its new schedule is written whole or not at all, unless a write fails on the way. `unread` is whether a
+-- read failed.
 abbrev pub IsReorderEnd : SchedulingPolicy → List ℕ → Bool → Option (List ℕ) → Option (List ℕ) → Option (List ℕ) → Result (Unit {0}) ViewError → Type 0
 IsReorderEnd turns source unread input old new (Ok _) = IsReorderWritten turns input old new
 IsReorderEnd turns source unread input old new (Err (NoPlan errors)) = AreErrorsOf source input (string_bytes errors) × Keeps old new

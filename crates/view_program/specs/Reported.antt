@@ -7,12 +7,13 @@ use Rattle.plan_replay.specs.Run.{Turn, Position, AreTurns, start}
 use Rattle.view_program.specs.Chosen.{refusal_of_turn}
 use Rattle.plan_states.specs.declared.step_end.EndOfStep.{EndOfStep}
 
--- a turn, and the end of its step, if it has one
+-- a turn, with the outcome of its step if the turn ends the step
 pub record Line : Type 0 where
   pub turn : Turn
   pub noted : List EndOfStep
 
--- Either the turn is not refused and no step outcome is noted, or one is, of its build and with its refusal, if any.
+-- Either no step outcome is noted and the turn is not refused, or one outcome is noted, with the turn's build and its
+-- refusal, if any.
 abbrev pub IsEndOfTurn : Line → Type 0
 IsEndOfTurn line = ((line.noted ≡ []) × (refusal_of_turn line.turn.told ≡ None))
     ⊎ ((step : ℕ) × (line.noted ≡ record { build = line.turn.build; step = step; refusal = refusal_of_turn line.turn.told } ∷ []))

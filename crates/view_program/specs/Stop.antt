@@ -1,4 +1,5 @@
--- The exit status of `realmview` for each outcome.
+-- The exit status of `realmview` for each outcome, and the error of a subcommand for each reason why its input cannot
+-- be read.
 use Rattle.std.specs.Prelude.{ℕ, Result}
 use Rattle.command_line.specs.Ended.{status_of_end}
 use Rattle.command_line.specs.declared.ended.Ended.{Ended}
@@ -26,7 +27,7 @@ abbrev pub view_fault_of_read : ReadError → ViewError
 view_fault_of_read read_error.Memory = Memory
 view_fault_of_read read_error.Device = Device
 
--- the exit status of a verdict: 1 if a plan has errors, and else 0
+-- the exit status of a verdict: 1 if `check` has found errors, and otherwise 0
 abbrev pub view_verdict_status : ViewOutcome → ℕ
 view_verdict_status Done = 0
 view_verdict_status HasErrors = 1

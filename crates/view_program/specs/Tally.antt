@@ -1,10 +1,10 @@
--- Tallies of outcomes: for each outcome, the number of schedules that have it, and the first such schedule.
+-- Tallies of outcomes: for each outcome, the number of schedules that have it, and the first of these schedules.
 use Rattle.std.specs.Prelude.{ℕ, ◌+◌, Bool, if◌then◌else◌, List, [], ◌∷◌, ◌++◌, map, count_by}
 use Rattle.std.specs.List.{list_any}
 use Rattle.plan_states.specs.Tallies.{PathCount}
 use Rattle.plan_states.specs.declared.tally.PathTally.{PathTally}
 
--- An outcome, and the schedule that has it.
+-- An outcome, and a schedule that has this outcome.
 pub record Sighting (K : Type 0) : Type 0 where
   pub outcome : K
   pub schedule : List ℕ
@@ -12,13 +12,13 @@ pub record Sighting (K : Type 0) : Type 0 where
 abbrev pub is_shown : {K : Type 0} → (K → K → Bool) → List (Sighting K) → K → Bool
 is_shown same seen outcome = list_any (λ s. same s.outcome outcome) seen
 
--- The first sighting of each outcome that is not in `earlier`.
+-- The first sighting of each outcome that no sighting in `earlier` has.
 abbrev pub firsts : {K : Type 0} → (K → K → Bool) → List (Sighting K) → List (Sighting K) → List (Sighting K)
 firsts same earlier [] = []
 firsts same earlier (s ∷ seen) =
     (if is_shown same earlier s.outcome then [] else s ∷ []) ++ firsts same (earlier ++ s ∷ []) seen
 
--- the number of schedules that have an outcome
+-- the number of sightings that have the given outcome
 abbrev pub times : {K : Type 0} → (K → K → Bool) → List (Sighting K) → K → ℕ
 times same seen outcome = count_by (λ s. same outcome s.outcome) seen
 

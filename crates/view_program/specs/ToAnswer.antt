@@ -1,4 +1,4 @@
--- The text of a plan with the shortest schedule that answers a question.
+-- The text of a plan with the shortest schedule that answers a question, or the line that says why none is given.
 use Rattle.std.specs.Prelude.{◌≡◌, ◌⊎◌, ℕ, List, [], ◌∷◌, ◌++◌, codes, Ok}
 use Rattle.std.specs.Fmt.{decimal}
 use Rattle.realm_plan.specs.Plan.{Plan, plan_of}
@@ -18,6 +18,7 @@ question_of_options (Leased granules) = search.Leased granules
 
 -- ---- the line that says that no schedule answers the question
 
+-- the line that says that a step of a build is refused in no schedule
 abbrev pub never_refused_step_line : ℕ → ℕ → List ℕ
 never_refused_step_line build step = codes "step " ++ (decimal build ++ (32 ∷ decimal step ++ codes " refused in 0\n"))
 
@@ -34,21 +35,21 @@ never_line (Leased granules) = never_leased_line granules
 
 -- ---- texts
 
--- The text is the source with this schedule in it. Read back, it is the plan with this schedule, whose last turn
--- answers the question.
+-- The text is the plan's source text with this schedule put in. Read back, it is the plan with this schedule, whose
+-- last turn answers the question.
 pub record IsPlanTo (question : TurnQuestion) (source : List ℕ) (plan : Plan) (schedule text : List ℕ) : Type 0 where
   pub is_text : IsWithOrder schedule source text
   pub is_plan : plan_of text ≡ Ok (with_schedule schedule plan)
   pub answers : EndsWithAnswer (with_schedule schedule plan) question schedule
 
--- the text is the source of the plan, with the first of the shortest schedules that answer the question
+-- the text is the plan's source text, with the first of the shortest schedules that answer the question
 pub record IsShortestPlan (most : ℕ) (question : TurnQuestion) (source : List ℕ) (plan : Plan) (text : List ℕ) : Type 0 where
   pub schedule : List ℕ
   pub shortest : IsShortest plan most question schedule
   pub is_plan : IsPlanTo question source plan schedule text
 
--- The text is the source of the plan, with the first of the shortest schedules that answer the question. Or it is a
--- line: no schedule does, or there are more than `most` states.
+-- The text is the plan's source text with the first of the shortest schedules that answer the question, or a line that
+-- says why none is given. The line says that no schedule answers it, or that there are more than `most` states.
 abbrev pub IsAnswerText : ℕ → ScheduleQuestion → (source : List ℕ) → Plan → List ℕ → Type 0
 IsAnswerText most asked source plan text =
     IsShortestPlan most (question_of_options asked) source plan text

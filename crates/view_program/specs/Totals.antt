@@ -12,7 +12,7 @@ use Rattle.view_program.specs.declared.schedules.choice.Choice.{Choice}
 use Rattle.plan_states.specs.declared.step_end.EndOfStep.{EndOfStep}
 use Rattle.view_program.specs.declared.schedules.totals.Totals.{Totals}
 
--- The outcome of a run: its schedule, the ends of its steps, and the map in the end.
+-- The outcome of a run: its schedule, the outcomes of its steps, and its final map.
 pub record Visit : Type 0 where
   pub choices : List Choice
   pub ends : List EndOfStep
@@ -30,11 +30,11 @@ ends_seen visit = map (sighting_in visit.choices) visit.ends
 abbrev pub map_seen : Visit → Sighting (String Global)
 map_seen visit = sighting_in visit.choices visit.map
 
--- whether this is the outcome of a refused step of the build
+-- the outcome belongs to a refused step of the build
 abbrev pub refuses : ℕ → EndOfStep → Bool
 refuses build end = end.build == build && is_some end.refusal
 
--- whether any step was refused
+-- some step was refused
 abbrev pub has_refusal : List EndOfStep → Bool
 has_refusal ends = list_any (λ end. is_some end.refusal) ends
 
@@ -45,14 +45,14 @@ whole_seen visit = sighting_in visit.choices (has_refusal visit.ends)
 abbrev pub is_smooth : List EndOfStep → ℕ → Bool
 is_smooth ends build = not (list_any (refuses build) ends)
 
--- those of the plan's `builds` builds that were never refused
+-- each of the first `builds` builds that had no refused step in a run, with the run's schedule
 abbrev pub smooth_seen : ℕ → Visit → List (Sighting ℕ)
 smooth_seen builds visit = map (sighting_in visit.choices) (filter (is_smooth visit.ends) (range_with_len 0 builds))
 
 abbrev pub same_text : String Global → String Global → Bool
 same_text text other = bytes_eq (string_bytes text) (string_bytes other)
 
--- The totals are those of these runs of a plan of `builds` builds.
+-- The totals count the given runs of a plan with `builds` builds.
 pub record AreTotals (builds : ℕ) (visits : List Visit) (totals : Totals) : Type 0 where
   pub schedule_count : totals.steps.schedule_count ≡ length visits
   pub by_refusal : map count_of_tally totals.steps.by_refusal.items ≡ counted beq (map whole_seen visits)

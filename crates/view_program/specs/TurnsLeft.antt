@@ -11,17 +11,20 @@ abbrev pub is_of_many : Option PlanStep → Bool
 is_of_many None = false
 is_of_many (Some step) = undoes_many step
 
--- There are eight places, and a build has undos left only in a step that undoes any number of operations.
+-- There is a cursor for each of eight builds, and a build has undos left only in a step that can undo any number of
+-- operations.
 pub record AreSteady (plan : Plan) (places : List PlanCursor) : Type 0 where
   pub all : length places ≡ 8
   pub steady : (build : ℕ) → is_of_many (step_after plan build (place_of places build).done) ≡ false → (place_of places build).left ≡ 0
 
--- The most steps that a build can still begin, from a number on. A build that gives up has an abort beyond its steps.
+-- The maximum number of steps that a build can still begin after the steps that it has done. A build that gives up has
+-- an abort beyond its steps.
 abbrev pub steps_left : Bool → List PlanStep → ℕ → ℕ
 steps_left false steps done = length steps - done
 steps_left true steps done = if nat_lt done giving_up then length steps - done + 1 else giving_up + 1 - done
 
--- A bound for a build's turns: 2 ^ 16 for each step, but for the one under way as many as it has undos left.
+-- A bound on a build's further turns: 2 ^ 16 for each step left, except that a step with undos under way counts only
+-- the undos that it has left.
 abbrev pub turns_of_place : Bool → List PlanStep → PlanCursor → ℕ
 turns_of_place gives_up steps place =
     let left = steps_left gives_up steps place.done in

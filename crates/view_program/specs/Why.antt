@@ -11,29 +11,29 @@ use Rattle.explain.specs.declared.explained.ExplainedTurn.{ExplainedTurn}
 use Rattle.explain.specs.declared.explained.Explanation.{Explanation}
 use Rattle.realm_program.specs.Replay.{opening_host}
 
--- the lines of a reason, with each check that passed if all are asked for; none if there is no reason
+-- the lines of a reason, including the checks that passed if these are requested; no lines if there is no reason
 abbrev pub AreLinesBelow : Bool → Option Explanation → List ℕ → Type 0
 AreLinesBelow all None below = below ≡ []
 AreLinesBelow all (Some reason) below = AreReasonLines reason all below
 
--- the line of a turn, and the lines of its reason below it
+-- the line of a turn, and below it the lines of the reason for its refusal, if it is refused
 pub record IsTurnText (all : Bool) (turn : ExplainedTurn) (text : List ℕ) : Type 0 where
   pub below : List ℕ
   pub of_reason : AreLinesBelow all turn.reason below
   pub whole : text ≡ string_bytes turn.line ++ below
 
--- such texts, one after the other
+-- the texts of turns, one after another
 abbrev pub AreTurnTexts : Bool → List ExplainedTurn → List ℕ → Type 0
 AreTurnTexts all [] text = text ≡ []
 AreTurnTexts all (turn ∷ turns) text =
     (first : List ℕ) × (rest : List ℕ) × IsTurnText all turn first × AreTurnTexts all turns rest × (text ≡ first ++ rest)
 
--- the lines of the aborts that are under way
+-- for each abort under way, the error line with the number of turns that it still needs, and the help line
 abbrev pub unfinished_lines : HostView → List ℕ
 unfinished_lines host = flat_map abort_lines (filter_map (unfinished_abort host) (range_with_len 0 8))
 
--- The text of some run of the plan: the line of each turn, with its reason below it if it is refused. Then the map of
--- the world that the run ends in, and the lines of the aborts that are under way.
+-- The text of some run of the plan: the line of each turn and, below the line of a refused turn, the reason. Then the
+-- map of the world that the run ends in, and the lines of the aborts that are under way.
 pub record IsWhyText (all : Bool) (plan : Plan) (text : List ℕ) : Type 0 where
   pub last : HostView
   pub turns : List ExplainedTurn
@@ -42,8 +42,9 @@ pub record IsWhyText (all : Bool) (plan : Plan) (text : List ℕ) : Type 0 where
   pub of_turns : AreTurnTexts all turns lines
   pub whole : text ≡ lines ++ (map_text last ++ unfinished_lines last)
 
--- ---- texts that get one more turn, or turns
+-- ---- the text of a turn, or of turns, is appended
 
+-- the text of a turn is appended
 pub record AppendsTurn (all : Bool) (turn : ExplainedTurn) (old new : List ℕ) : Type 0 where
   pub text : List ℕ
   pub is_text : IsTurnText all turn text

@@ -74,12 +74,14 @@ fn asked_map(
     Ok(map_without(alloc, opening, host, build)?)
 }
 
-/// Applies a history to a fresh host, and writes the map of its pages and realms. If a build is to be left out, writes
-/// the map of the history without the build's events.
+/// Applies a history to a fresh host, and writes the map of the host's pages and realms. If a build is to be left out,
+/// writes the map of the history without the build's events.
 ///
 /// The map is complete before any of it is written. The input is read line by line, and of a line no more than 256
-/// bytes are kept. Errors. `NoOpening`: the first line opens no machine, or there is none. `NoEvent` with the first
-/// line that is no event, or `Refused` with the first event that cannot be applied, whichever comes first.
+/// bytes are kept.
+///
+/// Errors. `NoOpening`: the first line does not describe a machine, or there is none. `NoEvent` with the first line
+/// that is not an event, or `Refused` with the first event that cannot be applied, whichever comes first.
 /// `EraseNamesNoBuild`: all is a history and the build to be left out is not one of the machine's. `Memory`: allocation
 /// failed. `Device`: a read failed and nothing is written, or a write failed and a prefix of the map is written.
 pub fn apply<R: Read, W: Write>(

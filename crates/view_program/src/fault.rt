@@ -21,7 +21,7 @@ pub enum ViewError {
     /// A history whose first line is missing or does not describe a machine.
     #[error("line 1 opens no history")]
     NoOpening,
-    /// A history line that does not spell an event, with the line's number.
+    /// A line of a history that is not the text of an event, with the line's number.
     #[error("line {0} is no event")]
     NoEvent(usize),
     /// An event of a history that cannot be applied to the host. The fields are the number of its line, the reason, and

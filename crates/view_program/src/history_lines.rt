@@ -49,8 +49,8 @@ fn take_line<S: PageStore>(alloc: Global, host: &mut Host<S>, line: &[u8]) -> Re
     }
 }
 
-/// Applies the events in the next lines of a history to a host, in sequence. Stops at the first line that is no event,
-/// or whose event cannot be applied.
+/// Applies the events in the remaining lines of a history to a host, in sequence. Stops at the first line that is not
+/// an event, or whose event cannot be applied.
 pub fn take_lines<R: Read, S: PageStore>(
     alloc: Global,
     lines: &mut Lines,

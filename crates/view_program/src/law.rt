@@ -1,4 +1,4 @@
-//! Theorems on histories that are applied to a host.
+//! Theorems about histories that are applied to a host.
 ghost use Rattle.std.specs.Prelude.{◌≡◌, ℕ, List};
 ghost use Rattle.realm_model.specs.History.{IsLegal};
 ghost use Rattle.host_ledger.specs.View.{HostView};
@@ -13,8 +13,8 @@ pub fn what_is_applied_is_legal()
 {}
 
 /// Proves that applying a history to a host does not stop at any of the history's lines. It would stop if no machine
-/// were opened, at a line that is no event, or at an event that is refused. A sequence of lines is the history of at
-/// most one machine and one host.
+/// were opened, at a line that is not an event, or at an event that is refused. A sequence of lines is the history of
+/// at most one machine and one host.
 pub fn histories_do_not_stop()
     ensures machine { (lines : List (List ℕ)) (o p : Opening) (host other : HostView) → IsHistory lines o host → IsHistory lines p other → o ≡ p }
     ensures host { (lines : List (List ℕ)) (o p : Opening) (host other : HostView) → IsHistory lines o host → IsHistory lines p other → host ≡ other }

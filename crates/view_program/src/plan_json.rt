@@ -13,7 +13,7 @@ use realm_program::{Fault, boot};
 use run_json::{Document, json_text, run_document};
 use std::alloc::{AllocError, Global};
 
-/// Runs a plan, and returns the run's JSON document and the host's ledger after it.
+/// Runs a plan, and returns the run's JSON document and the host's ledger after the run.
 pub(crate) fn run_of(alloc: Global, plan: &Plan) -> Result<(Document, HostLedger), AllocError>
     ensures { IfOk result (λ ran. IsDocument (plan_view plan.now) (opening_host (plan_view plan.now)) ran.1 ran.0) }
 {

@@ -157,10 +157,11 @@ fn reordered(
 /// was. The text is read back before it is written: it has to be the plan with the new schedule. In the run with the
 /// new schedule, each turn is of a build with a step left, and in the end no build has one.
 ///
-/// The text is complete before any of it is written. Errors. `NoPlan`, with the errors of an input that is no plan.
-/// `OrderOutsideLimits`: the plan would have too many turns or bytes. `Memory`: allocation failed. `Device`: a read
-/// failed and nothing is written, or a write failed and a prefix of the text is written. `Mismatch` never occurs on a
-/// host that gives the same answers to the same calls.
+/// The text is complete before any of it is written.
+///
+/// Errors. `NoPlan`, with the errors of an input that is not a plan. `OrderOutsideLimits`: the plan would have too many
+/// turns or bytes. `Memory`: allocation failed. `Device`: a read failed and nothing is written, or a write failed and a
+/// prefix of the text is written. `Mismatch` never occurs on a host that gives the same answers to the same calls.
 pub fn reorder<R: Read, W: Write>(
     alloc: Global,
     source: &str,

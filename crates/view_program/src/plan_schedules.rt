@@ -69,11 +69,15 @@ fn plan_after(after: AfterRefusal, plan: Plan) -> Plan
     }
 }
 
-/// A text that counts the outcomes of a plan's schedules: of all of them, or of those drawn at random. The plan's own
-/// schedule has no effect on the outcomes. The text has the number of schedules, and counts of the steps' outcomes, of
-/// builds without a refusal, and of final maps. Each outcome that some but not all schedules have is given with the
-/// first schedule that shows it. If a shortest schedule is asked for, the text is the plan with that schedule. If there
-/// is no such schedule, or if there are too many states, the text is a line that says so.
+/// The text that `explore` prints about a plan's schedules: counts of their outcomes, or a plan with a shortest
+/// schedule. The plan's own schedule has no effect on the outcomes.
+///
+/// The schedules are all of the plan's, or some that are drawn at random. The text has the number of schedules, and
+/// counts of the steps' outcomes, of builds without a refusal, and of final maps. Each outcome that some but not all
+/// schedules have is given with the first schedule that shows it.
+///
+/// If a shortest schedule is asked for, the text is the plan with that schedule. If there is no such schedule, or if
+/// there are too many states, the text is a line that says so.
 ///
 /// There is no such text if allocation failed, or for `Mismatch`. That is a run that contradicts an earlier run, or a
 /// plan with too many turns or bytes once it has the shortest schedule.

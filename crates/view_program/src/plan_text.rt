@@ -1,4 +1,4 @@
-//! The trait of the texts that `print` writes.
+//! The trait for the kinds of text that `print` can write for a plan.
 ghost use Rattle.std.specs.Prelude.{ℕ, List, IfOk, IfErr};
 ghost use Rattle.realm_plan.specs.Plan.{Plan as PlanModel};
 ghost use Rattle.realm_plan.specs.PlanView.{plan_view};

@@ -31,9 +31,9 @@ pub(crate) fn plan_from(alloc: Global, source: &str, bytes: &[u8]) -> Result<Pla
     }
 }
 
-/// Reads a plan, and writes the requested text of the plan.
+/// Reads a plan, and writes the requested text that is made from it.
 ///
-/// The text is complete before any of it is written. Errors. `NoPlan`, with the errors of an input that is no plan.
+/// The text is complete before any of it is written. Errors. `NoPlan`, with the errors of an input that is not a plan.
 /// `Plan`, with the reason why the plan has no such text. `Memory`: allocation failed. `Device`: a read failed and
 /// nothing is written, or a write failed and a prefix of the text is written.
 pub fn print<T: ViewText, R: Read, W: Write>(

@@ -1,4 +1,4 @@
-//! The actions, such as RMI calls, for a command that the RMM refuses.
+//! The host's actions, such as RMI calls, for a command that the RMM refuses.
 //!
 //! This project's RMM refuses some commands that RMM 1.0 accepts. Others it refuses with another result word.
 use buddy::BuddyArena;
@@ -39,9 +39,9 @@ fn is_of_the_standard(host: &Host<BuddyArena>, build: BuildId, cmd: &Cmd, rmi: R
     }
 }
 
-/// Returns the actions, such as RMI calls, for a command that the RMM has just refused. The result is `None` if RMM 1.0
-/// has no such call or may answer otherwise. A REC's run uses the last run page, which is given to a REC only if all
-/// others are in use.
+/// Returns the host's actions, such as RMI calls, for a command that the RMM has just refused. The result is `None` if
+/// RMM 1.0 has no such call or may answer otherwise. A REC's run uses the last run page, which is given to a REC only
+/// if all others are in use.
 pub(crate) fn refused_calls(
     frame: Frame,
     host: &Host<BuddyArena>,

@@ -1,4 +1,4 @@
-//! The pages of `PlainStore`, each an array of 4,096 bytes.
+//! Functions that create, clear, fill and copy the pages of `PlainStore`, each an array of 4,096 bytes.
 ghost use Rattle.std.specs.Prelude.{◌≡◌, ◌≢◌, ◌+◌, ◌<◌, ◌≤◌, length, replicate, IfOk, slice_set};
 ghost use Rattle.granule_addr.specs.Page.{page_of, zero_page};
 ghost use Rattle.page_arena.specs.Page.{page_at};

@@ -1,4 +1,4 @@
--- An example of a build that is rolled back to a mark, or undone, while another build goes on.
+-- An example of a build that is rolled back to a mark, or completely undone, while another build goes on.
 use Rattle.std.proofs.Common.{◌≡◌, List, [], ◌∷◌, ◌++◌, Some, refl}
 use Rattle.realm_model.specs.declared.act.Act.TheVariants.{Take, UnTake, Delegate, Undelegate}
 use Rattle.realm_model.specs.declared.act.Event.{Event}

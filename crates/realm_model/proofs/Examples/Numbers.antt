@@ -1,4 +1,5 @@
--- An example of a realm whose build, RD and data IPA granule have numbers other than 0, and which has two RECs.
+-- An example of a realm with two RECs, where the build, the RD and the IPA granule of the data have numbers other than
+-- 0.
 use Rattle.std.proofs.Common.{◌≡◌, ℕ, false, ◌&&◌, List, [], ◌∷◌, ◌++◌, map, Some, None, set, refl, ap, ◌∙◌, lit≤}
 use Rattle.std.specs.FinMap.{get, insert, remove, empty, get-insert, get-remove}
 use Rattle.std.specs.Cmp.{nat_cmp_total}

@@ -1,4 +1,4 @@
--- An example of a table that is created and destroyed, and of the rows with the table and without it.
+-- An example of a table that is created, destroyed and created again, with the rows of the realm after each of these.
 use Rattle.std.proofs.Common.{◌≡◌, ℕ, ◌+◌, ◌-◌, ◌*◌, ◌<◌, true, false, cond, not, Some, None, Err, List, [], ◌∷◌, ◌++◌, refl, ap, ◌∙◌, arith, lit≤}
 use Rattle.std.specs.FinMap.{get, empty, get-insert, get-empty}
 use Rattle.std.specs.Option.{option_eq}

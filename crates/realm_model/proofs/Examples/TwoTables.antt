@@ -1,4 +1,4 @@
--- An example of two tables of one level: when one is destroyed, the rows of the other stay.
+-- An example of two tables of the same level: when one is destroyed, the rows of the other stay.
 use Rattle.std.proofs.Common.{◌≡◌, ◌+◌, ◌*◌, true, false, Some, None, [], ◌∷◌, refl, ap, ◌∙◌, arith, lit≤}
 use Rattle.std.specs.FinMap.{get}
 use Rattle.std.specs.Option.{option_eq}

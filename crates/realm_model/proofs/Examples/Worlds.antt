@@ -1,4 +1,4 @@
--- The worlds that the examples use, and functions that extract parts of a world.
+-- Worlds that the examples use, functions that extract parts of a world, and lemmas about several events in sequence.
 use Rattle.std.proofs.Common.{◌≡◌, ℕ, true, false, cond, List, [], ◌∷◌, ◌++◌, map, Option, Some, None, Ok, refl, sym, ap, ◌∙◌, subst}
 use Rattle.std.specs.Prelude.{option_map, option_and_then}
 use Rattle.std.specs.List.{list_any}

@@ -22,7 +22,8 @@ data_create rd g ipa source =
       measurement = measurement_after realm.measurement (data_event ipa source.cell.bytes);
     }) ∷ [])))))
 
--- A DELEGATED granule becomes a page of zeros, and the RIPAS stays. RMM 1.0, RMI_DATA_CREATE_UNKNOWN.
+-- A DELEGATED granule becomes a page of a realm, filled with zeros; the RIPAS of its IPA does not change. RMM 1.0,
+-- RMI_DATA_CREATE_UNKNOWN.
 abbrev pub data_create_unknown : Seen → Seen → ℕ → Outcome
 data_create_unknown rd g ipa =
     with_realm rd (λ realm.
@@ -31,7 +32,8 @@ data_create_unknown rd g ipa =
     Ok (Put g.number (held Data rd.number)
     ∷ put_realm rd (record realm { rows = put_row realm.rows 3 ipa (assigned row.ripas g.number) }) ∷ []))))
 
--- A page leaves its realm and is DELEGATED; if it was RAM, it is DESTROYED. RMM 1.0, RMI_DATA_DESTROY.
+-- A page leaves its realm and becomes DELEGATED; if its IPA had the RIPAS RAM, it now has DESTROYED. RMM 1.0,
+-- RMI_DATA_DESTROY.
 abbrev pub data_destroy : Seen → ℕ → Outcome
 data_destroy rd ipa =
     with_realm rd (λ realm.

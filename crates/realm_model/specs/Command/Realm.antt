@@ -14,7 +14,7 @@ use Rattle.realm_model.specs.Machine.{RealmRow, Seen, left, held}
 use Rattle.realm_model.specs.Update.{Outcome, Put}
 use Rattle.realm_model.specs.Command.Check.{check, error_input, error_realm, is_delegated, is_apart_from, is_new, with_realm, put_realm}
 
--- a new realm
+-- a new realm with the given VMID and starting tables
 unfoldable pub new_realm : ℕ → Root → RealmRow
 new_realm vmid root = record {
   state = New;
@@ -26,7 +26,7 @@ new_realm vmid root = record {
   rows = root_rows root.width;
 }
 
--- A granule can be a starting table beside that RD: it is DELEGATED, and another granule.
+-- A granule can be a starting table of the realm with this RD: it is DELEGATED, and is not the RD itself.
 abbrev pub is_start : Seen → Seen → Bool
 is_start rd table = is_delegated table && not (table.number == rd.number)
 
@@ -48,8 +48,8 @@ realm_activate rd =
     check (is_new realm.state) error_realm
     (Ok (put_realm rd (record realm { state = Active }) ∷ [])))
 
--- A realm with no REC and no table below its starting tables is removed; its RD and starting tables are DELEGATED. RMM
--- 1.0, RMI_REALM_DESTROY.
+-- A realm with no REC and no table below its starting tables is removed; its RD and starting tables become DELEGATED.
+-- RMM 1.0, RMI_REALM_DESTROY.
 abbrev pub realm_destroy : Seen → Outcome
 realm_destroy rd =
     with_realm rd (λ realm.

@@ -12,7 +12,8 @@ use Rattle.realm_model.specs.Update.{Outcome, Put, PutByte}
 use Rattle.realm_model.specs.Command.Check.{check, error_input, error_realm, error_rec, error_rtt, is_delegated, are_distinct, is_new}
 use Rattle.realm_model.specs.Command.Check.{is_ready, is_protected, with_realm, with_rec, with_end, with_granule, put_realm, put_rec}
 
--- DELEGATED granules become a REC of a NEW realm and its `aux` auxiliaries. The REC gets the realm's next number.
+-- DELEGATED granules become a REC of a NEW realm and the REC's `aux` auxiliary granules. The REC gets the realm's next
+-- number.
 -- RMM 1.0, RMI_REC_CREATE.
 abbrev pub rec_create : ℕ → Seen → Seen → List Seen → Outcome
 rec_create aux rd g auxiliaries =
@@ -27,7 +28,7 @@ rec_create aux rd g auxiliaries =
       measurement = measurement_after realm.measurement (rec_event realm.next);
     }) ∷ []))))
 
--- A READY REC of an ACTIVE realm runs. RMM 1.0, RMI_REC_ENTER.
+-- A READY REC of an ACTIVE realm becomes RUNNING. RMM 1.0, RMI_REC_ENTER.
 abbrev pub rec_enter : Seen → ℕ → Outcome
 rec_enter rd number =
     with_realm rd (λ realm. with_rec realm number (λ rec.
@@ -35,14 +36,14 @@ rec_enter rd number =
     (check (is_ready rec.state) error_rec
     (Ok (put_rec rd realm number (record rec { state = Running }) ∷ [])))))
 
--- A RUNNING REC stops running. RMM 1.0, REC exit; as a command of its own it is this profile's.
+-- A RUNNING REC becomes READY. RMM 1.0, REC exit; as a command of its own it is this profile's.
 abbrev pub rec_exit : Seen → ℕ → Outcome
 rec_exit rd number =
     with_realm rd (λ realm. with_rec realm number (λ rec.
     check (not (is_ready rec.state)) error_rec
     (Ok (put_rec rd realm number (record rec { state = Ready }) ∷ []))))
 
--- A READY REC is removed; its granules are DELEGATED. Numbers are not used again. RMM 1.0, RMI_REC_DESTROY.
+-- A READY REC is removed; its granules become DELEGATED. Numbers are not used again. RMM 1.0, RMI_REC_DESTROY.
 abbrev pub rec_destroy : Seen → ℕ → Outcome
 rec_destroy rd number =
     with_realm rd (λ realm. with_rec realm number (λ rec.
@@ -50,7 +51,8 @@ rec_destroy rd number =
     (Ok (Put rec.granule left ∷ map (λ a. Put a left) rec.auxiliaries
     ++ put_realm rd (record realm { recs = remove realm.recs number }) ∷ []))))
 
--- A RUNNING REC writes a byte of a page of its realm, under any RIPAS. This profile's own, for guest instructions.
+-- A RUNNING REC writes a byte of a page of its realm, whatever the RIPAS of the IPA. This profile's own, for guest
+-- instructions.
 abbrev pub guest_write : Seen → ℕ → ℕ → ℕ → ℕ → Outcome
 guest_write rd number ipa offset value =
     with_realm rd (λ realm. with_rec realm number (λ rec.

@@ -17,7 +17,7 @@ rtt_create rd g ipa level =
     Ok (Put g.number (held Rtt rd.number)
     ∷ put_realm rd (record realm { rows = with_table realm.rows level ipa g.number above.ripas }) ∷ []))))
 
--- A table with no ASSIGNED and no TABLE entry is removed; its granule is DELEGATED. RMM 1.0, RMI_RTT_DESTROY.
+-- A table with no ASSIGNED and no TABLE entry is removed; its granule becomes DELEGATED. RMM 1.0, RMI_RTT_DESTROY.
 abbrev pub rtt_destroy : Seen → ℕ → ℕ → Outcome
 rtt_destroy rd ipa level =
     with_realm rd (λ realm.

@@ -6,7 +6,7 @@ use Rattle.rmm_model.specs.Machine.{Machine, page_in, with_granule, with_page}
 use Rattle.rmm_model.specs.Rec.{aux_of}
 use Rattle.rmm_model.specs.Walk.{granule_named}
 
--- a granule gets other attributes, and is wiped
+-- the machine after a granule gets the given attributes and is wiped
 abbrev pub with_wiped : Machine → ℕ → RmmGranule → Machine
 with_wiped m granule kept = with_page (with_granule m granule kept) granule zero_page
 
@@ -14,11 +14,11 @@ abbrev pub with_wiped_if : Machine → Option ℕ → RmmGranule → Machine
 with_wiped_if m (Some granule) kept = with_wiped m granule kept
 with_wiped_if m None kept = m
 
--- auxiliary granule k of a REC, if its page names a granule of the machine
+-- the granule number of a REC's auxiliary granule k, if the address that the REC's page has for it is in the machine
 abbrev pub aux_granule : Machine → ℕ → ℕ → Option ℕ
 aux_granule m rec k = granule_named m (aux_of (page_in m rec) k)
 
--- the machine in which the first auxiliary granules of a REC have other attributes, and are wiped
+-- the machine after the first k auxiliary granules of a REC get the given attributes and are wiped
 unfoldable pub with_aux : Machine → ℕ → RmmGranule → ℕ → Machine
 with_aux m rec kept zero = m
 with_aux m rec kept (suc k) = with_wiped_if (with_aux m rec kept k) (aux_granule (with_aux m rec kept k) rec k) kept

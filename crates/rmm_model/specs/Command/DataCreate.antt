@@ -26,13 +26,13 @@ use Rattle.rmm_model.specs.Command.Operand.{host_checks, delegated_checks, rd_ch
 abbrev pub are_flags_valid : RmmSettings → ℕ → Bool
 are_flags_valid s flags = s.ignores_data_flags || nat_le flags 1
 
--- flags, a source page of the host, and a DELEGATED granule
+-- checks that the flags are valid, that the source is a page of the host, and that the new page's granule is DELEGATED
 unfoldable pub source_checks : Machine → ℕ → ℕ → ℕ → List Check
 source_checks m page source flags =
     check FlagsValid [] (not (are_flags_valid m.settings flags)) error_input
     ∷ host_checks SrcAlign SrcBound SrcPas m source ++ delegated_checks DataAlign DataBound DataState m page
 
--- the RIPAS is RAM, if the settings say that it has to be
+-- the RIPAS of an entry is RAM, or the settings allow any RIPAS
 abbrev pub is_ripas_right : RmmSettings → RmmRttEntry → Bool
 is_ripas_right s entry = not s.data_needs_ram || is_ram (ripas_in entry)
 
@@ -42,7 +42,7 @@ vacancy_checks s found entry =
     entry_checks (RealmState ∷ []) found 3 (is_unassigned entry) error_rtt
     ++ check RtteRipas (RtteState ∷ []) (not (is_ripas_right s entry)) (error_rtt found.level) ∷ []
 
--- a protected address of a NEW realm, at which there is an UNASSIGNED entry
+-- checks that a page's IPA is in the protected half of a NEW realm, and has an UNASSIGNED entry of level 3
 unfoldable pub target_checks : Machine → ℕ → ℕ → List Check
 target_checks m rd ipa =
     let realm = realm_at m rd in
@@ -51,11 +51,11 @@ target_checks m rd ipa =
 
 -- ---- the measurement
 
--- the digest of a page, if bit 0 of the flags says that it is measured, and else zeros
+-- the digest of a page if bit 0 of the flags says that the page is measured, otherwise zeros
 unfoldable pub content_digest : HashAlgorithm → ℕ → List ℕ → List ℕ
 content_digest hash flags page = if flags % 2 == 1 then digest hash page else zeros 64
 
--- the measurement of a realm after a page of data
+-- the measurement of a realm, extended by a page of data
 unfoldable pub rim_with_data : RmmRealm → ℕ → ℕ → List ℕ → List ℕ
 rim_with_data realm ipa flags page = extended realm.hash realm.rim (DataExtension ipa flags (content_digest realm.hash flags page))
 

@@ -11,12 +11,12 @@ use Rattle.rmm_model.specs.Machine.{Machine, with_blank}
 use Rattle.rmm_model.specs.Walk.{entry_at, with_entry, memory_below, walk, top}
 use Rattle.rmm_model.specs.Command.Operand.{rd_checks, realm_at, page_checks, entry_checks}
 
--- the RIPAS that a destroyed page leaves: EMPTY remains, and any other becomes DESTROYED
+-- the RIPAS that a destroyed page leaves: it stays EMPTY if it was EMPTY, and otherwise becomes DESTROYED
 abbrev pub left_ripas : RmmRipas → RmmRipas
 left_ripas Empty = Empty
 left_ripas _ = Destroyed
 
--- A page of a realm is removed, and its granule is DELEGATED. RMM 1.0, RMI_DATA_DESTROY.
+-- A page of a realm is removed, and its granule becomes DELEGATED. RMM 1.0, RMI_DATA_DESTROY.
 unfoldable pub data_destroy : ℕ → ℕ → Machine → Command
 data_destroy rd ipa m =
     let realm = realm_at m rd in

@@ -13,12 +13,15 @@ use Rattle.rmm_model.specs.Command.Operand.{rec_checks, rec_at}
 
 -- ---- PSCI. Arm Power State Coordination Interface, return codes
 
+-- the return code SUCCESS
 abbrev pub psci_success : ℕ
 psci_success = 0
 
+-- the return code DENIED, which is -3
 abbrev pub psci_denied : ℕ
 psci_denied = 2 ^ 64 - 3
 
+-- the return code ALREADY_ON, which is -4
 abbrev pub psci_already_on : ℕ
 psci_already_on = 2 ^ 64 - 4
 
@@ -28,13 +31,13 @@ psci_off = 1
 
 -- ---- requests
 
--- a request waits for the host
+-- a PSCI request waits for the host to complete it
 abbrev pub is_pending : PsciRequest → Bool
 is_pending (CpuOn target entry_point context) = true
 is_pending (AffinityInfo target) = true
 is_pending _ = false
 
--- the MPIDR that a request names
+-- the MPIDR that a request names, or 0 if it names none
 abbrev pub target_of : PsciRequest → ℕ
 target_of (CpuOn target entry_point context) = target
 target_of (AffinityInfo target) = target
@@ -45,7 +48,7 @@ abbrev pub can_be_denied : PsciRequest → Bool
 can_be_denied (CpuOn target entry_point context) = true
 can_be_denied _ = false
 
--- the host may answer a request with the status: SUCCESS, or DENIED if it can be denied
+-- the status is one with which the host may answer a request: SUCCESS, or DENIED if the request can be denied
 abbrev pub is_status : PsciRequest → ℕ → Bool
 is_status request status = status == psci_success || (status == psci_denied && can_be_denied request)
 
@@ -60,7 +63,8 @@ is_same_owner (Some a) (Some b) = a == b
 is_same_owner None None = true
 is_same_owner _ _ = false
 
--- checks that a REC's pending request names the target REC, of its realm, and that the status is allowed
+-- checks that a REC's pending request names the target REC, that both RECs belong to one realm, and that the status is
+-- allowed
 unfoldable pub request_checks : Machine → ℕ → RmmRec → ℕ → RmmRec → ℕ → List Check
 request_checks m calling caller target named status =
     check Pending (CallingState ∷ []) (not (is_pending caller.psci)) error_input
@@ -74,11 +78,12 @@ request_checks m calling caller target named status =
 abbrev pub with_rec : Machine → ℕ → RmmRec → Machine
 with_rec m granule rec = with_granule m granule (record (granule_at m granule) { state = IsRec rec })
 
--- the machine in which a REC has an entry point as its pc, and a context in X0
+-- the machine after a REC gets an entry point as its pc, and a context in X0
 abbrev pub with_start : Machine → ℕ → ℕ → ℕ → Machine
 with_start m granule entry_point context = with_word (with_word m granule 31 entry_point) granule 0 context
 
--- the machine after a CPU_ON, if it succeeds, makes its target runnable at the entry point
+-- the machine after the effect of a request on its target: a CPU_ON that succeeds makes the target runnable at the
+-- entry point
 abbrev pub with_target : Machine → ℕ → RmmRec → PsciRequest → Bool → Machine
 with_target m granule rec (CpuOn target entry_point context) true =
     with_start (with_rec m granule (record rec { is_runnable = true })) granule entry_point context

@@ -25,24 +25,25 @@ use Rattle.rmm_model.specs.Command.Operand.{host_checks, delegated_checks}
 
 -- ---- parameters
 
--- the parameters at an address
+-- the realm parameters at an address
 unfoldable pub params_at : Machine → ℕ → RealmParams
 params_at m params = realm_params_in (page_in m (number_of m params))
 
--- breakpoints and watchpoints are at most those of feature register 0, and sve_vl is 0
+-- the parameters of a realm ask for no more breakpoints and watchpoints than feature register 0 has, and their sve_vl
+-- is 0
 abbrev pub fits_features : RmmSettings → RealmParams → Bool
 fits_features s p = nat_le p.num_bps s.bps && nat_le p.num_wps s.wps && p.sve_vl == 0
 
--- The flags are 0, and the RMM supports the IPA width. If the settings check parameters, the breakpoints, the
--- watchpoints and sve_vl fit feature register 0 too.
+-- The flags of the realm parameters are 0, and the RMM supports their IPA width. If the settings check parameters, the
+-- breakpoints, the watchpoints and sve_vl fit feature register 0 too.
 abbrev pub is_supported : RmmSettings → RealmParams → Bool
 is_supported s p = p.flags == 0 && nat_le 32 p.s2sz && nat_le p.s2sz s.s2sz && (not s.checks_params || fits_features s p)
 
--- an address is that of a starting table
+-- one of the starting tables begins at the given address
 abbrev pub is_start_table : RealmParams → ℕ → Bool
 is_start_table p rd = nat_le p.rtt_base rd && nat_lt (rd - p.rtt_base) (p.rtt_num_start * 4096) && (rd - p.rtt_base) % 4096 == 0
 
--- checks that realm parameters are valid and supported, and that the RD is no starting table
+-- checks that realm parameters are valid and supported, and that the RD is not one of the starting tables
 unfoldable pub params_checks : RmmSettings → RealmParams → ℕ → List Check
 params_checks s p rd =
     check ParamsValid (ParamsPas ∷ []) (not (nat_le p.hash_algo 1)) error_input
@@ -53,7 +54,7 @@ params_checks s p rd =
 
 -- ---- starting tables
 
--- each of a number of adjacent granules, from the first on, is DELEGATED
+-- each of a number of adjacent granules, from the given one on, is DELEGATED
 unfoldable pub are_delegated : Machine → ℕ → ℕ → Bool
 are_delegated m first zero = true
 are_delegated m first (suc count) = is_delegated (granule_at m first).state && are_delegated m (first + 1) count
@@ -66,11 +67,11 @@ is_range_inside m base count = is_inside m base && nat_le (number_of m base + co
 unfoldable pub can_start : Machine → RealmParams → Bool
 can_start m p = is_range_inside m p.rtt_base p.rtt_num_start && are_delegated m (number_of m p.rtt_base) p.rtt_num_start
 
--- the VMID is one that the RMM has, and that no realm has
+-- the VMID is in the RMM's range, and no realm has it
 unfoldable pub is_vmid_valid : Machine → ℕ → Bool
 is_vmid_valid m vmid = nat_lt vmid (2 ^ m.settings.vmid_bits) && not (is_vmid_used m vmid)
 
--- starting tables that can be used, and a VMID that is free
+-- checks that the starting tables can be used, and that the VMID is free
 abbrev pub free_checks : Machine → RealmParams → List Check
 free_checks m p =
     check RttState (RttAlign ∷ []) (not (can_start m p)) error_input
@@ -78,10 +79,11 @@ free_checks m p =
 
 -- ---- the new realm
 
+-- the hash algorithm that a code denotes: it is SHA-512 for 1, and SHA-256 for any other code
 abbrev pub hash_of : ℕ → HashAlgorithm
 hash_of code = if code == 1 then Sha512 else Sha256
 
--- the realm that parameters ask for
+-- the new realm that the parameters ask for
 unfoldable pub realm_for : Machine → RealmParams → RmmRealm
 realm_for m p = record {
   state = New;
@@ -96,11 +98,11 @@ realm_for m p = record {
   rec_count = 0;
 }
 
--- entry n of the starting tables of a new realm, counted through all of them
+-- entry n of a new realm's starting tables, with entries numbered across all of the tables
 abbrev pub start_entry : RmmRealm → ℕ → RmmRttEntry
 start_entry realm n = if is_protected realm (n * entry_size realm.start_level) then Unassigned Empty else UnassignedNs
 
--- the page of starting table k
+-- the page of starting table k of a new realm
 unfoldable pub start_page : RmmRealm → ℕ → List ℕ
 start_page realm k = with_words 512 (λ i. entry_word (start_entry realm (k * 512 + i))) zero_page
 
@@ -112,7 +114,7 @@ with_tables m rd realm (suc k) =
 
 -- ---- the command
 
--- A DELEGATED granule becomes the RD of a NEW realm, and DELEGATED granules its starting tables. RMM 1.0,
+-- A DELEGATED granule becomes the RD of a NEW realm, and other DELEGATED granules become its starting tables. RMM 1.0,
 -- RMI_REALM_CREATE.
 unfoldable pub realm_create : ℕ → ℕ → Machine → Command
 realm_create rd params m =

@@ -8,7 +8,7 @@ use Rattle.rmm_model.specs.Machine.{Machine, number_of, page_in, with_blank, wit
 use Rattle.rmm_model.specs.Table.{has_live}
 use Rattle.rmm_model.specs.Command.Operand.{rd_checks, realm_at}
 
--- at least one of a number of adjacent tables, from the first on, has a live entry
+-- at least one of a number of adjacent tables, from the given one on, has a live entry
 unfoldable pub has_live_table : Machine → ℕ → ℕ → Bool
 has_live_table m first zero = false
 has_live_table m first (suc count) = has_live (page_in m first) || has_live_table m (first + 1) count
@@ -22,8 +22,8 @@ unfoldable pub without_tables : Machine → RmmRealm → ℕ → Machine
 without_tables m realm zero = m
 without_tables m realm (suc k) = with_blank (without_tables m realm k) (realm.first_table + k) Delegated
 
--- A realm without RECs and live entries is removed: its RD and its starting tables are DELEGATED, and its VMID is free.
--- RMM 1.0, RMI_REALM_DESTROY.
+-- A realm without RECs or live entries is removed: its RD and its starting tables become DELEGATED, and its VMID
+-- becomes free. RMM 1.0, RMI_REALM_DESTROY.
 unfoldable pub realm_destroy : ℕ → Machine → Command
 realm_destroy rd m =
     let realm = realm_at m rd in

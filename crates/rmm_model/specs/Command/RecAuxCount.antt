@@ -4,7 +4,7 @@ use Rattle.rmm_model.specs.Check.{Command, success}
 use Rattle.rmm_model.specs.Machine.{Machine}
 use Rattle.rmm_model.specs.Command.Operand.{rd_checks}
 
--- The number of auxiliary granules of a realm's RECs. RMM 1.0, RMI_REC_AUX_COUNT.
+-- The number of auxiliary granules that each REC of a realm needs is returned. RMM 1.0, RMI_REC_AUX_COUNT.
 unfoldable pub rec_aux_count : ℕ → Machine → Command
 rec_aux_count rd m = record {
   checks = rd_checks m rd;

@@ -20,7 +20,7 @@ use Rattle.rmm_model.specs.Command.Operand.{host_checks, delegated_checks, rd_ch
 
 -- ---- auxiliary granules
 
--- each of a number of consecutive numbers, from `i` on, passes a test
+-- each of `count` consecutive numbers, from `i` on, passes a test
 unfoldable pub all_from : (ℕ → Bool) → ℕ → ℕ → Bool
 all_from test i zero = true
 all_from test i (suc count) = test i && all_from test (i + 1) count
@@ -29,15 +29,15 @@ all_from test i (suc count) = test i && all_from test (i + 1) count
 abbrev pub all_aux : (ℕ → Bool) → List ℕ → ℕ → Bool
 all_aux test page count = all_from (λ k. test (aux_in page k)) 0 count
 
--- auxiliary granule k is neither the REC nor one before it
+-- auxiliary granule k is neither the REC nor one of the auxiliary granules before it
 abbrev pub is_apart : ℕ → List ℕ → ℕ → Bool
 is_apart rec page k = not (aux_in page k == rec) && all_aux (λ address. not (address == aux_in page k)) page k
 
--- an address is that of a DELEGATED granule of the machine
+-- an address is in a DELEGATED granule of the machine
 abbrev pub can_be_aux : Machine → ℕ → Bool
 can_be_aux m address = is_inside m address && is_delegated (state_at m address)
 
--- checks that auxiliary granules have the required number, are DELEGATED, and differ from each other and the REC
+-- checks that the auxiliary granules are as many as required, are DELEGATED, and differ from each other and the REC
 unfoldable pub aux_checks : Machine → List ℕ → ℕ → List Check
 aux_checks m page rec =
     check NumAux (ParamsPas ∷ []) (not (num_aux_in page == m.settings.aux)) error_input
@@ -48,7 +48,7 @@ aux_checks m page rec =
 
 -- ---- the new REC
 
--- checks that a NEW realm can have one more REC, and that the MPIDR is valid and that of the next REC
+-- checks that a realm is NEW and can have one more REC, and that the MPIDR is valid and has the next REC's number
 unfoldable pub number_checks : RmmSettings → List ℕ → RmmRealm → List Check
 number_checks s page realm =
     check ParamsValid (ParamsPas ∷ []) (not (is_mpidr (mpidr_in page))) error_input
@@ -64,11 +64,11 @@ rec_word page k =
     (if k == 31 then pc_in page else
     (if nat_le 32 k then aux_in page (k - 32) else 0))
 
--- the page of a new REC
+-- the page of a new REC, given the page of its parameters
 unfoldable pub rec_page : List ℕ → List ℕ
 rec_page page = with_words 48 (rec_word page) zero_page
 
--- the machine after a granule becomes a new REC whose owner is the given RD
+-- the machine after a granule becomes a new REC of the realm with the given RD
 abbrev pub with_created_rec : Machine → ℕ → ℕ → List ℕ → Machine
 with_created_rec m rd rec page =
     with_page (with_granule m rec (of_realm rd (IsRec (new_rec (is_runnable_in page) (mpidr_in page))))) rec (rec_page page)
@@ -79,7 +79,8 @@ with_one_more s realm page = record realm { rim = rim_with_rec s realm page; nex
 
 -- ---- the command
 
--- A DELEGATED granule becomes a REC of a NEW realm, and DELEGATED granules its auxiliary ones. RMM 1.0, RMI_REC_CREATE.
+-- A DELEGATED granule becomes a REC of a NEW realm, and other DELEGATED granules become its auxiliary granules.
+-- RMM 1.0, RMI_REC_CREATE.
 unfoldable pub rec_create : ℕ → ℕ → ℕ → Machine → Command
 rec_create rd rec params m =
     let page = page_in m (number_of m params) in

@@ -10,7 +10,7 @@ use Rattle.rmm_model.specs.Rec.{is_running}
 use Rattle.rmm_model.specs.Command.Auxiliary.{with_aux}
 use Rattle.rmm_model.specs.Command.Operand.{rec_checks, rec_at}
 
--- a realm that has one REC less
+-- the realm after its number of RECs drops by one
 abbrev pub with_one_less : RmmRealm → RmmRealm
 with_one_less realm = record realm { rec_count = realm.rec_count - 1 }
 
@@ -18,12 +18,13 @@ abbrev pub without_rec_of : Machine → ℕ → Option RmmRealm → Machine
 without_rec_of m rd (Some realm) = with_granule m rd (of_no_realm (Rd (with_one_less realm)))
 without_rec_of m rd None = m
 
--- the machine in which the realm with the given RD, if any, has one REC less
+-- the machine after the number of RECs of the realm with the given RD, if any, drops by one
 abbrev pub without_rec : Machine → Option ℕ → Machine
 without_rec m (Some rd) = without_rec_of m rd (realm_of (granule_at m rd).state)
 without_rec m None = m
 
--- A REC that does not run is removed, and it and its auxiliary granules are DELEGATED. RMM 1.0, RMI_REC_DESTROY.
+-- A REC that is not RUNNING is removed, and its granule and auxiliary granules become DELEGATED. RMM 1.0,
+-- RMI_REC_DESTROY.
 unfoldable pub rec_destroy : ℕ → Machine → Command
 rec_destroy rec m =
     let granule = number_of m rec in

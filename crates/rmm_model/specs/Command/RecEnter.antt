@@ -46,15 +46,16 @@ use Rattle.rmm_model.specs.Command.RecCreate.{all_from}
 
 -- ---- realms of RECs
 
+-- the realm with the given RD, if any
 abbrev pub realm_by : Machine → Option ℕ → Option RmmRealm
 realm_by m (Some rd) = realm_of (granule_at m rd).state
 realm_by m None = None
 
--- the realm that owns a granule
+-- the realm that owns a granule, if any
 abbrev pub owner_realm : Machine → ℕ → Option RmmRealm
 owner_realm m g = realm_by m (granule_at m g).owner
 
--- the state of a realm; if there is none it counts as NEW
+-- the state of a realm; NEW if there is no realm
 abbrev pub state_of : Option RmmRealm → RmmRealmState
 state_of (Some realm) = realm.state
 state_of None = New
@@ -67,7 +68,7 @@ abbrev pub with_realm_off : Machine → ℕ → Option RmmRealm → Machine
 with_realm_off m rd (Some realm) = with_granule m rd (of_no_realm (Rd (record realm { state = IsSystemOff })))
 with_realm_off m rd None = m
 
--- the machine in which the realm with the given RD, if any, is SYSTEM_OFF
+-- the machine after the realm with the given RD, if any, becomes SYSTEM_OFF
 abbrev pub with_system_off : Machine → Option ℕ → Machine
 with_system_off m (Some rd) = with_realm_off m rd (realm_of (granule_at m rd).state)
 with_system_off m None = m
@@ -84,16 +85,16 @@ unfoldable pub with_copied : Machine → ℕ → ℕ → ℕ → ℕ → ℕ →
 with_copied m from first to place count =
     with_page m to (with_words_from place count (λ i. word_of_page (page_in m from) (first + (i - place))) (page_in m to))
 
--- general-purpose registers 0 to 30 of a REC are those of a run page. RMM 1.0, RmiRecEnter.gprs.
+-- the machine after a REC gets general-purpose registers 0 to 30 from a run page. RMM 1.0, RmiRecEnter.gprs.
 abbrev pub with_gprs : Machine → ℕ → ℕ → Machine
 with_gprs m g page = with_copied m page 64 g 0 31
 
--- the machine after a REC gets the GIC fields of a run page, if the settings check them. RMM 1.0,
+-- the machine after the GIC fields of a run page are copied to a REC, if the settings enable GIC checks. RMM 1.0,
 -- RmiRecEnter.gicv3_hcr, gicv3_lrs.
 unfoldable pub with_gic : Machine → ℕ → ℕ → Machine
 with_gic m g page = if m.settings.checks_gic then with_copied m page 96 g 192 17 else m
 
--- the machine after a run page gets the GIC fields of a REC, if the settings check them. RMM 1.0,
+-- the machine after the GIC fields of a REC are copied to a run page, if the settings enable GIC checks. RMM 1.0,
 -- RmiRecExit.gicv3_hcr, gicv3_lrs.
 unfoldable pub with_exit_gic : Machine → ℕ → ℕ → Machine
 with_exit_gic m g page = if m.settings.checks_gic then with_copied m g 192 page 352 17 else m
@@ -104,12 +105,13 @@ with_exit_gic m g page = if m.settings.checks_gic then with_copied m g 192 page 
 unfoldable pub with_exit_words : Machine → ℕ → RecExit → Machine
 with_exit_words m page exit = with_page m page (with_words_from 256 256 (exit_word exit) (page_in m page))
 
--- an exit of a REC is written into the run page at an address, if that is a page of the host
+-- the machine after a REC's exit is written to the run page at an address, if that page is the host's
 abbrev pub with_exit : Machine → ℕ → ℕ → RecExit → Machine
 with_exit m g address exit =
     if is_host_page m address then with_exit_gic (with_exit_words m (number_of m address) exit) g (number_of m address) else m
 
--- A REC leaves: it is READY, and its exit is in its run page. RMM 1.0, RmiRecExit.
+-- The machine after a REC exits: the REC is READY, and its run page has the exit if that page is the host's. RMM 1.0,
+-- RmiRecExit.
 unfoldable pub after_exit : Machine → ℕ → RecExit → LastExit → Machine
 after_exit m g exit last =
     let rec = rec_in m g in
@@ -117,7 +119,7 @@ after_exit m g exit last =
 
 -- ---- entries
 
--- the result of a change of RIPAS: the address up to which it came, and whether the host rejected the rest
+-- the result of a RIPAS change: the address that the change reached, and whether the host rejected the rest
 abbrev pub ripas_result : RipasRequest → ℕ → StepResult
 ripas_result asked flags =
     if rejects_ripas flags && is_ram asked.ripas && not (asked.base == asked.top) then Rejected asked.base else Accepted asked.base
@@ -127,7 +129,7 @@ abbrev pub emulated : GuestStep → ℕ → StepResult
 emulated (Read ipa size) gpr0 = IsRead (low_bytes size gpr0)
 emulated _ gpr0 = Done
 
--- the step that made the last exit ends with a result
+-- the machine after the step that caused the last exit ends with a result
 abbrev pub with_step_ended : Machine → ℕ → StepResult → Machine
 with_step_ended m g r = with_result (past_step m g) g r
 
@@ -135,7 +137,7 @@ abbrev pub with_psci_result : Machine → ℕ → PsciRequest → Machine
 with_psci_result m g (Complete value) = with_result (with_rec m g (record (rec_in m g) { psci = NoRequest })) g (Psci value)
 with_psci_result m g _ = m
 
--- The guest gets the host's answer to its last exit. RMM 1.0, RmiRecEnter.
+-- The machine after the guest gets the host's answer to its last exit. RMM 1.0, RmiRecEnter.
 abbrev pub with_host_answer : Machine → ℕ → LastExit → ℕ → ℕ → Machine
 with_host_answer m g RipasChange page flags =
     with_result (with_rec m g (record (rec_in m g) { ripas = no_request })) g (ripas_result (rec_in m g).ripas flags)
@@ -147,11 +149,11 @@ with_host_answer m g EmulatableAbort page flags =
     (if emulates_mmio flags then with_step_ended m g (emulated (first_step m g) (entry_gpr_in (page_in m page) 0)) else m)
 with_host_answer m g Other page flags = with_psci_result m g (rec_in m g).psci
 
--- a REC that runs, with the address of its run page
+-- the attributes of a REC once it runs, with the address of its run page
 abbrev pub running_at : Attributes → ℕ → Attributes
 running_at rec address = record rec { state = Running; run = address; exit = Other; result_count = 0 }
 
--- A REC is entered.
+-- The machine after a REC is entered and its guest gets the host's answer to the last exit.
 unfoldable pub after_entry : Machine → ℕ → ℕ → ℕ → Machine
 after_entry m g address flags =
     let page = number_of m address in
@@ -159,7 +161,7 @@ after_entry m g address flags =
 
 -- ---- steps
 
--- the outcome of a guest's step: a result, an exit, or a guest that spins
+-- the outcome of a guest's step: a result, an exit, or a guest that spins until it is interrupted
 unfoldable pub step_outcome : Machine → RmmRealm → ℕ → ℕ → GuestStep → StepOutcome
 step_outcome m realm g flags (Write ipa value size) = tried (access m realm ipa true size (low_bytes size value))
 step_outcome m realm g flags (Read ipa size) = read_outcome m ipa size (access m realm ipa false size 0)
@@ -187,14 +189,14 @@ abbrev pub is_done : LastExit → Bool
 is_done SystemRegister = true
 is_done _ = false
 
--- the machine after a guest passes a step and gets its result, if any. A step with a SYNC exit is tried again, unless
--- it writes a system register.
+-- the machine after a guest goes past a step and gets the step's result, if any. A step with a SYNC exit is tried
+-- again, unless it writes a system register.
 abbrev pub with_step_passed : Machine → ℕ → StepOutcome → Machine
 with_step_passed m g (IsResult r) = with_result (past_step m g) g r
 with_step_passed m g (IsExit exit last) = if is_sync exit.reason && not (is_done last) then m else past_step m g
 with_step_passed m g Spins = past_step m g
 
--- the outcome if a guest has no step to perform: an IRQ exit, as by a timer of the host's
+-- the outcome if a guest has no step to perform: an IRQ exit, as if by a timer of the host
 abbrev pub no_step : StepOutcome
 no_step = IsExit (only_reason Irq) Other
 
@@ -207,7 +209,7 @@ after_step_in m (Some realm) g flags =
     with_step_passed (after_step m realm g (first_step m g) (step_outcome m realm g flags (first_step m g))) g (step_outcome m realm g flags (first_step m g))
 after_step_in m None g flags = m
 
--- The outcome of the first step of a guest; an IRQ exit if it has none.
+-- The outcome of the first step in a guest's ring, or an IRQ exit if the ring is empty.
 unfoldable pub first_step_outcome : Machine → ℕ → ℕ → StepOutcome
 first_step_outcome m g flags = if (rec_in m g).step_count == 0 then no_step else step_outcome_in m (owner_realm m g) g flags
 
@@ -227,11 +229,11 @@ after_steps m g flags (suc count) = continued (first_step_outcome m g flags) (af
 
 -- ---- the command
 
--- the host sets EMUL_MMIO, but the last exit was no emulatable abort
+-- the host sets EMUL_MMIO, but the last exit was not an emulatable abort
 abbrev pub is_no_mmio : Attributes → ℕ → Bool
 is_no_mmio rec flags = emulates_mmio flags && not (is_emulatable rec.exit)
 
--- the settings check the GIC fields, and gicv3_hcr or a list register of a run page is invalid
+-- the settings enable GIC checks, and gicv3_hcr or a list register of a run page is invalid
 unfoldable pub is_gic_wrong : RmmSettings → List ℕ → Bool
 is_gic_wrong s page = s.checks_gic && not (is_gicv3_hcr (gicv3_hcr_in page) && all_from (is_gicv3_lr s.lrs page) 0 16)
 
@@ -247,11 +249,12 @@ enter_checks state rec flags is_wrong =
     ∷ check RecGicv3 (RecState ∷ RunPas ∷ []) is_wrong error_rec
     ∷ check RecPsci (RecState ∷ []) (is_pending rec.psci) error_rec ∷ []
 
--- RMI_SUCCESS comes at the REC's exit; until then the call goes on
+-- the answer to an RMI_REC_ENTER: it is RMI_SUCCESS once the REC has exited, and until then the call goes on
 abbrev pub entered_answer : Bool → SmcResult
 entered_answer leaves = if leaves then success else only RunsOn
 
--- A REC runs until its guest causes an exit. RMM 1.0, RMI_REC_ENTER.
+-- A REC runs until its guest causes an exit or spins; if the guest's steps end before that, an IRQ exit follows. RMM
+-- 1.0, RMI_REC_ENTER.
 unfoldable pub rec_enter : ℕ → ℕ → Machine → Command
 rec_enter rec address m =
     let g = number_of m rec in
@@ -266,12 +269,12 @@ rec_enter rec address m =
 
 -- ---- interrupts
 
--- a REC is RUNNING
+-- there is a REC at the address, and it is RUNNING
 abbrev pub runs_at : Machine → ℕ → Bool
 runs_at m address = is_rec_named m address && is_running (rec_at m address).state
 
--- An interrupt for the host makes a RUNNING REC exit. The answer is RMI_ERROR_INPUT if its run page is no longer the
--- host's.
+-- An interrupt for the host makes the REC at an address exit if it is RUNNING; otherwise nothing changes, and there is
+-- no answer. The answer is RMI_ERROR_INPUT if the REC's run page is no longer the host's.
 unfoldable pub interrupted : Machine → ℕ → Option Word × Machine
 interrupted m address =
     if runs_at m address then

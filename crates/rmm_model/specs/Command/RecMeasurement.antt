@@ -6,7 +6,7 @@ use Rattle.rmm_model.specs.declared.measure.Extension.TheVariants.{Rec as RecExt
 use Rattle.rmm_model.specs.Measure.{extended, rec_digest}
 use Rattle.rmm_model.specs.declared.realm.RmmRealm.{RmmRealm}
 
--- a REC is measured if it is runnable, or if the settings say that all are
+-- a REC is to be measured: it is runnable, or the settings say that all RECs are measured
 abbrev pub is_rec_measured : RmmSettings → List ℕ → Bool
 is_rec_measured s page = is_runnable_in page || s.measures_all_recs
 

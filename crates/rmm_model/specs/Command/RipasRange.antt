@@ -1,5 +1,5 @@
--- The change of the RIPAS of a range, within the entries of one table, and the checks of the range. RMM 1.0,
--- RMI_RTT_INIT_RIPAS and RMI_RTT_SET_RIPAS.
+-- Changes to the RIPAS of a range of IPAs in one table, and the checks of the range. RMM 1.0, RMI_RTT_INIT_RIPAS and
+-- RMI_RTT_SET_RIPAS.
 use Rattle.std.specs.Prelude.{ℕ, ◌+◌, ◌-◌, ◌/◌, not, nat_le, List, [], ◌∷◌, if◌then◌else◌}
 use Rattle.rmm_model.specs.declared.condition.Condition.{Condition}
 use Rattle.rmm_model.specs.declared.condition.Condition.TheVariants.{Size, BaseAlign, RtteState, NoProgress}
@@ -20,7 +20,7 @@ use Rattle.rmm_model.specs.Command.Operand.{is_multiple}
 abbrev pub size_checks : ℕ → ℕ → List Check
 size_checks base top = check Size [] (nat_le top base) error_input ∷ []
 
--- the range begins with a whole entry that can be changed
+-- checks that a range begins with a whole entry that can be changed
 abbrev pub progress_checks : List Condition → Machine → Changeable → Walked → ℕ → ℕ → List Check
 progress_checks after m changeable found base top =
     check BaseAlign after (not (is_multiple base (entry_size found.level))) (error_rtt found.level)
@@ -29,14 +29,15 @@ progress_checks after m changeable found base top =
 
 -- ---- the change
 
--- the number of whole entries from address `base` to `top`, up to the end of one table
+-- the number of a table's entries, from IPA `base` on, that are wholly below IPA `top`
 unfoldable pub entries_below : Walked → ℕ → ℕ → ℕ
 entries_below found base top =
     let rest = 512 - entry_index found.level base in
     let whole = (top - base) / entry_size found.level in
     if nat_le whole rest then whole else rest
 
--- the number of these entries before the first that cannot be changed
+-- the number of a table's entries, from IPA `base` on, that are wholly below `top` and before the first unchangeable
+-- entry
 unfoldable pub change_count : Machine → Changeable → Walked → ℕ → ℕ → ℕ
 change_count m changeable found base top =
     let first = entry_index found.level base in
@@ -48,6 +49,6 @@ with_ripas_from m table first ripas count =
     let page = page_in m table in
     with_page m table (with_words_from first count (λ i. entry_word (entry_with_ripas ripas (entry_in_page page i))) page)
 
--- the machine after `count` entries of a table, from address `base` on, get a new RIPAS
+-- the machine after `count` entries of a table, from IPA `base` on, get a new RIPAS
 abbrev pub with_ripas : Machine → Walked → ℕ → RmmRipas → ℕ → Machine
 with_ripas m found base ripas count = with_ripas_from m found.table (entry_index found.level base) ripas count

@@ -16,7 +16,8 @@ use Rattle.rmm_model.specs.Table.{has_live}
 use Rattle.rmm_model.specs.Walk.{entry_at, with_entry, table_below, walk, top}
 use Rattle.rmm_model.specs.Command.Operand.{rd_checks, realm_at, ipa_checks, entry_checks}
 
--- the entry that a destroyed table leaves
+-- the entry that replaces a destroyed table: it is UNASSIGNED with RIPAS DESTROYED if the IPA is protected, and
+-- otherwise UNASSIGNED_NS
 abbrev pub left_entry : RmmRealm → ℕ → RmmRttEntry
 left_entry realm ipa = if is_protected realm ipa then Unassigned Destroyed else UnassignedNs
 
@@ -26,7 +27,7 @@ unused_checks m found parent ipa level =
     entry_checks [] found (level - 1) (is_some (table_below m parent)) (error_rtt_top (top m found ipa))
     ++ check RttLive (RtteState ∷ []) (has_live (page_in m (unwrap_or (table_below m parent) 0))) (error_rtt_top (top m found ipa) level) ∷ []
 
--- A table without live entries is removed, and its granule is DELEGATED. RMM 1.0, RMI_RTT_DESTROY.
+-- A table without live entries is removed, and its granule becomes DELEGATED. RMM 1.0, RMI_RTT_DESTROY.
 unfoldable pub rtt_destroy : ℕ → ℕ → ℕ → Machine → Command
 rtt_destroy rd ipa level m =
     let realm = realm_at m rd in

@@ -13,18 +13,18 @@ use Rattle.rmm_model.specs.Table.{entry_in_page, has_parts}
 use Rattle.rmm_model.specs.Walk.{entry_at, with_entry, table_below, walk}
 use Rattle.rmm_model.specs.Command.Operand.{rd_checks, realm_at, is_multiple, ipa_checks, entry_checks}
 
--- an entry fits one level above: if it is a mapping, its address is aligned to that level
+-- an entry can be moved one level up: if it is a mapping, its address is aligned to an entry of the level above
 abbrev pub is_aligned_above : RmmRttEntry → ℕ → Bool
 is_aligned_above entry level = not (is_mapping entry) || is_multiple (descriptor_of entry / 4096 * 4096) (entry_size (level - 1))
 
--- A table is homogeneous: its entries are the children of its first entry, moved one level up. That entry leads to no
--- table, and fits the level above.
+-- A table is homogeneous: its entries are the children of one entry, which is the table's first entry moved one level
+-- up. That entry leads to no table, and can be moved up.
 unfoldable pub is_homogeneous : List ℕ → ℕ → Bool
 is_homogeneous page level =
     let first = entry_in_page page 0 in
     not (is_table first) && is_aligned_above first level && has_parts page first level 512 0
 
--- the fold of a table would make a block at a level that does not allow blocks
+-- folding a table would create a block at a level that does not allow blocks
 abbrev pub is_block_too_high : RmmSettings → List ℕ → ℕ → Bool
 is_block_too_high s page level = is_mapping (entry_in_page page 0) && nat_le level s.block_level
 

@@ -16,11 +16,12 @@ use Rattle.rmm_model.specs.Walk.{walk}
 use Rattle.rmm_model.specs.Command.Operand.{rd_checks, realm_at, is_multiple, new_checks}
 use Rattle.rmm_model.specs.Command.RipasRange.{size_checks, progress_checks, change_count, with_ripas}
 
--- the entries that become RAM: UNASSIGNED ones, except DESTROYED ones if the settings stop there
+-- the kinds of entries that become RAM: they are UNASSIGNED, and may have RIPAS DESTROYED unless the settings exclude
+-- it
 abbrev pub init_changeable : RmmSettings → Changeable
 init_changeable s = record { assigned = false; destroyed = not s.stops_at_destroyed }
 
--- a range of pages in the protected half of a NEW realm
+-- checks that a range consists of pages in the protected half of a NEW realm
 unfoldable pub range_checks : RmmRealm → ℕ → ℕ → List Check
 range_checks realm base top =
     check BaseGranAlign [] (not (is_multiple base 4096)) error_input
@@ -29,7 +30,7 @@ range_checks realm base top =
     ∷ check TopBound (RdState ∷ Size ∷ []) (not (is_protected realm (top - 4096))) error_input
     ∷ new_checks realm
 
--- the RIM, extended once for each of k adjacent entries, from address `base` on, that become RAM
+-- the RIM, extended once for each of k adjacent entries, from IPA `base` on, that become RAM
 unfoldable pub rim_with_ripas : HashAlgorithm → List ℕ → ℕ → ℕ → ℕ → List ℕ
 rim_with_ripas hash rim size base zero = rim
 rim_with_ripas hash rim size base (suc k) = extended hash (rim_with_ripas hash rim size base k) (RipasExtension (base + k * size) (base + (k + 1) * size))

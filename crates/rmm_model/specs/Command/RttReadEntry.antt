@@ -7,7 +7,7 @@ use Rattle.rmm_model.specs.Machine.{Machine}
 use Rattle.rmm_model.specs.Walk.{entry_at, walk}
 use Rattle.rmm_model.specs.Command.Operand.{rd_checks, realm_at, ipa_checks}
 
--- The entry at which a walk towards a level ends. RMM 1.0, RMI_RTT_READ_ENTRY.
+-- The entry at which a walk towards a level ends is returned. RMM 1.0, RMI_RTT_READ_ENTRY.
 unfoldable pub rtt_read_entry : ℕ → ℕ → ℕ → Machine → Command
 rtt_read_entry rd ipa level m =
     let realm = realm_at m rd in

@@ -15,17 +15,18 @@ use Rattle.rmm_model.specs.Command.Operand.{rd_checks, realm_at, rec_checks, rec
 use Rattle.rmm_model.specs.Command.PsciComplete.{is_same_owner, with_rec}
 use Rattle.rmm_model.specs.Command.RipasRange.{size_checks, progress_checks, change_count, with_ripas}
 
--- the entries that a RIPAS request changes: UNASSIGNED and ASSIGNED ones, with DESTROYED ones if it says so
+-- the kinds of entries that a RIPAS request changes: they are UNASSIGNED or ASSIGNED, and may have RIPAS DESTROYED if
+-- the request allows it
 abbrev pub set_changeable : RipasRequest → Changeable
 set_changeable request = record { assigned = true; destroyed = request.changes_destroyed }
 
--- A range ends at or below the top of a REC's RIPAS request. If the REC is one of the realm, a range that is not empty
--- begins at a protected address. What a guest asks for is protected, so each address of such a range is.
+-- A range ends at or below the top of a REC's RIPAS request; if it is not empty and the REC is the realm's, it begins
+-- at a protected address. What a guest asks for is protected, so each address of such a range is.
 abbrev pub is_within : RmmRealm → RmmRec → Bool → ℕ → ℕ → Bool
 is_within realm asking is_owner base top =
     nat_le top asking.ripas.top && (not is_owner || (nat_le top base || is_protected realm base))
 
--- checks that a REC of the realm is not RUNNING, and that the range continues its RIPAS request
+-- checks that a REC belongs to the realm and is not RUNNING, and that a range continues the REC's RIPAS request
 unfoldable pub ripas_request_checks : RmmRealm → RmmRec → Bool → ℕ → ℕ → List Check
 ripas_request_checks realm asking is_owner base top =
     check TopGranAlign [] (not (is_multiple top 4096)) error_input
@@ -34,7 +35,7 @@ ripas_request_checks realm asking is_owner base top =
     ∷ check BaseBound (RecState ∷ []) (not (base == asking.ripas.base)) error_input
     ∷ check TopBound (RecState ∷ []) (not (is_within realm asking is_owner base top)) error_input ∷ []
 
--- the REC at address `rec` is one of the realm whose RD is at address `rd`
+-- the REC at address `rec` belongs to the realm whose RD is at address `rd`
 abbrev pub is_rec_of : Machine → ℕ → ℕ → Bool
 is_rec_of m rd rec = is_same_owner (granule_at m (number_of m rec)).owner (Some (number_of m rd))
 

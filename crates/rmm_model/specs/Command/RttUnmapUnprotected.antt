@@ -10,11 +10,11 @@ use Rattle.rmm_model.specs.Machine.{Machine}
 use Rattle.rmm_model.specs.Walk.{entry_at, with_entry, walk, top}
 use Rattle.rmm_model.specs.Command.Operand.{rd_checks, realm_at, unprotected_checks, entry_checks}
 
--- RMI_ERROR_RTT with the level of a table, and the next live entry in X1
+-- RMI_ERROR_RTT with the level of a table, and in X1 the IPA of the next live entry
 abbrev pub error_rtt_next : ℕ → ℕ → SmcResult
 error_rtt_next top level = record { word = ErrorRtt level; x1 = top; x2 = 0; x3 = 0; x4 = 0 }
 
--- a walk reaches a level, to an ASSIGNED_NS entry
+-- checks that a walk reached a level, and that the entry there is ASSIGNED_NS
 abbrev pub mapped_checks : Machine → Walked → ℕ → ℕ → List Check
 mapped_checks m found ipa level = entry_checks [] found level (is_assigned_ns (entry_at m found ipa)) (error_rtt_next (top m found ipa))
 

@@ -7,7 +7,7 @@ use Rattle.rmm_model.specs.declared.condition.Condition.TheVariants.{Version}
 use Rattle.rmm_model.specs.Check.{Command, check}
 use Rattle.rmm_model.specs.Machine.{Machine}
 
--- a word with the lowest and the highest version, both 1.0
+-- the answer with a result word, and with 1.0 as both the lowest and the highest version
 abbrev pub versions : Word → SmcResult
 versions word = record { word = word; x1 = 0x10000; x2 = 0x10000; x3 = 0; x4 = 0 }
 

@@ -1,4 +1,4 @@
-//! Runs a plan on a host with a randomly drawn schedule.
+//! Runs a plan on a host, with a schedule that is drawn at random.
 ghost use Rattle.std.specs.Prelude.{◌≡◌, [], OnOk, IfSome, IfNone};
 ghost use Rattle.rand_core.specs.Stream.{next_u32};
 ghost use Rattle.realm_plan.specs.PlanView.{plan_view};
@@ -68,8 +68,8 @@ fn go_on_drawn<S: PageStore, R: Rng>(
     Ok(())
 }
 
-/// Runs a plan on a host in a schedule that is drawn at random. The build of each turn is drawn from those that have a
-/// step left, until none has one. The choices are then those of the whole schedule, and the outcome of each step is
+/// Runs a plan on a host, with a schedule that is drawn at random. The build of each turn is drawn from those that have
+/// a step left, until none has one. The choices are then those of the whole schedule, and the outcome of each step is
 /// recorded. The one error is that allocation failed; the run is then cut short.
 pub fn run_drawn<S: PageStore, R: Rng>(
     host: &mut Host<S>,

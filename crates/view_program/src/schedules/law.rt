@@ -1,4 +1,4 @@
-//! Theorems on the schedules of a plan, and on their outcomes.
+//! Theorems about the schedules of a plan, and about their outcomes.
 ghost use Rattle.std.specs.Prelude.{◌≡◌, ◌↔◌, ℕ, Bool, true, List, [], length};
 ghost use Rattle.host_ledger.specs.View.{HostView};
 ghost use Rattle.realm_plan.specs.Plan.{Plan};
@@ -30,7 +30,7 @@ pub fn all_schedules_are_counted()
         → IsNumberOf (IsSchedule (by_turns plan) []) outcomes.steps.schedule_count }
 {}
 
-/// Proves that each run with builds chosen turn by turn is a run of the plan whose `order` is the chosen schedule.
+/// Proves that a run whose builds are chosen turn by turn is a run of the plan with the chosen schedule as its `order`.
 pub fn a_run_is_one_of_the_plan()
     ensures { (plan : Plan) (host : HostView) (choices : List Choice) (to : HostView) (ends : List EndOfStep)
         → IsChosenRun plan host choices to ends

@@ -38,7 +38,7 @@ pub(crate) fn builds_left(plan: &Plan, places: &[PlanCursor; 8]) -> [bool; 8]
     left
 }
 
-/// Finds the lowest-numbered build that has a step left.
+/// Finds the lowest-numbered build that has a step left, if there is one.
 #[tactic(auto, unfolding(crate::specs::Chosen::lowest_of))]
 pub(crate) fn lowest_of(left: &[bool; 8]) -> Option<usize>
     ensures { result ≡ lowest_of left.now }

@@ -1,11 +1,12 @@
 //! Counts of step outcomes and of final host maps over many runs of a plan.
 use plan_states::{PathTally, StepOutcomes};
 
-/// Counts of step outcomes and of final host maps, over randomly drawn runs of a plan. Outcomes are in the sequence in
-/// which they first occurred.
+/// Counts of step outcomes and of final host maps, over runs of a plan with randomly drawn schedules. Outcomes are in
+/// the sequence in which they first occurred.
 pub struct Totals {
     pub steps: StepOutcomes,
-    /// For each final map of the host, the number of runs that ended with it.
+    /// For each final map of the host, the number of runs that ended with it, and the schedule of the first of these
+    /// runs.
     pub maps: Vec<PathTally<String>>,
 }
 

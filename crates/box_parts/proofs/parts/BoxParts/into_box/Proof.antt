@@ -1,4 +1,4 @@
--- A proof that `BoxParts::into_box` meets its contract: the ownership of the parts passes to `from_raw`.
+-- A proof that `BoxParts::into_box` meets its contract: the returned box owns what the parts owned.
 use mathlib.Core.Path.{◌≡◌, refl, sym, subst, ap}
 use mathlib.Core.List.{List, [], ◌∷◌, ◌++◌}
 use lib.Dec.{T}

@@ -1,4 +1,4 @@
--- A proof that `HeldHost::into_parts` meets its contract: the parts own the handle's host.
+-- A proof that `HeldHost::into_parts` meets its contract: the returned parts own the host.
 use Rattle.std.proofs.Common.{◌≡◌, List, [], ◌∷◌, ◌++◌, refl, sym, subst}
 use mir.Val.{Val, vptr}
 use base.Logic.{SProp, ent, emp, id⊢}
