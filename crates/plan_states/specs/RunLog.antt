@@ -1,4 +1,5 @@
--- The conditions that the log of the turns run along a state graph is correct, and that it has a turn for each edge.
+-- Correctness and completeness of a run log: each logged turn is a turn of the plan, and each edge of the state graph
+-- has its logged turn.
 use Rattle.std.specs.Prelude.{◌≡◌, ◌<◌, ◌+◌, ℕ, List, [], All, map, length, Option, Some, Vec, vec_items, option_and_then, slice_get, slice_index_or}
 use Rattle.std.specs.declared.alloc.Global.{Global}
 use Rattle.std.specs.declared.string.String.{String}

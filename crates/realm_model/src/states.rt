@@ -1,4 +1,4 @@
-//! States of granules, realms, RECs and table entries.
+//! States of granules, realms, RECs, table entries and IPAs.
 
 /// The state of a granule. RMM 1.0, Granule state.
 #[derive(Clone, Copy, PartialEq, Eq)]

@@ -1,5 +1,4 @@
--- Lemmas about the granules of a build's pages: each is found by going through the pages of the build's open
--- operations.
+-- Lemmas about finding the granule of a build's page by going through the pages of the build's open operations.
 use Rattle.std.proofs.Common.{Bool, true, false, subst, ◌≡◌, ℕ, zero, suc, ◌+◌, ◌^◌, ◌<◌, List, [], ◌∷◌, ◌++◌, length}
 use Rattle.std.proofs.Common.{map, drop, get_or, Option, Some, None, refl, sym, ap, ◌∙◌, arith, length-append}
 use Rattle.std.specs.Prelude.{slice_get, option_and_then, nat_lt, ◌&&◌, if◌then◌else◌}

@@ -1,4 +1,4 @@
--- Proofs that the first group of checks that fails decides the refusal of RMI_REC_CREATE.
+-- Proofs that the first group with a failed check decides the refusal of RMI_REC_CREATE.
 use Rattle.std.proofs.Common.{◌≡◌, ℕ, ◌++◌, List, Some, None, ap, ◌∙◌}
 use Rattle.rmi_abi.specs.declared.settings.RmmSettings.{RmmSettings}
 use Rattle.rmm_model.specs.declared.answer.FailedCondition.{FailedCondition}

@@ -1,4 +1,4 @@
--- Proofs that the first group of checks that fails decides the refusal of RMI_RTT_SET_RIPAS.
+-- Proofs that the first group with a failed check decides the refusal of RMI_RTT_SET_RIPAS.
 use Rattle.std.proofs.Common.{◌≡◌, ℕ, ◌++◌, Bool, List, [], ◌∷◌, Some, None, ap, ◌∙◌}
 use Rattle.rmm_model.specs.declared.answer.FailedCondition.{FailedCondition}
 use Rattle.rmm_model.specs.declared.condition.Condition.TheVariants.{Size, BaseBound, TopBound, RdState, RecAlign, RecBound, RecGranState, RecState, RecOwner}

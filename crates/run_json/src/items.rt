@@ -119,7 +119,7 @@ impl Serialize for RecItem {
     }
 }
 
-/// Returns the JSON object of REC `number` of a build's realm, with the values that the host has.
+/// Returns the JSON object of REC `number` of a build's realm, with a null state if there is no such REC.
 pub fn rec_item<S: PageStore>(
     alloc: Global,
     host: &Host<S>,
