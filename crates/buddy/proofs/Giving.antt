@@ -1,5 +1,5 @@
--- Proofs that giving back a block preserves the invariant of the free lists: the block is merged with its buddy while
--- that is free, and then inserted into a list.
+-- Proofs that giving back a block preserves the invariant of the free lists. The block is merged with its buddy while
+-- that is free and the order is below 9, and is then inserted into a list.
 use Rattle.std.proofs.Common.{◌≡◌, ◌≢◌, ℕ, ◌+◌, ◌<◌, ◌≤◌, Bool, List, length, set, inl, inr, subst, arith}
 use Rattle.std.proofs.lemmas.List.{get_or-set_same}
 use Rattle.std.proofs.lemmas.Nat.{pow_pos}

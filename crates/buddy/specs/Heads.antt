@@ -1,10 +1,10 @@
--- The heads of granules, which say where each free block begins and its order, and the condition that they give exactly
--- the maximal free blocks.
+-- The heads of granules, which say where each listed block begins and its order, and the condition that they give
+-- exactly the maximal free blocks.
 use Rattle.std.specs.Prelude.{◌≡◌, ℕ, ◌+◌, ◌*◌, ◌/◌, ◌^◌, ◌≤◌, ◌==◌, ◌↔◌, Bool, List, map, length, filter, slice_index_or, bit_xor}
 use Rattle.std.specs.List.{list_any, range_with_len}
 use Rattle.buddy.specs.MaximalBlock.{IsMaximalBlock}
 
--- the head of a granule: one more than the order of the free block that begins there, or 0 if none does
+-- the head of a granule: one more than the order of the listed block that begins there, or 0 if none does
 abbrev pub head_at : List ℕ → ℕ → ℕ
 head_at heads granule = slice_index_or heads granule 0
 

@@ -87,7 +87,7 @@ impl PageStore for BuddyArena {
 
     /// Takes a block of order `order`, and returns its first granule, or `None` if no such block is free. The block is
     /// cut out of the first block in the nonempty free list of the smallest order that suffices. Visits each order from
-    /// `order` up to that of the list. If no list suffices, there are no visits.
+    /// that of the list down to `order`. If no list suffices, there are no visits.
     fn take(&mut self, order: Order) -> Option<Gran>
         ensures first { result ≡ first_block self.old.index.lists order }
         ensures block { IfSome result (IsFreeBlock self.old.index.flags order) }

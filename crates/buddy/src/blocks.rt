@@ -111,8 +111,8 @@ fn free_buddy(lists: &FreeLists, first: usize, order: usize) -> Option<usize>
     None
 }
 
-/// Puts a block back into the free lists, merged with its free buddies. The block is merged with its buddy if the whole
-/// buddy is free. The merged block is merged in turn, order by order. Returns the number of orders visited.
+/// Puts a block back into the free lists. Below order 9, the block is merged with its buddy if the whole buddy is free.
+/// The merged block is merged in turn, order by order. Returns the number of orders visited.
 pub(crate) fn give_to(lists: &mut FreeLists, first: usize, order: usize) -> u8
     ghost flags: { List Bool }
     requires few { length flags ≤ 4096 }

@@ -1,4 +1,4 @@
--- The invariant of the loops in which a worker asks a list of questions, and proofs that each question preserves it.
+-- The invariant of the loops in which a worker asks a list of questions, and proofs that an accepted one preserves it.
 use Rattle.std.proofs.Common.{◌≡◌, ℕ, suc, ◌+◌, ◌-◌, ◌<◌, ◌≤◌, List, [], ◌∷◌, ◌++◌, length, drop, get_or, replicate, map}
 use Rattle.std.proofs.Common.{sym, ap, ap₂, subst, ◌∙◌, arith, length-append, add-one, drop-cons, drop_of_length-le}
 use Rattle.std.proofs.lemmas.List.{length-map, length-replicate}

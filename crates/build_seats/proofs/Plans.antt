@@ -1,4 +1,4 @@
--- The invariant of the loop in which a worker takes the steps of its build, and proofs that each step preserves it.
+-- The invariant of the loop in which a worker takes its build's steps, and proofs that an accepted step preserves it.
 use Rattle.std.proofs.Common.{◌≡◌, ℕ, ◌+◌, ◌<◌, ◌≤◌, Bool, true, false, List, [], ◌∷◌, ◌++◌, length, drop, get_or, refl, sym}
 use Rattle.std.proofs.Common.{ap, subst, ◌∙◌, arith, append_assoc, add-one, drop-cons, drop_of_length-le, length-append}
 use Rattle.std.proofs.lemmas.List.{append-nil}

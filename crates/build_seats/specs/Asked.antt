@@ -11,8 +11,8 @@ use Rattle.build_seats.specs.declared.ask.Question.TheVariants as question
 use Rattle.build_seats.specs.declared.ask.Ending.{Ending}
 use Rattle.build_seats.specs.declared.ask.Ending.TheVariants as ending
 
--- The answer in an exchange's report line, as the teller gave it. If a `back` step is not refused but has nothing to
--- undo, its line has the answer Nothing.
+-- The answer in an exchange's report line, as the teller gave it. An accepted request for the number of operations
+-- since a mark has the answer Nothing, which is reported only if a `back` step has nothing to undo.
 abbrev pub told : Exchange → Answer
 told (Did cmd (Ok reply)) = Replied reply
 told (Did cmd (Err refusal)) = Refused refusal

@@ -1,4 +1,4 @@
--- A worker's report on its build's steps: the questions that it asked, and a line for each answer.
+-- A worker's report on its build's steps: the questions that it asked, and the lines that it reported.
 use Rattle.std.specs.Prelude.{◌≡◌, ℕ, zero, suc, ◌+◌, ◌<◌, min, Bool, true, false, List, [], ◌∷◌, ◌++◌, length, map, replicate, Option, Some, None, Ok, Err, if◌then◌else◌}
 use Rattle.host_ledger.specs.declared.mark.Mark.{Mark}
 use Rattle.host_commands.specs.declared.cmd.Cmd.TheVariants as cmd
@@ -49,7 +49,7 @@ IsAbort place [] journal exchanges lines end = AreUndone place journal exchanges
 IsAbort place (number ∷ numbers) journal exchanges lines end = IsAnswerReported place (Refused RecRunning) exchanges lines end
 
 -- A `back` step asks whether the build can go back to its mark, and then for the undos that lead there. These are as
--- many as operations were opened since the mark, but no more than the build has open.
+-- many as the answer says, but no more than the build has open.
 pub data IsWayBack (place : ℕ) (mark : Mark) (journal : ℕ) : List Exchange → List ReportLine → Ending → Type 0 where
   cut_short : IsWayBack place mark journal [] [] ending.Cut
   refused : (refusal : Refusal)

@@ -25,7 +25,7 @@ pub record IsNew (worker : WorkerView) : Type 0 where
 
 -- The worker has worked on its steps: its report lines say what it asked the host and what the host answered. Since
 -- the seat was new, the questions were answered by hosts that the lock of builds started with `opened` can hold. The
--- accepted questions are the trail's events, which the seat counts.
+-- accepted commands and undos are the trail's events, which the seat counts.
 pub record HasWorked (opened : HostView) (worker : WorkerView) : Type 0 where
   pub exchanges : List Exchange
   pub is_report : IsWorkerReport 0 first_standing worker.steps exchanges worker.lines worker.ended

@@ -15,7 +15,7 @@ use Rattle.command_line.specs.declared.realmview.StepPlace.{StepPlace}
 abbrev pub schedules_drawn : ℕ → ℕ → Result Schedules BadOption
 schedules_drawn sample seed = if nat_lt 1000000 sample then Err (SampleAboveMost sample) else Ok (Drawn sample seed)
 
--- The schedules that the options ask for: drawn at random if `--sample` or `--seed` is given, and otherwise all, up to
+-- The schedules that the options ask for: drawn at random if `--sample` or `--seed` is given, and otherwise all, with
 -- a limit on the states of their runs. The limit is given by `--most-states`, or is a million without it. If only the
 -- seed is given, a thousand schedules are drawn. If no seed is given, it is 0.
 abbrev pub schedules_asked : Option ℕ → Option ℕ → Option ℕ → Result Schedules BadOption

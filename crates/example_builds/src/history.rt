@@ -1,5 +1,6 @@
-//! An example that applies a recorded history of builds to a new host. The history comes from standard input, and is
-//! applied up to the first line that is not an event or whose event is refused. Then the example prints the host's map.
+//! An example that applies a recorded history of builds to a new host. The history comes from standard input. The lines
+//! after the first are applied, up to one that is not an event or whose event is refused. Then the example prints the
+//! host's map.
 use anyhow::{Context, Result};
 use history_text::{Opening, parse_event, parse_opening};
 use plan_replay::map_text;

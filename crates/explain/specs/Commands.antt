@@ -62,7 +62,7 @@ recs_checks host build (Exit number) = exit_checks host build number
 recs_checks host build (Poke number ipa offset value) = guest_write_checks host build number ipa
 recs_checks host build _ = []
 
--- the RMM's checks of a command on an existing realm, on its tables, pages, state or RECs; none for any other command
+-- the RMM's checks of a command on a realm's tables, pages, state or existing RECs; none for any other command
 abbrev pub tables_checks : HostView → ℕ → Cmd → List Check
 tables_checks host build (Rtt page ipa level) = rtt_create_checks host build page ipa level
 tables_checks host build (Ripas ipa count) = init_ripas_checks host build ipa count

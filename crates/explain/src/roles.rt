@@ -2,8 +2,8 @@
 use host_commands::{Cmd, Step};
 use realm_host::GranuleState;
 
-/// Returns the words for the role of a page in a step, such as `RD `, to be put before the noun `page`. The words are
-/// empty if the step gives the page no role. A page that is named twice has its first role.
+/// Returns the words for the role of a page that a step names, such as `RD `, to be put before the noun `page`. The
+/// words are empty if the step gives its pages no role. A page that is named twice has its first role.
 pub(crate) fn role_of(step: &Step, page: u16) -> &'static str {
     let Step::Ask(cmd) = step else {
         return "";

@@ -1,5 +1,5 @@
--- Proofs about the preparation of a command or an undo: it gives the refusal of the host's own checks if one fails, and
--- otherwise the actions or the model's refusal.
+-- Proofs about the preparation of a command or an undo: it gives the refusal of the host's own checks if one fails.
+-- Otherwise, it gives the actions, or a refusal that needs no RMM call.
 use Rattle.std.proofs.Common.{◌≡◌, ℕ, ◌<◌, Bool, true, false, List, Option, Some, None, Result, Ok, Err, sym, ap, ◌∙◌}
 use Rattle.std.specs.Prelude.{nat_lt, option_and_then}
 use Rattle.std.specs.List.{last_or}

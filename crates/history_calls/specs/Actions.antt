@@ -65,7 +65,8 @@ on_rec_granule place rd (Rec granule auxiliaries number) =
 on_rec_granule place rd (UnRec granule auxiliaries number) = plain_call (RecDestroy (address place granule)) ∷ []
 on_rec_granule place rd _ = []
 
--- The host's actions for an event that accesses, delegates or gives back pages, or that creates or destroys a realm.
+-- The host's actions for an event that accesses, delegates, undelegates or gives back pages, or that creates or
+-- destroys a realm.
 abbrev pub on_granules : Place → Act → List HostAction
 on_granules place (UnTake order first) = host.Fill (address place first) (2 ^ order) 0 ∷ []
 on_granules place (Fill granule value) = host.Fill (address place granule) 1 value ∷ []

@@ -140,7 +140,7 @@ abbrev pub answer_to : HostAction → Option Rmi → List ℕ
 answer_to action None = done_text action
 answer_to action (Some rmi) = if is_call action then refused_text rmi else done_text action
 
--- whether an action gets no line: it is the step of a guest whose REC is refused entry
+-- whether an action gets no line: it is the `spin` step of a guest whose REC is refused entry
 abbrev pub is_step_left_out : HostAction → Option Rmi → Bool
 is_step_left_out (host.Spin rec) (Some rmi) = true
 is_step_left_out _ _ = false

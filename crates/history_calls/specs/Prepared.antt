@@ -45,7 +45,7 @@ actions_for place host build run act = record { items = actions_of place (subjec
 -- ---- a command
 
 -- The values that the host would allocate for a command: the lowest free VMID, and the number of the next REC of the
--- build's realm. The byte of a Peek is not known yet.
+-- build's realm. If there is none, the VMID is 1, and the number 0. The byte of a Peek is not known yet.
 abbrev pub allocated_before : HostView → ℕ → Allocated
 allocated_before host build = record {
   vmid = unwrap_or (lowest_vmid host) 1;
@@ -92,7 +92,7 @@ abbrev pub state_of_leased : HostView → ℕ → ℕ → Option GranuleState
 state_of_leased host build page = option_map (λ g. (cell_at (world_of host).machine g).state) (granule_of_page host build page)
 
 -- The refusal, if any, that is found without a call of the RMM, for a command that has passed the host's first checks.
--- The command makes no call, or it names a REC that the realm does not have.
+-- A command refused in this way makes no call, or it names a REC that the realm does not have.
 abbrev pub refused_before : HostView → ℕ → Cmd → Option Refusal
 refused_before host build (Take order) = first_that_holds (no_block host order ∷ [])
 refused_before host build (Fill page value) = access_refusal (state_of_leased host build page)

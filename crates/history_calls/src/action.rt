@@ -2,8 +2,8 @@
 use arrayvec::ArrayVec;
 use rmi_abi::Call;
 
-/// One action of a host or guest, such as an RMM call or a memory access. Addresses are physical, except for the IPA of
-/// a guest's write.
+/// One action of a host or guest, such as an RMM call or a memory access. Addresses are physical, except for the IPAs
+/// of a call or of a guest's write.
 #[derive(Drop)]
 pub enum HostAction {
     /// The host's write of `value` to each byte of consecutive granules.

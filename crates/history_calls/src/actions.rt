@@ -110,7 +110,8 @@ fn rec_params(frame: Frame, number: RecNo, auxiliaries: &ArrayVec<Gran, 16>) -> 
     }
 }
 
-// Appends the actions for an event that accesses, delegates or gives back pages, or that creates or destroys a realm.
+// Appends the actions for an event that accesses, delegates, undelegates or gives back pages, or that creates or
+// destroys a realm.
 fn push_on_granules(actions: &mut Actions, frame: Frame, act: &Act)
     requires { actions.old.items ≡ [] }
     ensures { actions.new.items ≡ specs.on_granules frame act.now }

@@ -297,7 +297,7 @@ fn is_step_left_out(action: &HostAction, refusal: Option<Rmi>) -> bool
 }
 
 /// Appends a trace line for a host action, such as an RMM call, and its answer. If there is a refusal, a call is
-/// answered with it, and the step of a guest whose REC is not entered gets no line.
+/// answered with it, and the `spin` step of a guest whose REC is not entered gets no line.
 ///
 /// `AllocError`: the text may have a part of the line.
 pub fn push_action(

@@ -58,7 +58,7 @@ state_checks view build needs =
     realm_checks view build needs.realm ++ (journal_checks view build needs.paired ++ (room_checks view build needs.room ++ vmid_checks view needs.vmid))
 
 -- The checks that apply to a command, in the order of their refusals' numbers. Refusals 7 and 8 apply to no command.
--- After these checks a Take has refusal 11, which the store decides, and every other command 13, which the RMM decides.
+-- After these, a Take can get refusal 11, which the store decides, and any other command 13, which the RMM decides.
 unfoldable pub checks_of : BuildsSummary → ℕ → Cmd → List Check
 checks_of view build cmd =
     build_checks view build ++ (order_checks cmd ++ (page_checks view build (operands cmd) ++ state_checks view build (needs_of cmd)))

@@ -1,4 +1,4 @@
--- Theorems that the sizes of pages and page stores stay the same when pages are written, taken or given back.
+-- Theorems that page stores satisfy `IsSized` when they are new, and after pages are written, taken or given back.
 use Rattle.std.specs.Prelude.{◌≡◌, ℕ, ◌+◌, ◌<◌, ◌≤◌, Bool, List, [], length, replicate, set}
 use Rattle.std.proofs.Common.{sym, ap, ◌∙◌, ⊎_elim, arith}
 use Rattle.std.proofs.lemmas.List.{length-set, length-replicate}

@@ -1,5 +1,5 @@
 -- Theorems about the 64-bit words of a page after one of them is written, and about those of a page of zeros. With
--- these theorems, no crate above depends on bytes.
+-- these theorems, a proof about words need not speak of their bytes.
 use Rattle.std.specs.Prelude.{◌≡◌, ◌≢◌, ℕ, ◌+◌, ◌-◌, ◌*◌, ◌^◌, ◌<◌, ◌≤◌, ◌⊎◌, List, [], ◌++◌, length, take, drop, replicate, get_or, slice_range}
 use Rattle.std.specs.Int.{from_le_bytes, to_le_bytes, w64}
 use Rattle.std.proofs.Common.{refl, sym, ap, ◌∙◌, inl, inr, ⊎_elim, arith, length-append, append_assoc}

@@ -23,7 +23,7 @@ pub(crate) fn block_len(order: u8) -> usize {
 #[derive(Drop)]
 pub struct KnownState {
     /// A lower bound on the number of the build's reversible operations that have not been undone yet. `since_mark` is
-    /// the number of those performed since the mark.
+    /// such a bound for those performed since the mark.
     open: usize,
     since_mark: usize,
     has_mark: bool,

@@ -15,7 +15,7 @@ pub enum Content {
     Array,
     /// A table that is written inline or with dotted keys.
     Table,
-    /// A table that a header `[KEY]` opens.
+    /// A table that a header such as `[KEY]` opens.
     Headed,
     /// An array of tables written with headers `[[KEY]]`.
     Tables,

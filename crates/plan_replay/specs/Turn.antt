@@ -75,7 +75,7 @@ abbrev pub left_after : ℕ → Result Undone Refusal → ℕ
 left_after left (Ok it) = left
 left_after left (Err refusal) = 0
 
--- a turn that performs one of many undos, with `left` more to come
+-- a turn for one of many undos, with `left` more to come; the undo may be refused
 pub record IsOneOfMany (host : HostView) (build : ℕ) (place : PlanCursor) (left : ℕ) (answer : TurnAnswer) (new : HostView) (after : PlanCursor) : Type 0 where
   pub result : Result Undone Refusal
   pub is_answer : IsAnswer host build call.Undo (undone result) new

@@ -1,5 +1,5 @@
--- Lemmas on the paths from a state of a graph: each is an edge followed by a path from the next state, and the
--- schedules of the paths ascend.
+-- Lemmas on the paths from a state of a graph: each is empty, or an edge followed by a path from the next state, and
+-- the schedules of the paths ascend.
 use Rattle.std.proofs.Common.{◌≡◌, ℕ, ◌<◌, ◌==◌, ◌⊎◌, inl, inr, true, false, List, [], ◌∷◌, ◌++◌, map, Some, refl, sym, ap, subst, ◌∙◌, arith, ne_eqb, eq-eqb, lt-ltb}
 use Rattle.std.specs.Prelude.{nat_lt}
 use Rattle.std.specs.List.{find, flat_map}

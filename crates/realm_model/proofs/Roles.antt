@@ -1,5 +1,6 @@
 -- Proofs about the states of granules with a role, and about changes that preserve the invariant that links realms to
--- the granules that they name. Each granule that a realm names after such a change is unchanged, or had no role before.
+-- the granules that they name. Each granule that a realm names after such a change had no role before, or keeps its
+-- state and its realm.
 use Rattle.std.proofs.Common.{◌≡◌, ℕ, true, false, ◌⊎◌, inl, inr, List, Option, Some, None, refl, sym, ap, ◌∙◌}
 use Rattle.std.specs.Prelude.{option_map, slice_get}
 use Rattle.std.specs.FinMap.{get}
@@ -81,7 +82,8 @@ abbrev pub SameHead : Cell → Cell → Type 0
 SameHead c d = (c.state ≡ d.state) × (c.realm ≡ d.realm)
 
 module _ (cells after : ℕ → Cell) (old : IsLinked cells) where
-  -- What each realm names is what it named, and unchanged, or it is fresh and had no role. What has a role is named.
+  -- What each realm names is what it named, with the same state and realm, or it is fresh and had no role. What has a
+  -- role is named.
   pub linked_after : (fresh : ℕ → Option Role) → ((k : ℕ) (q : Role) → fresh k ≡ Some q → is_role_state (cells k).state ≡ false)
       → ((k : ℕ) (e : RealmRow) → (after k).descriptor ≡ Some e → (d : RealmRow) × ((cells k).descriptor ≡ Some d) × ((p : Role) (to : ℕ × GranuleState) → target e p ≡ Some to →
       ((target d p ≡ Some to) × (fresh to.0 ≡ None → old.roles to.0 ≡ p → SameHead (after to.0) (cells to.0)))

@@ -1,5 +1,5 @@
--- Proofs that each VMID in use belongs to a realm, and that an accepted command is also accepted if fewer VMIDs are in
--- use.
+-- Proofs that each VMID in use belongs to a realm, and that an accepted command is also accepted if only some of these
+-- VMIDs are in use.
 use Rattle.std.proofs.Common.{◌≡◌, ℕ, zero, suc, Bool, true, false, cond, ◌||◌, not, List, [], ◌∷◌, Option, Some, None, Ok, refl, sym, ap, ◌∙◌}
 use Rattle.std.specs.Prelude.{◌==◌, option_map}
 use Rattle.std.specs.List.{cons_option}

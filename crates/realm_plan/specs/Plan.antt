@@ -63,7 +63,7 @@ check_lengths builds order =
 -- ---- the plan
 
 -- A plan: four settings, the steps of each build, and a schedule. If the plan gives up, a build whose step is refused
--- leaves out its other steps, and aborts.
+-- leaves out its remaining steps, and aborts.
 pub record Plan : Type 0 where
   pub pages : ℕ
   pub vmids : ℕ

@@ -1,4 +1,5 @@
--- A proof that a host's reply to a command matches the event that the command adds to the history.
+-- A proof that a host's reply to a command matches the event that the command adds to a legal history. The host has at
+-- most 4,096 pages.
 use Rattle.std.proofs.Common.{◌≡◌, ℕ, ◌<◌, ◌≤◌, cond, List, [], ◌∷◌, ◌++◌, map, Option, Some, None, refl, sym, ap, ◌∙◌, subst, arith}
 use Rattle.std.specs.Prelude.{slice_get, nat_lt, is_none, option_and_then, if◌then◌else◌}
 use Rattle.std.specs.List.{All, filter_map, cons_option}

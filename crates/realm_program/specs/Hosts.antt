@@ -34,8 +34,8 @@ HostReplyFits host build cmd reply new =
 abbrev pub HostUndoFits : HostView → ℕ → Undone → HostView → Type 0
 HostUndoFits host build undone new = IsUndone host build undone new → FitsNext host build question.Undo (answer.Undone undone) new
 
--- A host's answer to a mark matches its question: it is the number of the build's open operations, and no event goes with
--- it.
+-- A host's answer to a mark matches its question: it is the number of the build's open operations, and no event goes
+-- with it.
 abbrev pub HostMarkFits : HostView → ℕ → Mark → HostView → Type 0
 HostMarkFits host build mark new =
     IsMarkedAs host build mark new → AnswerFits (pages_of build host.history) (open_entries build host.history) None question.Mark (answer.Marked mark.length)

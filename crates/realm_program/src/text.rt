@@ -130,8 +130,8 @@ impl PlanText for ReplayRequest {
     }
 }
 
-/// Reads a plan, runs it, and writes the output text of the run. If a build is to be left out, writes the map that its
-/// history leads to without the build's events.
+/// Reads a plan, runs it, and writes the output text of the run. If a build is to be left out, writes the map that the
+/// run's history leads to without the build's events.
 ///
 /// The text is complete before any of it is written. Errors: the fault of a plan. `EraseNamesNoBuild`: the build to be
 /// left out is not one of the plan's. `Memory`: allocation failed. `Device`: a read failed and nothing is written, or a

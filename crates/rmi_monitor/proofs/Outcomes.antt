@@ -1,4 +1,4 @@
--- Lemmas about the postcondition of a command: the answer, and the RMM afterwards, for a refusal and for a success.
+-- Lemmas about the postcondition of a command: the answer for a refusal and for a success, and the RMM after a refusal.
 use Rattle.std.proofs.Common.{◌≡◌, Bool, false, List, Option, Some, None, Result, Ok, Err, refl, sym, ap, ◌∙◌, subst}
 use Rattle.std.specs.Result.{IsErrAnd}
 use Rattle.realm_model.specs.declared.rmi.Rmi.{Rmi}

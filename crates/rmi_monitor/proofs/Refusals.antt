@@ -1,5 +1,5 @@
--- Proofs that a command goes on if and only if its walk ends at the required level, in a row that passes the command's
--- test.
+-- Proofs that a command succeeds only if its walk ends at the required level, in a row that passes its test. A command
+-- that finds such a row goes on.
 use Rattle.std.proofs.Common.{◌≡◌, ℕ, Bool, true, false, List, Option, Some, None, Ok, Err, refl, ◌∙◌}
 use Rattle.std.specs.Prelude.{◌==◌}
 use Rattle.std.proofs.lemmas.Bool.{eqb-true, eq-eqb}

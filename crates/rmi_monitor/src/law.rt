@@ -20,8 +20,8 @@ pub fn what_is_asked_can_be_performed()
     ensures { (limits : Limits) (history : List Event) (world : World) (monitor : MonitorView) (build : ℕ) (act : Act) (place : RealmAndRec) → AskedIsReady limits history world monitor build act place }
 {}
 
-/// Proves that each command that the RMM performs is a step of the model. The model refuses each command that the RMM
-/// refuses.
+/// Proves that each command that the RMM performs is a step of the model, if it meets the requirements `IsAsked` and
+/// `IsInTurn`. The model refuses each such command that the RMM refuses.
 pub fn what_is_performed_is_a_step()
     ensures { (limits : Limits) (history : List Event) (world : World) (monitor : MonitorView) (build : ℕ) (act : Act) (place : RealmAndRec) → PerformedIsStep limits history world monitor build act place }
 {}

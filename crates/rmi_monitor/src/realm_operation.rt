@@ -10,7 +10,7 @@ use page_arena::PageStore;
 use realm_model::{Act, Rmi, clone_granules};
 
 // Activates a realm, or performs an operation on its tables, pages or RECs. If the operation names a REC, `rec` is the
-// REC's granule.
+// REC's granule, or `None` if there is no such REC.
 #[tactic(auto, unfolding(realm_model::specs::Act::named, realm_model::specs::Outcome::outcome_of))]
 pub(crate) fn in_realm<S: PageStore>(
     monitor: &mut Monitor<S>,

@@ -18,9 +18,9 @@ impl<S: PageStore> Monitor<S> {
     /// Creates a realm's table of level 2 or 3 in a DELEGATED granule.
     ///
     /// `ipa` is the first IPA granule that the table serves. RMM 1.0, RMI_RTT_CREATE. The error is RMI_ERROR_INPUT if
-    /// `rd` is not an RD, `table` is not DELEGATED, no table of that level starts at `ipa`, or `ipa` is not protected.
-    /// The error is RMI_ERROR_RTT, with the level at which the walk ended, unless that is the level above and the entry
-    /// there is not TABLE.
+    /// `rd` is not an RD, `table` is not DELEGATED, or `ipa` is not protected. The error is the same if `level` is not
+    /// 2 or 3, or no table of that level can start at `ipa`. The error is RMI_ERROR_RTT, with the level at which the
+    /// walk ended, unless that is the level above and the entry there is not TABLE.
     pub fn rtt_create(&mut self, rd: Gran, table: Gran, ipa: u32, level: u8) -> Result<(), Rmi>
         requires rd_taken { IsTaken self.old rd }
         requires table_taken { IsTaken self.old table }
@@ -43,10 +43,10 @@ impl<S: PageStore> Monitor<S> {
     ///
     /// `ipa` is the first IPA granule that the table serves. RMM 1.0, RMI_RTT_DESTROY.
     ///
-    /// The error is RMI_ERROR_INPUT if `rd` is not an RD, no table of that level starts at `ipa`, or `ipa` is not
-    /// protected. The error is RMI_ERROR_RTT, with the level at which the walk ended, unless that is the level above
-    /// and the entry there is TABLE. In that case, it is RMI_ERROR_RTT, with `level`, if an entry of the table is
-    /// ASSIGNED or TABLE.
+    /// The error is RMI_ERROR_INPUT if `rd` is not an RD, `level` is not 2 or 3, no table of that level can start at
+    /// `ipa`, or `ipa` is not protected. The error is RMI_ERROR_RTT, with the level at which the walk ended, unless
+    /// that is the level above and the entry there is TABLE. In that case, it is RMI_ERROR_RTT, with `level`, if an
+    /// entry of the table is ASSIGNED or TABLE.
     pub fn rtt_destroy(&mut self, rd: Gran, ipa: u32, level: u8) -> Result<(), Rmi>
         requires { IsTaken self.old rd }
         ensures answer { Answers result (command.rtt_destroy (seen_in self.old rd) ipa level) }
@@ -64,7 +64,7 @@ impl<S: PageStore> Monitor<S> {
     /// none of them are set. The realm's measurement is extended.
     ///
     /// RMM 1.0, RMI_RTT_INIT_RIPAS. The error is RMI_ERROR_INPUT if `rd` is not an RD, `count` is not 1 to 512, no
-    /// table of level 3 serves all of them, or `ipa` is not protected. The error is RMI_ERROR_REALM if the realm is not
+    /// table of level 3 can serve them all, or `ipa` is not protected. The error is RMI_ERROR_REALM if the realm is not
     /// NEW. The error is RMI_ERROR_RTT, with the level at which the walk ended, unless that is 3 and all the entries
     /// are UNASSIGNED.
     pub fn rtt_init_ripas(&mut self, rd: Gran, ipa: u32, count: u16) -> Result<(), Rmi>

@@ -121,6 +121,6 @@ abbrev pub checks_in_round : List TraceWord → Machine → Option ℕ → Optio
 checks_in_round question m (Some round) = checks_at (asked (unrepeated question) round) m
 checks_in_round question m None = None
 
--- The checks of the round in which a call was refused, evaluated on a machine; none if no call was refused.
+-- The checks of the round in which an RMI command was refused, evaluated on a machine; none if no command was refused.
 unfoldable pub refused_checks : List TraceWord → TraceReply → Machine → Option (List EvaluatedCheck)
 refused_checks question reply m = checks_in_round question m reply.refused

@@ -188,8 +188,8 @@ fn call_in(question: &[TraceWord]) -> &[TraceWord]
     }
 }
 
-/// Evaluates the checks of an RMI call that an RMM has refused, or returns `None` if no call was refused. `reply` is
-/// the reply to that call. The machine is still the one at the call, since a refusal changes nothing.
+/// Evaluates the checks of an RMI command that an RMM has refused, or returns `None` if no command was refused. `reply`
+/// is the reply to the call. The machine is still the one at the call, since a refusal changes nothing.
 #[tactic(auto, unfolding(crate::specs::Answering::refused_checks))]
 pub fn checks_on<S: PageStore>(
     rmm: &Rmm<S>,

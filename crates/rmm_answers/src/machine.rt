@@ -94,8 +94,9 @@ impl TraceMachine {
         Ok(())
     }
 
-    /// Evaluates the checks of an RMI call that the machine has refused, or returns `None` if no call was refused.
-    /// `reply` is the reply to that call. The machine is still the one at the call, since a refusal changes nothing.
+    /// Evaluates the checks of an RMI command that the machine has refused, or returns `None` if no command was
+    /// refused. `reply` is the reply to the call. The machine is still the one at the call, since a refusal changes
+    /// nothing.
     pub fn checks(&self, question: &[TraceWord], reply: &TraceReply) -> Option<EvaluatedChecks>
         ensures { result ≡ option_and_then (specs.refused_checks question.now reply.now) self.now }
     {

@@ -1,5 +1,5 @@
--- The weight of a realm, two for each of its DATA granules and one for each other granule, and proofs of how teardown
--- calls change it. From this it follows that a teardown ends.
+-- The weight of a realm: two for each DATA granule and one for each other granule that it owns. Proofs of how teardown
+-- calls change this weight and the number of host mappings, from which it follows that a teardown ends.
 use Rattle.std.proofs.Common.{◌≡◌, ◌≢◌, ℕ, zero, suc, ◌+◌, ◌-◌, ◌*◌, ◌%◌, ◌^◌, ◌<◌, ◌≤◌, ◌⊎◌, inl, inr, Bool, true, false, List, length, set, get_or, Option, Some, None, refl, sym, ap, subst, ◌∙◌, ⊎_elim, arith}
 use Rattle.std.specs.Prelude.{nat_le, nat_lt}
 use Rattle.std.proofs.lemmas.Bool.{cases_eq, cases_lt, and_parts, both_ways, cond-true, eq-eqb, eqb-true, leb-true, ltb-true}

@@ -67,7 +67,7 @@ KeepsRipas m call n =
 
 -- Each protected IPA at or above `base` and below `stop` has the given RIPAS afterwards. `stop` is above `base`. The
 -- entry of such an IPA changes in RIPAS only, so it leads to the same page. Outside the range, the entries of protected
--- IPAs are unchanged. Walks end where they did.
+-- IPAs are unchanged. The walks of protected IPAs end where they did.
 pub record IsRipasSet (m n : Machine) (realm : RmmRealm) (ripas : RmmRipas) (base stop : ℕ) : Type 0 where
   pub further : base < stop
   pub walks : (ipa : ℕ) → is_protected realm ipa ≡ true → walk n realm ipa 3 ≡ walk m realm ipa 3

@@ -12,7 +12,7 @@ use Rattle.rmm_model.specs.Machine.{Machine}
 use Rattle.rmm_model.specs.Command.RecEnter.{after_exit, first_step_outcome, after_first_step}
 
 -- After a step, a REC's run goes on, or ends with this word and machine, according to the outcome of the step. A result
--- leads on, an exit ends the run with RMI_SUCCESS, and a guest that spins runs on.
+-- leads on, an exit ends the run with RMI_SUCCESS, and spinning ends it with the word for a REC that is still running.
 abbrev pub GoesOn : StepOutcome → Machine → ℕ → Word → Machine → Type 0 → Type 0
 GoesOn (IsResult r) m g word n rest = rest
 GoesOn (IsExit exit last) m g word n rest = (word ≡ Success) × (n ≡ after_exit m g exit last)

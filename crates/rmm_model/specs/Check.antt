@@ -26,7 +26,7 @@ error_rec = only ErrorRec
 abbrev pub error_rtt : ℕ → SmcResult
 error_rtt level = only (ErrorRtt level)
 
--- RMI_ERROR_RTT with the level of a table, and in X2 the IPA of the next live entry
+-- RMI_ERROR_RTT with the level of a table, and in X2 the IPA of the next live entry, or of the table's end
 abbrev pub error_rtt_top : ℕ → ℕ → SmcResult
 error_rtt_top top level = record { word = ErrorRtt level; x1 = 0; x2 = top; x3 = 0; x4 = 0 }
 

@@ -44,7 +44,7 @@ pub enum PsciRequest {
 /// attributes host_call and emulatable_abort.
 #[derive(Clone, Copy)]
 pub enum LastExit {
-    /// No exit yet, or an exit of a kind that has no variant of its own.
+    /// No exit since the last entry, or an exit of a kind that has no variant of its own.
     Other,
     HostCall,
     RipasChange,

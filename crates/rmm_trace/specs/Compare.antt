@@ -149,7 +149,7 @@ abbrev pub place_of : Atom → ℕ
 place_of (Name place) = place
 place_of _ = DASH
 
--- the index of a question's name or, in a `repeat`, of the name of the repeated call
+-- the index of a question's name or, in a `repeat`, of the name of the repeated call or fill
 abbrev pub command_in : List TraceWord → ℕ
 command_in [] = DASH
 command_in (w ∷ []) = place_of w.value

@@ -55,7 +55,7 @@ pub(crate) fn number_at(word: TraceWord, round: u64) -> u64
 }
 
 /// Returns the value of an operand in a given round of a `repeat` line; any other line has only round 0. The operand is
-/// the word at the index `place`. The value is 0 if there is no such word, or if the word is a name without a number.
+/// the word at the index `place`. The value is 0 if there is no such word. A name without a number counts as 0.
 pub fn operand(words: &[TraceWord], place: usize, round: u64) -> u64
     ensures { result ≡ operand_at words.now place round }
 {

@@ -58,7 +58,7 @@ pub fn places_are_of_their_names()
     ensures { are_places_named ≡ true }
 {}
 
-/// Proves that the tables `NAMES`, `FUNCTIONS` and `GROUPS` have the name, the function identifier and the number of
+/// Proves that the table of names, `FUNCTIONS` and `GROUPS` have the name, the function identifier and the number of
 /// operands of each command.
 pub fn commands_have_their_rows()
     ensures { are_commands_named ≡ true }

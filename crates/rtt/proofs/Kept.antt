@@ -1,5 +1,5 @@
--- Proofs that the pages of a realm's tables are not free, and that a call which writes to them and changes at most one
--- granule's state keeps the invariants.
+-- Proofs that the pages of a realm's tables are not free, and that a call which changes at most one granule keeps the
+-- invariants if it keeps all realms' tables.
 use Rattle.std.proofs.Common.{◌≡◌, ◌≢◌, ℕ, ◌<◌, Bool, false, set, List, length, Option, Some, inl, inr, sym, ap, ◌∙◌, arith}
 use Rattle.std.proofs.lemmas.Bool.{cases_eq}
 use Rattle.std.proofs.lemmas.List.{length-set, get_or-set_other}

@@ -1,5 +1,5 @@
--- The condition that the words of translation tables encode the rows, where the rows alone say which granules are the
--- tables. RMM 1.0, RTT entry.
+-- The condition that the words of translation tables encode the rows, where the tables below the starting tables are
+-- those that the rows lead to. RMM 1.0, RTT entry.
 use Rattle.std.specs.Prelude.{◌≡◌, ℕ, ◌-◌, ◌==◌, List, Option, Some, option_and_then, if◌then◌else◌}
 use Rattle.granule_addr.specs.Ipa.{entry_index}
 use Rattle.granule_addr.specs.Root.{start_table}

@@ -28,7 +28,7 @@ abbrev pub entry_word : Row → ℕ
 entry_word row = kind_bits row.state + ripas_bits row.ripas * 4 + address_bits row.granule
 
 -- The state, the RIPAS and the granule can be encoded: there is a granule, with a number below 4,096, exactly if the
--- state is not UNASSIGNED. A TABLE entry has no RIPAS.
+-- state is not UNASSIGNED. The RIPAS of a TABLE entry is EMPTY.
 abbrev pub IsEncodable : EntryState → Ripas → Option ℕ → Type 0
 IsEncodable Unassigned ripas granule = granule ≡ None
 IsEncodable Assigned ripas None = ⊥

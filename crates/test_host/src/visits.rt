@@ -1,16 +1,16 @@
-//! Tests of the number of block sizes that a page store (`BuddyArena`) reads in one call.
+//! Tests of the number of block sizes that a page store (`BuddyArena`) visits in one call.
 use crate::expected::{built, equal, holds};
 use crate::names::order;
 use buddy::BuddyArena;
 use page_arena::PageStore;
 use std::process::Abort;
 
-// Checks that the last call read `count` block sizes.
+// Checks that the last call visited `count` block sizes.
 fn visited(rt: &impl Abort, arena: &BuddyArena, count: u64) {
     equal(rt, "visits", arena.visits() as u64, count);
 }
 
-// Takes a page and gives it back, and checks that each call reads `count` block sizes.
+// Takes a page and gives it back, and checks that each call visits `count` block sizes.
 #[tactic(auto, using(page_arena::specs::Blocks::taken_block))]
 fn check_take_and_give(rt: &impl Abort, arena: &mut BuddyArena, count: u64) {
     let one = order(0);

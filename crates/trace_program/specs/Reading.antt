@@ -11,8 +11,8 @@ use Rattle.trace_program.specs.declared.session.Session.{Session}
 use Rattle.trace_program.specs.Counting.{summary_text, trace_verdict}
 use Rattle.trace_program.specs.Session.{IsSession, fresh_session, is_check_done}
 
--- The bytes that a run keeps of a line: 65,537 at most. That is one more than a question may have, so a line that is
--- too long is recognized.
+-- The bytes that a run keeps of a line: 65,537 at most. That is one more than a line with a question may have, so a
+-- line that is too long is recognized.
 unfoldable pub kept_of_line : List ℕ → List ℕ
 kept_of_line line = take 65537 line
 

@@ -45,7 +45,7 @@ verdict_on asked bytes s = line_verdict asked s.machine (written_in bytes) (trac
 abbrev pub judged : Comparison → List ℕ → Session → Session
 judged asked bytes s = record s { counts = with_line_counted s.counts (verdict_on asked bytes s) }
 
--- the line that was performed cannot be counted, because a count for its verdict has reached its maximum
+-- the line that was performed cannot be counted, because a count that it would raise has reached its maximum
 abbrev pub IsUncounted : Comparison → List ℕ → Session → Type 0
 IsUncounted asked bytes s = IsCountFull s.counts (verdict_on asked bytes s)
 
@@ -72,8 +72,9 @@ checks_refused q s = option_and_then (refused_checks q s.reply) s.machine
 abbrev pub IsRefusalText : List TraceWord → Session → List ℕ → Type 0
 IsRefusalText q s text = (s.reply.refused ≡ None → text ≡ []) × TellsDecision (checks_refused q s) text
 
--- The lines below the answer to a trace line, given the session after that line. There are none below a remark, and
--- below a question that is not refused. Those below a refused call begin with the check that decides.
+-- The lines below the answer to a trace line, given the session after that line. There are none below a remark. Unless
+-- the answer is `no command`, there are none below a question that is not refused, and those below a refused call begin
+-- with the check that decides.
 abbrev pub AreReasons : LineKind → List TraceWord → Session → List ℕ → Type 0
 AreReasons Remark q s text = text ≡ []
 AreReasons Question q s text = is_no_command s.reply ≡ false → IsRefusalText q s text
@@ -92,7 +93,7 @@ heading_text source number verdict = source ++ codes ":" ++ decimal number ++ co
 abbrev pub here_text : TraceReply → List ℕ
 here_text reply = if is_unanswered reply then codes "no answer" else reply_text reply
 
--- The lines of a note on a difference: the line, the model's answer, and help if the line is not a command.
+-- The lines of a note on a difference: the line and the model's answer. Help follows only if the line is not a command.
 pub record IsDifference (bytes : List ℕ) (reply : TraceReply) (text : List ℕ) : Type 0 where
   pub help : List ℕ
   pub no_help : is_no_command reply ≡ false → help ≡ []

@@ -17,7 +17,7 @@ pub record AreSteady (plan : Plan) (places : List PlanCursor) : Type 0 where
   pub all : length places ≡ 8
   pub steady : (build : ℕ) → is_of_many (step_after plan build (place_of places build).done) ≡ false → (place_of places build).left ≡ 0
 
--- The maximum number of steps that a build can still begin after the steps that it has done. A build that gives up has
+-- A bound on the number of steps that a build has left after the steps that it has done. A build that gives up can have
 -- an abort beyond its steps.
 abbrev pub steps_left : Bool → List PlanStep → ℕ → ℕ
 steps_left false steps done = length steps - done

@@ -31,8 +31,8 @@ fn verdict_of(is_plan: bool) -> ViewOutcome
     }
 }
 
-/// Checks whether an input is a plan, and writes the findings. The findings are all errors of bytes that are not a
-/// plan, and otherwise the plan's likely mistakes, and its size.
+/// Checks whether an input is a plan, and writes the findings. On bytes that are not a plan, the findings are errors.
+/// On a plan they are its likely mistakes, and the plan's size follows.
 ///
 /// The text is complete before any of it is written. Errors. `Memory`: allocation failed. `Device`: a read failed and
 /// nothing is written, or a write failed and a prefix of the text is written.

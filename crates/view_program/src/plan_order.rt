@@ -161,7 +161,8 @@ fn reordered(
 ///
 /// Errors. `NoPlan`, with the errors of an input that is not a plan. `OrderOutsideLimits`: the plan would have too many
 /// turns or bytes. `Memory`: allocation failed. `Device`: a read failed and nothing is written, or a write failed and a
-/// prefix of the text is written. `Mismatch` never occurs on a host that gives the same answers to the same calls.
+/// prefix of the text is written. `Mismatch`: the text, read back, is not the plan with the new schedule, or a second
+/// run has another schedule.
 pub fn reorder<R: Read, W: Write>(
     alloc: Global,
     source: &str,

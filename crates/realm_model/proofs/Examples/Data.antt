@@ -1,4 +1,4 @@
--- Examples of data pages under a table of level 3: they are measured, written by a guest, and destroyed.
+-- Examples of data pages under a table of level 3: one is measured and written by a guest, and all are destroyed.
 use Rattle.std.proofs.Common.{◌≡◌, ℕ, true, false, cond, ◌&&◌, List, [], ◌∷◌, ◌++◌, Some, None, set, refl, ap, ◌∙◌, lit≤}
 use Rattle.std.specs.FinMap.{get, insert, empty, get-insert, get-remove}
 use Rattle.std.specs.Cmp.{nat_cmp_total}

@@ -10,7 +10,7 @@ use Rattle.rmm_model.specs.Machine.{Machine}
 use Rattle.rmm_model.specs.Walk.{entry_at, with_entry, walk, top}
 use Rattle.rmm_model.specs.Command.Operand.{rd_checks, realm_at, unprotected_checks, entry_checks}
 
--- RMI_ERROR_RTT with the level of a table, and in X1 the IPA of the next live entry
+-- RMI_ERROR_RTT with the level of a table, and in X1 the IPA of the next live entry, or of the table's end
 abbrev pub error_rtt_next : ℕ → ℕ → SmcResult
 error_rtt_next top level = record { word = ErrorRtt level; x1 = top; x2 = 0; x3 = 0; x4 = 0 }
 
