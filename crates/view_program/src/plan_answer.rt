@@ -124,7 +124,7 @@ fn never_text(alloc: Global, asked: ScheduleQuestion) -> Result<String, AllocErr
 ///
 /// Errors. `Memory`: allocation failed. `Mismatch`: with its new schedule the plan has too many turns or bytes. Or a
 /// run contradicts an earlier run, a turn is missing in the graph, or the graph lists a step outcome or a map twice.
-/// These never happen on a host that gives the same answers to the same calls.
+/// No clause excludes these last ones for a host that gives the same answers to the same calls.
 pub(crate) fn answer_text(
     alloc: Global,
     plan: &Plan,
