@@ -33,8 +33,9 @@ from programs import HOST, MEMORY, RUNS, SECONDS, TOP, TRACER, VIEW, fault_at, f
 pytestmark = needs(HOST, TRACER, VIEW, MEMORY)
 PART, MOST_BYTES = 4096, 1 << 20
 NO_MEMORY = (3, b"", b"memory\n")
-# The plans that realmview is refused memory for: realms, each refusal, marks, and schedules that differ.
-FEW_VIEWS = ("realm", "refusals", "rollback", "some-orders")
+# The plans that each view of realmview is refused memory for, and two of one view each: each refusal, and schedules that differ.
+FEW_VIEWS = ("realm", "rollback")
+ONE_VIEW = (("refusals", b"why"), ("some-orders", b"explore"))
 # Beside plans/: traces in which commands are accepted and refused, and faults of each kind.
 FEW_TRACES = ("granules", "measurement", "rec")
 FEW_CHECKS = ("all_at_once", "numbers_of_other_kinds", "steps_of_inline_tables", "toml_open_array", "warning_too_few_turns")
@@ -306,6 +307,13 @@ def test_refusals_of_plan(check, library, path):
 @some(files("plans", RUNS), FEW_VIEWS)
 def test_refusals_of_views(check, library, path):
     refused(check, library, of_views(path))
+
+
+@pytest.mark.parametrize(("plan", "word"), ONE_VIEW, ids=[plan for plan, _ in ONE_VIEW])
+def test_refusals_of_one_view(check, library, plan, word):
+    cases = [it for it in of_views(TOP / f"plans/{plan}.toml") if it.words == [word]]
+    check("the view", len(cases), 1)
+    refused(check, library, cases)
 
 
 @some(files("tests/checks", suffix="txt"), FEW_CHECKS)

@@ -112,8 +112,9 @@ def words_of(end):
 
 
 def left_behind(plan, builds, prefix, replay):
-    """The builds that have a step left after these turns."""
-    return [build for build in range(builds) if not replay(plan, [*prefix, build]).turns[-1].endswith(" - idle\n")]
+    """The builds that have a step left after these turns, by one more turn of each: whether it is idle, no other build decides."""
+    more = replay(plan, [*prefix, *range(builds)]).turns[len(prefix) :]
+    return [build for build, line in enumerate(more) if not line.endswith(" - idle\n")]
 
 
 def schedules_of(plan, builds, replay, prefix=()):

@@ -485,7 +485,9 @@ def machine(name):
     return bare(name) if name == "failed-build" else data_of(name)
 
 
-ON_MACHINES = pytest.mark.parametrize(("name", "turn"), [("failed-build", 14), ("128-pages", 120), ("4096-pages", 3000)])
+MACHINES = [("failed-build", 14), ("128-pages", 120), ("4096-pages", 3000)]
+# The colours of many tiles are those of few.
+MANY_TILES = pytest.param(*MACHINES[-1], marks=pytest.mark.long)
 
 
 @needs(HOST, VIEW)
@@ -506,13 +508,13 @@ def test_words(check, at):
 
 
 @needs(VIEW)
-@ON_MACHINES
+@pytest.mark.parametrize(("name", "turn"), MACHINES)
 def test_room(check, at, name, turn):
     check.all(of_room(at, name, machine(name), turn))
 
 
 @needs(VIEW)
-@ON_MACHINES
+@pytest.mark.parametrize(("name", "turn"), [*MACHINES[:-1], MANY_TILES])
 def test_contrast(check, at, name, turn):
     check.all(of_contrast(at, name, machine(name), turn))
 

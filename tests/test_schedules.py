@@ -4,6 +4,7 @@ The graph is that of tests/schedule_graph.py, over the second host. What it says
 a plan of few schedules it is what runs of each schedule say, from boot, with the text of each first schedule.
 """
 import copy
+import functools
 import random
 import tomllib
 
@@ -141,13 +142,12 @@ def random_plans():
 
 def shortest(text: str, shows) -> list[int] | None:
     """The fewest turns after which a run shows a thing, and of these the least, by trying all."""
-    front = [[]]
+    front = [([], Run(text, []))]
     while front:
-        runs = [Run(text, turns) for turns in front]
-        for turns, ended in zip(front, runs):
+        for turns, ended in front:
             if shows(ended):
                 return turns
-        front = [[*turns, build] for turns, ended in zip(front, runs) for build in ended.left()]
+        front = [([*turns, build], ended.then(build)) for turns, ended in front for build in ended.left()]
     return None
 
 
@@ -167,20 +167,26 @@ def leases(granules: int):
     return lambda run: run.machine.pages - run.blocks.free() >= granules
 
 
+@functools.lru_cache(4)
+def graph_of(text: str, gives_up: bool = False, exact: bool = False) -> Graph:
+    """The graph of a plan. Several questions are asked of it."""
+    return Graph(text, gives_up=gives_up, exact=exact)
+
+
 def of_plan(name: str, text: str):
-    graph = Graph(text)
+    graph = graph_of(text)
     yield name, run(VIEW, ["explore"], text), (0, graph.text(), "")
     wanted = one_by_one(text)
     if wanted is not None:
         yield f"{name}, each schedule", graph.text(), wanted
-        yield f"{name}, exactly", Graph(text, exact=True).text(), wanted
-    graph = Graph(text, gives_up=True)
+        yield f"{name}, exactly", graph_of(text, exact=True).text(), wanted
+    graph = graph_of(text, gives_up=True)
     yield f"{name}, giving up", run(VIEW, ["explore", "--give-up"], text), (0, graph.text(), "")
     wanted = one_by_one(text, gives_up=True)
     if wanted is not None:
         yield f"{name}, giving up, each schedule", graph.text(), wanted
-        yield f"{name}, giving up, exactly", Graph(text, gives_up=True, exact=True).text(), wanted
-    graph = Graph(text)
+        yield f"{name}, giving up, exactly", graph_of(text, gives_up=True, exact=True).text(), wanted
+    graph = graph_of(text)
     if graph.schedules <= FEW:
         build, last = 0, len(graph.steps[0]) - 1
         yield f"{name}, a witness", graph.refused(build, last), shortest(text, refuses(build, last))
@@ -192,7 +198,7 @@ def of_plan(name: str, text: str):
 
 def of_refusals(name: str, text: str):
     """The plan with the shortest schedule to each refusal, and to one of a step that is never refused."""
-    graph = Graph(text)
+    graph = graph_of(text)
     refused = sorted({end[:2] for end in graph.ends() if end[2] != "ok"})
     for build, step in refused:
         status, out, err = run(VIEW, ["explore", "--refused", f"{build}:{step}"], text)
@@ -232,7 +238,7 @@ def with_answer(text: str, words: list[str], schedule: list[int] | None, never: 
 
 def of_waits(name: str, text: str):
     """The plan with the shortest schedule after which each build waits, and a build that the plan lacks."""
-    graph = Graph(text)
+    graph = graph_of(text)
     for build in range(len(graph.steps) + 1):
         schedule = graph.waiting(build)
         printed, wanted, lines = with_answer(text, ["--waiting", str(build)], schedule, f"build {build} waiting in 0\n")
@@ -247,7 +253,7 @@ def of_waits(name: str, text: str):
 
 def of_leases(name: str, text: str):
     """The plan with the shortest schedule after which one granule is leased, as many as ever, and one more."""
-    graph = Graph(text)
+    graph = graph_of(text)
     most = graph.most_leased()
     for granules in sorted({1, max(1, most // 2), max(1, most), most + 1}):
         schedule = graph.leased(granules)
