@@ -1,6 +1,6 @@
 //! The printed texts of a host's replies and refusals, and of the kinds of undone operations.
 ghost use Rattle.std.specs.Prelude.{◌≡◌};
-ghost use Rattle.realm_plan.specs.Answers.{kind_word, refusal_name, refusal_numbers};
+ghost use Rattle.realm_plan.specs.Answers.{kind_word, refusal_name, refusal_numbers, reply_numbers};
 
 use crate::operands::{MOST_NUMBERS, one, two};
 use arrayvec::ArrayVec;
@@ -52,13 +52,8 @@ impl fmt::Display for ReplyText {
     ghost output = { λ r. Some (reply_text r.0) };
 
     fn fmt<W: fmt::Write>(&self, f: &mut fmt::Formatter<W>) -> fmt::Result {
-        match self.0 {
-            Reply::Done => f.write_str("ok"),
-            Reply::FirstPage(page) => write!(f, "ok {page}"),
-            Reply::Byte(byte) => write!(f, "ok {byte}"),
-            Reply::Vmid(vmid) => write!(f, "ok {}", vmid.number()),
-            Reply::Number(number) => write!(f, "ok {}", number.number()),
-        }
+        let numbers = reply_numbers(self.0);
+        fmt::Display::fmt(&SpelledText("ok", numbers.as_slice()), f)
     }
 }
 
@@ -106,5 +101,18 @@ fn refusal_numbers(refusal: Refusal) -> ArrayVec<u32, MOST_NUMBERS>
         Refusal::NoBlock(order) => one(order.number() as u32),
         Refusal::Rmi(rmi) => two(rmi.status.code() as u32, rmi.index as u32),
         _ => ArrayVec::new(),
+    }
+}
+
+// The number that a reply carries, if any: a page, a byte, a VMID or a REC's number.
+fn reply_numbers(reply: Reply) -> ArrayVec<u32, MOST_NUMBERS>
+    ensures { result.items ≡ reply_numbers reply }
+{
+    match reply {
+        Reply::Done => ArrayVec::new(),
+        Reply::FirstPage(page) => one(page as u32),
+        Reply::Byte(byte) => one(byte as u32),
+        Reply::Vmid(vmid) => one(vmid.number() as u32),
+        Reply::Number(number) => one(number.number() as u32),
     }
 }

@@ -6,7 +6,7 @@ ghost use Rattle.realm_plan.specs.Lines.{state_word, sum_numbers, realm_word, id
 
 use crate::operands::{MOST_NUMBERS, one};
 use arrayvec::ArrayVec;
-use decimal_text::NumbersText;
+use decimal_text::SpelledText;
 use granule_addr::{BuildId, Vmid};
 use realm_model::{GranuleState, RealmState};
 use std::alloc::AllocError;
@@ -69,8 +69,8 @@ pub fn push_page(
     let numbers = sum_numbers(state, sum);
     writeln!(
         text,
-        "{build} page {page} {word}{}",
-        NumbersText(numbers.as_slice())
+        "{build} page {page} {}",
+        SpelledText(word, numbers.as_slice())
     )
 }
 

@@ -1,6 +1,6 @@
 //! The text of a step, in plans and in the output lines of turns.
 ghost use Rattle.std.specs.Prelude.{◌≡◌, ◌∷◌, ◌≤◌, length};
-ghost use Rattle.realm_plan.specs.StepsWritten.{written_cmd};
+ghost use Rattle.realm_plan.specs.StepsWritten.{written_cmd, written_step};
 
 use crate::operands::{MOST_NUMBERS, four, one, three, two};
 use crate::step::PlanStep;
@@ -8,6 +8,28 @@ use arrayvec::ArrayVec;
 use decimal_text::SpelledText;
 use host_commands::{Cmd, Step};
 use std::fmt;
+
+// The word of a command in plans.
+fn cmd_word(cmd: &Cmd) -> &'static str
+    ensures { result.now ≡ (written_cmd cmd.now).word }
+{
+    match cmd {
+        Cmd::Take { .. } => "take",
+        Cmd::Fill { .. } => "fill",
+        Cmd::Peek { .. } => "peek",
+        Cmd::Delegate { .. } => "delegate",
+        Cmd::Realm { .. } => "realm",
+        Cmd::Rtt { .. } => "rtt",
+        Cmd::Ripas { .. } => "ripas",
+        Cmd::Data { .. } => "data",
+        Cmd::Unknown { .. } => "unknown",
+        Cmd::Rec { .. } => "rec",
+        Cmd::Activate => "activate",
+        Cmd::Enter { .. } => "enter",
+        Cmd::Exit { .. } => "exit",
+        Cmd::Poke { .. } => "poke",
+    }
+}
 
 // The numbers of the step `rec`: the page of a REC, and its auxiliary pages.
 fn rec_numbers(page: u16, auxiliaries: &[u16]) -> ArrayVec<u32, MOST_NUMBERS>
@@ -21,60 +43,62 @@ fn rec_numbers(page: u16, auxiliaries: &[u16]) -> ArrayVec<u32, MOST_NUMBERS>
     numbers
 }
 
-// The word of a command in plans, and its numbers.
-fn word_and_numbers(cmd: &Cmd) -> (&'static str, ArrayVec<u32, MOST_NUMBERS>)
-    ensures word { result.0.now ≡ (written_cmd cmd.now).word }
-    ensures numbers { result.1.items ≡ (written_cmd cmd.now).numbers }
+// The numbers of a command in plans.
+fn cmd_numbers(cmd: &Cmd) -> ArrayVec<u32, MOST_NUMBERS>
+    ensures { result.items ≡ (written_cmd cmd.now).numbers }
 {
-    match cmd {
-        Cmd::Take { order } => ("take", one(u32::from(*order))),
-        Cmd::Fill { page, value } => ("fill", two(u32::from(*page), u32::from(*value))),
-        Cmd::Peek { page, offset } => ("peek", two(u32::from(*page), u32::from(offset.number()))),
-        Cmd::Delegate { page } => ("delegate", one(u32::from(*page))),
-        Cmd::Realm { rd, root, width } => (
-            "realm",
-            three(u32::from(*rd), u32::from(*root), u32::from(*width)),
-        ),
-        Cmd::Rtt { page, ipa, level } => ("rtt", three(u32::from(*page), *ipa, u32::from(*level))),
-        Cmd::Ripas { ipa, count } => ("ripas", two(*ipa, u32::from(*count))),
-        Cmd::Data { page, ipa, source } => {
-            ("data", three(u32::from(*page), *ipa, u32::from(*source)))
-        }
-        Cmd::Unknown { page, ipa } => ("unknown", two(u32::from(*page), *ipa)),
-        Cmd::Rec { page, auxiliaries } => ("rec", rec_numbers(*page, auxiliaries.as_slice())),
-        Cmd::Activate => ("activate", ArrayVec::new()),
-        Cmd::Enter { number } => ("enter", one(u32::from(number.number()))),
-        Cmd::Exit { number } => ("exit", one(u32::from(number.number()))),
+    match *cmd {
+        Cmd::Take { order } => one(u32::from(order)),
+        Cmd::Fill { page, value } => two(u32::from(page), u32::from(value)),
+        Cmd::Peek { page, offset } => two(u32::from(page), u32::from(offset.number())),
+        Cmd::Delegate { page } => one(u32::from(page)),
+        Cmd::Realm { rd, root, width } => three(u32::from(rd), u32::from(root), u32::from(width)),
+        Cmd::Rtt { page, ipa, level } => three(u32::from(page), ipa, u32::from(level)),
+        Cmd::Ripas { ipa, count } => two(ipa, u32::from(count)),
+        Cmd::Data { page, ipa, source } => three(u32::from(page), ipa, u32::from(source)),
+        Cmd::Unknown { page, ipa } => two(u32::from(page), ipa),
+        Cmd::Rec {
+            page,
+            ref auxiliaries,
+        } => rec_numbers(page, auxiliaries.as_slice()),
+        Cmd::Activate => ArrayVec::new(),
+        Cmd::Enter { number } | Cmd::Exit { number } => one(u32::from(number.number())),
         Cmd::Poke {
             number,
             ipa,
             offset,
             value,
-        } => (
-            "poke",
-            four(
-                u32::from(number.number()),
-                *ipa,
-                u32::from(offset.number()),
-                u32::from(*value),
-            ),
+        } => four(
+            u32::from(number.number()),
+            ipa,
+            u32::from(offset.number()),
+            u32::from(value),
         ),
     }
 }
 
-// A command as plans spell it.
-#[derive(Clone, Copy)]
-struct CmdText<'a>(&'a Cmd);
+// The word of a step in plans.
+fn step_word(step: &PlanStep) -> &'static str
+    ensures { result.now ≡ (written_step step.now).word }
+{
+    match step {
+        PlanStep::Whole(Step::Ask(cmd)) => cmd_word(cmd),
+        PlanStep::Whole(Step::Undo) => "undo",
+        PlanStep::Whole(Step::Abort) => "abort",
+        PlanStep::Whole(Step::Mark) => "mark",
+        PlanStep::Whole(Step::Back) => "back",
+        PlanStep::WidthLeftOut { .. } => "realm",
+    }
+}
 
-impl fmt::Display for CmdText<'_> {
-    ghost use Rattle.std.specs.Prelude.{Some};
-    ghost use Rattle.realm_plan.specs.StepsWritten.{spelling_of, written_cmd};
-
-    ghost output = { λ c. Some (spelling_of (written_cmd c.0.now)) };
-
-    fn fmt<W: fmt::Write>(&self, f: &mut fmt::Formatter<W>) -> fmt::Result {
-        let (word, numbers) = word_and_numbers(self.0);
-        fmt::Display::fmt(&SpelledText(word, numbers.as_slice()), f)
+// The numbers of a step in plans.
+fn step_numbers(step: &PlanStep) -> ArrayVec<u32, MOST_NUMBERS>
+    ensures { result.items ≡ (written_step step.now).numbers }
+{
+    match step {
+        PlanStep::Whole(Step::Ask(cmd)) => cmd_numbers(cmd),
+        PlanStep::WidthLeftOut { rd, root } => two(u32::from(*rd), u32::from(*root)),
+        PlanStep::Whole(Step::Undo | Step::Abort | Step::Mark | Step::Back) => ArrayVec::new(),
     }
 }
 
@@ -89,13 +113,7 @@ impl fmt::Display for StepText<'_> {
     ghost output = { λ s. Some (spelling s.0.now) };
 
     fn fmt<W: fmt::Write>(&self, f: &mut fmt::Formatter<W>) -> fmt::Result {
-        match self.0 {
-            PlanStep::Whole(Step::Ask(cmd)) => fmt::Display::fmt(&CmdText(cmd), f),
-            PlanStep::Whole(Step::Undo) => f.write_str("undo"),
-            PlanStep::Whole(Step::Abort) => f.write_str("abort"),
-            PlanStep::Whole(Step::Mark) => f.write_str("mark"),
-            PlanStep::Whole(Step::Back) => f.write_str("back"),
-            PlanStep::WidthLeftOut { rd, root } => write!(f, "realm {rd} {root}"),
-        }
+        let numbers = step_numbers(self.0);
+        fmt::Display::fmt(&SpelledText(step_word(self.0), numbers.as_slice()), f)
     }
 }
