@@ -5,7 +5,9 @@ use Rattle.std.specs.List.{All}
 use Rattle.std.proofs.lemmas.List.{drop_all}
 use Rattle.std.proofs.lemmas.Bool.{eqb-true, eq-eqb}
 use Rattle.realm_model.specs.declared.act.Event.{Event}
-use Rattle.build_seats.specs.Close.{FitsAll}
+use Rattle.host_ledger.specs.View.{HostView}
+use Rattle.build_seats.specs.Close.{FitsAll, IsHostGivenBack}
+use Rattle.build_seats.specs.Kept.{KeptView, IsKeptBehindLock}
 use Rattle.realm_model.specs.History.{events_of}
 use Rattle.build_seats.specs.Seats.{SeatView}
 
@@ -29,3 +31,12 @@ pub each_fits : (history : List Event) (books : List ℕ) (seats : List SeatView
     → All (λ (seat : SeatView). seat.trail ≡ events_of seat.build history) seats
 unfolding FitsAll
 each_fits history books seats fits counted k d inside = fits (get_or seats k d).build (counted k d inside).0 k d inside refl
+
+-- each seat counts the events that the host under the lock has of its build
+pub given_back : (opened : HostView) (kept : KeptView) (seats : List SeatView) → IsKeptBehindLock opened kept
+    → All (λ (seat : SeatView). (seat.build < 8) × (get_or kept.books seat.build 0 ≡ seat.count)) seats → IsHostGivenBack opened kept.host seats
+given_back opened kept seats is_kept counted = record {
+  shared = is_kept.shared;
+  of_start = is_kept.of_start;
+  counted = λ k d inside. sym (is_kept.counted.each (get_or seats k d).build (counted k d inside).0) ∙ (counted k d inside).1;
+}

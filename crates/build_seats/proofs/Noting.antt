@@ -13,7 +13,6 @@ use Rattle.realm_model.specs.Command.Check.{is_in}
 use Rattle.realm_model.proofs.SetEach.{get_or-set_each}
 use Rattle.host_ledger.specs.View.{HostView, is_aborting, with_event}
 use Rattle.build_seats.specs.Kept.{KeptView, IsSound, IsShared, IsCounted, IsKeptBehindLock}
-use Rattle.build_seats.specs.Passes.{PassView}
 use Rattle.build_seats.specs.Seats.{SeatView, with_noted}
 use Rattle.build_seats.specs.Start.{IsOfStart}
 use Rattle.build_seats.specs.Told.{IsBehind}
@@ -98,31 +97,32 @@ module _ (opened : HostView) (kept : KeptView) (is_kept : IsKeptBehindLock opene
         of_start = of_start_after;
       }
 
--- ---- as a call finds it, with the build's pass
+-- ---- as a call finds it, with the build's seat
 
-module _ (opened : HostView) (kept : KeptView) (is_kept : IsKeptBehindLock opened kept) (pass : PassView) (below : pass.build < 8) (had : get_or kept.books pass.build 0 ≡ pass.count) (build : ℕ)
-    (build_is : build ≡ pass.build) (act : Act) (host : HostView) (grew : host ≡ with_event kept.host build act) (now : PassView) (same : now ≡ pass) where
-  grows : host ≡ with_event kept.host pass.build act
+module _ (opened : HostView) (kept : KeptView) (is_kept : IsKeptBehindLock opened kept) (first : KeptView) (first_is : kept ≡ first) (seat : SeatView) (below : seat.build < 8)
+    (behind : IsBehind opened first.host seat) (build : ℕ) (build_is : build ≡ seat.build) (act : Act) (host : HostView) (grew : host ≡ with_event kept.host build act) (now : SeatView) (same : now ≡ seat) where
+  had : get_or kept.books seat.build 0 ≡ seat.count
+  had = is_kept.counted.each seat.build below ∙ ap (λ (k : KeptView). length (events_of seat.build k.host.history)) first_is ∙ behind.counted
+
+  grows : host ≡ with_event kept.host seat.build act
   grows = grew ∙ ap (λ b. with_event kept.host b act) build_is
 
-  pub pass_counts : length (events_of now.build host.history) ≡ now.count + 1
-  pass_counts =
-      ap (λ (p : PassView). length (events_of p.build host.history)) same
-      ∙ count_after opened kept is_kept pass.build pass.count below had act host grows ∙ sym (ap (λ (p : PassView). p.count + 1) same)
+  pub seat_counts : length (events_of now.build host.history) ≡ now.count + 1
+  seat_counts =
+      ap (λ (s : SeatView). length (events_of s.build host.history)) same
+      ∙ count_after opened kept is_kept seat.build seat.count below had act host grows ∙ sym (ap (λ (s : SeatView). s.count + 1) same)
 
   module _ (sound : IsSound host) where
-    pub kept_noted : (was books : List ℕ) → was ≡ kept.books → books ≡ set was now.build (now.count + 1) → IsKeptBehindLock opened (record { host = host; books = books })
-    kept_noted was books was_is books_is =
-        kept_after opened kept is_kept pass.build pass.count below had act host grows books
-        (books_is ∙ (λ i. set (was_is i) (same i).build ((same i).count + 1))) sound
+    pub kept_noted : (books : List ℕ) → books ≡ set kept.books now.build (now.count + 1) → IsKeptBehindLock opened (record { host = host; books = books })
+    kept_noted books books_is =
+        kept_after opened kept is_kept seat.build seat.count below had act host grows books
+        (books_is ∙ ap (λ (s : SeatView). set kept.books s.build (s.count + 1)) same) sound
 
-    pub behind_noted : (trail : List Event) (seat : SeatView)
-        → ((before : List Event) (event : Event) → host.history ≡ before ++ event ∷ [] → seat ≡ with_noted (record { build = now.build; count = now.count; trail = trail }) event)
-        → IsBehind opened host seat
-    behind_noted trail seat noted =
-        let seat_is = noted kept.host.history (by pass.build act) (ap (λ (h : HostView). h.history) grows) in
+    pub behind_noted : (new : SeatView) → ((before : List Event) (event : Event) → host.history ≡ before ++ event ∷ [] → new ≡ with_noted now event) → IsBehind opened host new
+    behind_noted new noted =
+        let seat_is = noted kept.host.history (by seat.build act) (ap (λ (h : HostView). h.history) grows) in
         record {
-          shared = shared_after opened kept is_kept pass.build pass.count below had act host grows sound;
-          of_start = of_start_after opened kept is_kept pass.build pass.count below had act host grows;
-          counted = ap (λ (s : SeatView). length (events_of s.build host.history)) seat_is ∙ pass_counts ∙ sym (ap (λ (s : SeatView). s.count) seat_is);
+          shared = shared_after opened kept is_kept seat.build seat.count below had act host grows sound;
+          of_start = of_start_after opened kept is_kept seat.build seat.count below had act host grows;
+          counted = ap (λ (s : SeatView). length (events_of s.build host.history)) seat_is ∙ seat_counts ∙ sym (ap (λ (s : SeatView). s.count) seat_is);
         }

@@ -3,11 +3,14 @@
 ghost use Rattle.std.specs.Prelude.{◌≡◌, ◌+◌, ◌<◌, ◌≤◌, ◌↔◌, [], filter, slice_index, true, IsTrue, IfSome, IfNone};
 ghost use Rattle.std.specs.List.{All};
 ghost use Rattle.build_seats.specs.Close.{seats_of, Fits, IsMissing, AreSeatsWhole, Differs, FitsAll};
+ghost use Rattle.build_seats.specs.Fault.{IsFault};
 ghost use Rattle.realm_model.specs.History.{events_of};
 
 use crate::ledgers::{Books, Ledgers};
 use crate::seat::Seat;
 use granule_addr::BuildId;
+use page_arena::PageStore;
+use realm_host::Host;
 use realm_model::Event;
 
 /// The reason why a shared host is not closed.
@@ -31,9 +34,9 @@ pub fn audit<L: Ledgers>(books: &mut Books<L>, seats: &mut [Seat<L>])
     }
 }
 
-/// Finds the lowest-numbered build, if any, that does not have exactly one session handle (`Seat`).
+// The lowest-numbered build, if any, that does not have exactly one session handle (`Seat`).
 #[tactic(auto, unfolding(crate::specs::Close::AreSeatsWhole))]
-pub fn missing<L: Ledgers>(seats: &[Seat<L>], builds: u8) -> Option<BuildId>
+fn missing<L: Ledgers>(seats: &[Seat<L>], builds: u8) -> Option<BuildId>
     requires { builds ≤ 8 }
     ensures some { IfSome result (λ build. IsMissing builds build seats.now) }
     ensures none { IfNone result (AreSeatsWhole builds seats.now) }
@@ -54,10 +57,10 @@ fn seat_count<L: Ledgers>(seats: &[Seat<L>], build: BuildId) -> usize
     seats.iter().filter(|seat| seat.build() == build).count()
 }
 
-/// Finds the lowest-numbered build, if any, with a session handle (`Seat`) whose event list is not the build's part of
-/// the history.
+// The lowest-numbered build, if any, with a session handle (`Seat`) whose event list is not the build's part of the
+// history.
 #[tactic(auto, unfolding(crate::specs::Close::FitsAll))]
-pub fn mismatch<L: Ledgers>(seats: &[Seat<L>], history: &[Event]) -> Option<BuildId>
+fn mismatch<L: Ledgers>(seats: &[Seat<L>], history: &[Event]) -> Option<BuildId>
     ensures some { IfSome result (λ build. Differs build history.now seats.now) }
     ensures none { IfNone result (FitsAll history.now seats.now) }
 {
@@ -66,6 +69,21 @@ pub fn mismatch<L: Ledgers>(seats: &[Seat<L>], history: &[Event]) -> Option<Buil
         if !fits(seats, history, build) {
             return Some(build);
         }
+    }
+    None
+}
+
+/// Finds the reason, if any, why a host is not to be closed with the session handles `seats`.
+pub fn fault<S: PageStore, L: Ledgers>(host: &Host<S>, seats: &[Seat<L>]) -> Option<CloseFault>
+    ensures some { IfSome result (λ fault. IsFault fault host.now seats.now) }
+    ensures whole { IfNone result (AreSeatsWhole host.now.limits.builds seats.now) }
+    ensures fits { IfNone result (FitsAll host.now.history seats.now) }
+{
+    if let Some(build) = missing(seats, host.build_count()) {
+        return Some(CloseFault::SeatMissing(build));
+    }
+    if let Some(build) = mismatch(seats, host.history()) {
+        return Some(CloseFault::RecordMismatch(build));
     }
     None
 }

@@ -1,5 +1,5 @@
 //! The data that a lock protects: a shared host, and each build's event count.
-ghost use Rattle.std.specs.Prelude.{◌≡◌, ◌+◌, ◌<◌, List, [], ◌∷◌, ◌++◌, length, map, slice_set, IfOk, IfErr, MatchResult};
+ghost use Rattle.std.specs.Prelude.{◌≡◌, ◌+◌, ◌<◌, ◌≤◌, List, [], ◌∷◌, ◌++◌, length, map, replicate, slice_set, vec_capacity, IfOk, IfErr, MatchResult};
 ghost use Rattle.std.specs.List.{range_with_len};
 ghost use Rattle.std.specs.Result.{OnOk};
 ghost use Rattle.realm_model.specs.declared.act.Event.{Event};
@@ -19,7 +19,8 @@ use crate::blanks::Blanks;
 use crate::close;
 use crate::close::CloseFault;
 use crate::ledgers::{Books, Ledgers, Opened};
-use crate::seat::{Seat, new_trails, seats_of_trails};
+use crate::seat::{Seat, Trail, new_trails, seats_of_trails};
+use granule_addr::BuildId;
 use page_arena::PageStore;
 use realm_host::{Cmd, Host, Mark, Refusal, Reply, Undone};
 use realm_model::Event;
@@ -68,10 +69,7 @@ impl<S: PageStore, L: Ledgers> Kept<S, L> {
         ensures back { IfErr result (λ e. (e.1 ≡ blanks) × (e.2 ≡ host)) }
     {
         let count = host.build_count();
-        let Ok(trails) = new_trails(alloc, count, host.capacity()) else {
-            return Err((AllocError, blanks, host));
-        };
-        let Ok(seats) = Vec::with_capacity(alloc, count as usize) else {
+        let Ok((trails, seats)) = memory_for_seats(alloc, count, host.capacity()) else {
             return Err((AllocError, blanks, host));
         };
         // (called only for its contract, which gives the invariant of a host)
@@ -79,6 +77,18 @@ impl<S: PageStore, L: Ledgers> Kept<S, L> {
         let Opened { books, passes } = Opened::new(blanks);
         let seats = seats_of_trails(seats, passes, trails);
         Ok((Kept { host, books }, seats))
+    }
+
+    // Proves that the session handle `seat` counts the events that the history has of its build. Returns the build.
+    // Nothing changes.
+    fn audit(&mut self, seat: &mut Seat<L>) -> BuildId
+        ensures build { result ≡ seat.old.build }
+        ensures range { seat.old.build < 8 }
+        ensures same { (self.new ≡ self.old) × (seat.new ≡ seat.old) }
+        ensures behind { IsBehind L.opened self.old.host seat.old }
+    {
+        self.books.audit(&mut seat.pass);
+        seat.pass.build()
     }
 
     /// Asks the host to perform a command of the build whose session handle is `seat`. The answer is the host's. An
@@ -91,8 +101,7 @@ impl<S: PageStore, L: Ledgers> Kept<S, L> {
         ensures before { IsBehind L.opened self.old.host seat.old }
         ensures after { IsBehind L.opened self.new.host seat.new }
     {
-        let build = seat.pass.build();
-        self.books.audit(&mut seat.pass);
+        let build = self.audit(seat);
         let reply = self.host.command(build, cmd)?;
         note(&self.host, &mut self.books, seat);
         Ok(reply)
@@ -108,8 +117,7 @@ impl<S: PageStore, L: Ledgers> Kept<S, L> {
         ensures before { IsBehind L.opened self.old.host seat.old }
         ensures after { IsBehind L.opened self.new.host seat.new }
     {
-        let build = seat.pass.build();
-        self.books.audit(&mut seat.pass);
+        let build = self.audit(seat);
         let undone = self.host.undo(build)?;
         note(&self.host, &mut self.books, seat);
         Ok(undone)
@@ -124,8 +132,7 @@ impl<S: PageStore, L: Ledgers> Kept<S, L> {
         ensures before { IsBehind L.opened self.old.host seat.old }
         ensures after { IsBehind L.opened self.new.host seat.new }
     {
-        let build = seat.pass.build();
-        self.books.audit(&mut seat.pass);
+        let build = self.audit(seat);
         let mark = self.host.mark(build)?;
         // (called only for its contract, which gives the invariant of a host)
         let _ = self.host.history();
@@ -140,8 +147,7 @@ impl<S: PageStore, L: Ledgers> Kept<S, L> {
         ensures same { (self.new ≡ self.old) × (seat.new ≡ seat.old) }
         ensures behind { IsBehind L.opened self.old.host seat.old }
     {
-        let build = seat.pass.build();
-        self.books.audit(&mut seat.pass);
+        let build = self.audit(seat);
         self.host.check_back(build, mark)
     }
 
@@ -155,14 +161,27 @@ impl<S: PageStore, L: Ledgers> Kept<S, L> {
     {
         let Kept { host, mut books } = self;
         close::audit(&mut books, seats.as_mut_slice());
-        if let Some(build) = close::missing(seats.as_slice(), host.build_count()) {
-            return Err((CloseFault::SeatMissing(build), host));
-        }
-        if let Some(build) = close::mismatch(seats.as_slice(), host.history()) {
-            return Err((CloseFault::RecordMismatch(build), host));
+        if let Some(fault) = close::fault(&host, seats.as_slice()) {
+            return Err((fault, host));
         }
         Ok(host)
     }
+}
+
+// Takes the memory for `count` seats: their trails, which are empty, and a list in which the seats have room.
+fn memory_for_seats<L: Ledgers>(
+    alloc: Global,
+    count: u8,
+    room: u16,
+) -> Result<(Vec<Trail<L>>, Vec<Seat<L>>), AllocError>
+    requires { room ≡ L.opened.capacity }
+    ensures trails { IfOk result (λ r. r.0.items ≡ replicate count []) }
+    ensures seats { IfOk result (λ r. r.1.items ≡ []) }
+    ensures room { IfOk result (λ r. count ≤ vec_capacity r.1) }
+{
+    let trails = new_trails(alloc, count, room)?;
+    let seats = Vec::with_capacity(alloc, count as usize)?;
+    Ok((trails, seats))
 }
 
 // Appends the last event of a host's history to a seat's trail, and counts the event in the seat and under the lock.
