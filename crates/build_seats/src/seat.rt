@@ -68,7 +68,7 @@ pub(crate) fn new_trails<L: Ledgers>(
 {
     let mut trails = Vec::with_capacity(alloc, count as usize)?;
     for _i in 0..count {
-        trails.push(Trail::build(alloc, room)?)?;
+        trails.push_reserved(Trail::build(alloc, room)?);
     }
     Ok(trails)
 }

@@ -1,5 +1,10 @@
-use Rattle.std.proofs.Common.{◌≡◌, [], replicate}
+use Rattle.std.proofs.Common.{◌≡◌, ◌≤◌, [], replicate, vec_capacity, vec_len}
 use Rattle.build_seats.proofs.seat.new_trails.Given as goal
 
+-- an empty trail for each number so far, and room for all
 abbrev pub invariant-loop-i : goal.invariant-loop-i
-invariant-loop-i g l = l.trails.items ≡ replicate l._i []
+invariant-loop-i g l = record {
+  trails : l.trails.items ≡ replicate l._i [];
+  len : vec_len l.trails ≡ l._i;
+  room : l.count ≤ vec_capacity l.trails;
+}
