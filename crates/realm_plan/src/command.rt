@@ -23,16 +23,38 @@ macro_rules! ask {
     };
 }
 
+fn take(numbers: &[u32]) -> Option<PlanStep>
+    ensures { result ≡ page_step_at (codes "take") numbers.now }
+{
+    made_of!(one_operand(numbers), order => ask!(Take { order }))
+}
+
+fn fill(numbers: &[u32]) -> Option<PlanStep>
+    ensures { result ≡ page_step_at (codes "fill") numbers.now }
+{
+    made_of!(two_operands(numbers), (Page(page), value) => ask!(Fill { page, value }))
+}
+
+fn peek(numbers: &[u32]) -> Option<PlanStep>
+    ensures { result ≡ page_step_at (codes "peek") numbers.now }
+{
+    made_of!(two_operands(numbers), (Page(page), Offset(offset)) => ask!(Peek { page, offset }))
+}
+
+fn delegate(numbers: &[u32]) -> Option<PlanStep>
+    ensures { result ≡ page_step_at (codes "delegate") numbers.now }
+{
+    made_of!(one_operand(numbers), Page(page) => ask!(Delegate { page }))
+}
+
 fn page_step(word: &str, numbers: &[u32]) -> Option<PlanStep>
     ensures { result ≡ page_step_at word.now numbers.now }
 {
     match word {
-        "take" => made_of!(one_operand(numbers), order => ask!(Take { order })),
-        "fill" =>
-            made_of!(two_operands(numbers), (Page(page), value) => ask!(Fill { page, value })),
-        "peek" =>
-            made_of!(two_operands(numbers), (Page(page), Offset(offset)) => ask!(Peek { page, offset })),
-        "delegate" => made_of!(one_operand(numbers), Page(page) => ask!(Delegate { page })),
+        "take" => take(numbers),
+        "fill" => fill(numbers),
+        "peek" => peek(numbers),
+        "delegate" => delegate(numbers),
         _ => None,
     }
 }
@@ -53,7 +75,10 @@ fn whole_realm(numbers: &[u32]) -> Option<PlanStep>
 fn realm(numbers: &[u32]) -> Option<PlanStep>
     ensures { result ≡ realm_of_numbers numbers.now }
 {
-    short_realm(numbers).or_else(|| whole_realm(numbers))
+    if let Some(step) = short_realm(numbers) {
+        return Some(step);
+    }
+    whole_realm(numbers)
 }
 
 fn realm_step(word: &str, numbers: &[u32]) -> Option<PlanStep>
@@ -66,17 +91,38 @@ fn realm_step(word: &str, numbers: &[u32]) -> Option<PlanStep>
     }
 }
 
+fn rtt(numbers: &[u32]) -> Option<PlanStep>
+    ensures { result ≡ table_step_at (codes "rtt") numbers.now }
+{
+    made_of!(three_operands(numbers), (Page(page), ipa, level) => ask!(Rtt { page, ipa, level }))
+}
+
+fn ripas(numbers: &[u32]) -> Option<PlanStep>
+    ensures { result ≡ table_step_at (codes "ripas") numbers.now }
+{
+    made_of!(two_operands(numbers), (ipa, count) => ask!(Ripas { ipa, count }))
+}
+
+fn data(numbers: &[u32]) -> Option<PlanStep>
+    ensures { result ≡ table_step_at (codes "data") numbers.now }
+{
+    made_of!(three_operands(numbers), (Page(page), ipa, Page(source)) => ask!(Data { page, ipa, source }))
+}
+
+fn unknown(numbers: &[u32]) -> Option<PlanStep>
+    ensures { result ≡ table_step_at (codes "unknown") numbers.now }
+{
+    made_of!(two_operands(numbers), (Page(page), ipa) => ask!(Unknown { page, ipa }))
+}
+
 fn table_step(word: &str, numbers: &[u32]) -> Option<PlanStep>
     ensures { result ≡ table_step_at word.now numbers.now }
 {
     match word {
-        "rtt" =>
-            made_of!(three_operands(numbers), (Page(page), ipa, level) => ask!(Rtt { page, ipa, level })),
-        "ripas" => made_of!(two_operands(numbers), (ipa, count) => ask!(Ripas { ipa, count })),
-        "data" =>
-            made_of!(three_operands(numbers), (Page(page), ipa, Page(source)) => ask!(Data { page, ipa, source })),
-        "unknown" =>
-            made_of!(two_operands(numbers), (Page(page), ipa) => ask!(Unknown { page, ipa })),
+        "rtt" => rtt(numbers),
+        "ripas" => ripas(numbers),
+        "data" => data(numbers),
+        "unknown" => unknown(numbers),
         _ => None,
     }
 }
@@ -148,9 +194,17 @@ fn way_back_step(word: &str, numbers: &[u32]) -> Option<PlanStep>
 pub fn step(word: &str, numbers: &[u32]) -> Option<PlanStep>
     ensures { result ≡ step_at word.now numbers.now }
 {
-    page_step(word, numbers)
-        .or_else(|| realm_step(word, numbers))
-        .or_else(|| table_step(word, numbers))
-        .or_else(|| rec_step(word, numbers))
-        .or_else(|| way_back_step(word, numbers))
+    if let Some(step) = page_step(word, numbers) {
+        return Some(step);
+    }
+    if let Some(step) = realm_step(word, numbers) {
+        return Some(step);
+    }
+    if let Some(step) = table_step(word, numbers) {
+        return Some(step);
+    }
+    if let Some(step) = rec_step(word, numbers) {
+        return Some(step);
+    }
+    way_back_step(word, numbers)
 }
