@@ -54,7 +54,13 @@ fn missing<L: Ledgers>(seats: &[Seat<L>], builds: u8) -> Option<BuildId>
 fn seat_count<L: Ledgers>(seats: &[Seat<L>], build: BuildId) -> usize
     ensures { result ≡ seats_of build seats.now }
 {
-    seats.iter().filter(|seat| seat.build() == build).count()
+    let mut count = 0;
+    for seat in seats {
+        if seat.build() == build {
+            count += 1;
+        }
+    }
+    count
 }
 
 // The lowest-numbered build, if any, with a session handle (`Seat`) whose event list is not the build's part of the
@@ -92,7 +98,12 @@ pub fn fault<S: PageStore, L: Ledgers>(host: &Host<S>, seats: &[Seat<L>]) -> Opt
 fn fits<L: Ledgers>(seats: &[Seat<L>], history: &[Event], build: BuildId) -> bool
     ensures { IsTrue result ↔ Fits build history.now seats.now }
 {
-    seats.iter().all(|seat| seat_fits(seat, history, build))
+    for seat in seats {
+        if !seat_fits(seat, history, build) {
+            return false;
+        }
+    }
+    true
 }
 
 fn seat_fits<L: Ledgers>(seat: &Seat<L>, history: &[Event], build: BuildId) -> bool
