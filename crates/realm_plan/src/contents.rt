@@ -94,12 +94,7 @@ fn texts_of<'a>(alloc: Global, array: &'a Array) -> Result<Option<Vec<&'a str>>,
 fn is_among(names: &[&str], key: &str) -> bool
     ensures { result ≡ list_any (bytes_eq key.now) (map (λ n. n.now) names.now) }
 {
-    for name in names {
-        if key == *name {
-            return true;
-        }
-    }
-    false
+    names.contains(&key)
 }
 
 /// Returns whether each key of a TOML table is in the list `names`.

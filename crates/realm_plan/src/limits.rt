@@ -78,7 +78,12 @@ pub fn numbers_of(contents: &Contents<'_>) -> Result<Numbers, PlanError>
 fn are_short(builds: &[Vec<PlanStep>]) -> bool
     ensures { result ≡ list_all (λ steps. nat_le (vec_len steps) 1024) builds.now }
 {
-    builds.iter().all(|steps| steps.len() <= MOST_STEPS)
+    for steps in builds {
+        if steps.len() > MOST_STEPS {
+            return false;
+        }
+    }
+    true
 }
 
 /// Checks that a plan's numbers of builds, steps and turns are within their limits. Returns the fault `Limit` if there
