@@ -2,21 +2,26 @@
 ghost use Rattle.std.specs.Prelude.{◌≡◌, IsTrue};
 ghost use Rattle.page_arena.specs.Block.{IsTakenBlock};
 
-use crate::expected::{built, holds};
+use crate::expected::{built, holds, holds_at};
 use crate::names::{granule, order};
 use buddy::BuddyArena;
 use granule_addr::{Gran, Order};
 use page_arena::PageStore;
 use std::process::Abort;
 
-// Checks that the maximal free blocks, which are part of no larger one, are exactly the expected ones.
+// Checks that the maximal free blocks of one order, which are part of no larger one, are exactly the expected ones.
+fn has_blocks_of(rt: &impl Abort, arena: &BuddyArena, number: u8, wanted: &[(u8, u16)]) {
+    for first in 0..arena.pages() {
+        let is_there = arena.is_free_block(order(number), granule(first));
+        let is_so = is_there == wanted.contains(&(number, first));
+        holds_at(rt, "a free block", first as usize, is_so);
+    }
+}
+
+// Checks that the maximal free blocks are exactly the expected ones, each with its order and its first page.
 fn has_blocks(rt: &impl Abort, arena: &BuddyArena, wanted: &[(u8, u16)]) {
     for number in 0..10 {
-        for first in 0..arena.pages() {
-            let is_there = arena.is_free_block(order(number), granule(first));
-            let is_wanted = wanted.contains(&(number, first));
-            assert_eq!(rt; is_there, is_wanted, "order {number} at {first}");
-        }
+        has_blocks_of(rt, arena, number, wanted);
     }
 }
 

@@ -2,6 +2,7 @@
 //! the host's state.
 use crate::expected::holds_at;
 use crate::hosts::{booted, over_arena};
+use crate::lines::No;
 use crate::readings::is_read;
 use arrayvec::ArrayVec;
 use granule_addr::{BuildId, RecNo, Vmid};
@@ -32,15 +33,6 @@ pub(crate) enum AcceptedAnswer {
     FirstPage(u16),
     Vmid(u8),
     Number(u16),
-}
-
-/// The expected reason for the refusal of a call in a test script.
-pub(crate) enum No {
-    Build,
-    Aborting,
-    /// A refusal because the build has no page of the given number.
-    Page(u16),
-    NothingToUndo,
 }
 
 /// One of the last two marks (rollback points) that a script has set.
@@ -89,17 +81,6 @@ impl Command {
                 page: 2,
                 auxiliaries: ArrayVec::new(),
             },
-        }
-    }
-}
-
-impl No {
-    fn of_host(&self) -> Refusal {
-        match *self {
-            No::Build => Refusal::NoBuild,
-            No::Aborting => Refusal::Aborting,
-            No::Page(page) => Refusal::NotLeased(page),
-            No::NothingToUndo => Refusal::NothingToUndo,
         }
     }
 }

@@ -1,6 +1,7 @@
 //! Input and output devices in memory, which count their calls and can fail at a chosen call.
 ghost use Rattle.std.specs.Prelude.{◌≡◌, false};
 
+use crate::expected::holds_at;
 use checked_io::Told;
 use realm_program::Fault;
 use std::alloc::Global;
@@ -82,90 +83,69 @@ impl Write for Sink {
     }
 }
 
-/// The settings of a tested program's in-memory devices: input, limits and failures. The limits are on the bytes per
-/// read and write, and the failures are calls that fail. A failed test is named by the case, and by the number of the
-/// call.
+/// The call to a device that fails, if any. Reads and writes are counted from 0.
+#[derive(Clone, Copy)]
+pub(crate) enum Failing {
+    Nothing,
+    Read(usize),
+    Write(usize),
+    Flush,
+}
+
+impl Failing {
+    // The number of the read or write that fails, and 0 if there is none.
+    fn call(self) -> usize {
+        match self {
+            Failing::Read(call) | Failing::Write(call) => call,
+            Failing::Nothing | Failing::Flush => 0,
+        }
+    }
+}
+
+/// The settings of a tested program's in-memory devices: the input, and the call that fails. A failed test is named by
+/// the case.
+///
+/// If no call fails, each read and each write is of up to 1,000 bytes. Otherwise a read gives up to 25 bytes. A write
+/// takes one byte if a write fails, and up to ten if the flush fails.
 #[derive(Clone, Copy)]
 pub(crate) struct Devices<'a> {
     pub case: &'a str,
-    pub call: usize,
     pub input: &'a [u8],
-    pub most_read: usize,
-    pub read_fails: Option<u64>,
-    pub most_written: usize,
-    pub write_fails: Option<u64>,
-    pub flush_fails: bool,
+    pub failing: Failing,
 }
 
 impl<'a> Devices<'a> {
-    /// Creates the settings of devices that do not fail. Each read and each write is of up to 1,000 bytes.
-    pub(crate) fn working(case: &'a str, input: &'a [u8]) -> Devices<'a> {
-        Devices {
-            case,
-            call: 0,
-            input,
-            most_read: 1000,
-            read_fails: None,
-            most_written: 1000,
-            write_fails: None,
-            flush_fails: false,
-        }
-    }
-
-    /// Creates the settings of devices of which one read fails. The number of the read is `read`, counted from 0. Each
-    /// other read gives up to 25 bytes.
-    pub(crate) fn read_fails(input: &'a [u8], read: usize) -> Devices<'a> {
-        Devices {
-            call: read,
-            most_read: 25,
-            read_fails: Some(read as u64),
-            ..Devices::working("a read fails", input)
-        }
-    }
-
-    /// Creates the settings of devices of which one write fails. The number of the write is `write`, counted from 0.
-    /// Each other write takes one byte.
-    pub(crate) fn write_fails(input: &'a [u8], write: usize) -> Devices<'a> {
-        Devices {
-            call: write,
-            most_read: 25,
-            most_written: 1,
-            write_fails: Some(write as u64),
-            ..Devices::working("a write fails", input)
-        }
-    }
-
-    /// Creates the settings of devices whose flush fails. Each write takes up to ten bytes.
-    pub(crate) fn flush_fails(input: &'a [u8]) -> Devices<'a> {
-        Devices {
-            most_read: 25,
-            most_written: 10,
-            flush_fails: true,
-            ..Devices::working("the flush fails", input)
-        }
-    }
-
     pub(crate) fn source(&self) -> Told<Source<'a>>
         ensures { result.failed ≡ false }
     {
+        let (most, fails_at) = match self.failing {
+            Failing::Nothing => (1000, None),
+            Failing::Read(read) => (25, Some(read as u64)),
+            Failing::Write(_) | Failing::Flush => (25, None),
+        };
         Told::new(Source {
             rest: self.input,
-            most: self.most_read,
+            most,
             reads: 0,
-            fails_at: self.read_fails,
+            fails_at,
         })
     }
 
     pub(crate) fn sink(&self, alloc: Global) -> Told<Sink>
         ensures { result.failed ≡ false }
     {
+        let (most, fails_at) = match self.failing {
+            Failing::Write(write) => (1, Some(write as u64)),
+            Failing::Flush => (10, None),
+            Failing::Nothing | Failing::Read(_) => (1000, None),
+        };
         Told::new(Sink {
             got: Vec::new(alloc),
-            most: self.most_written,
+            most,
             writes: 0,
             flushes: 0,
-            fails_at: self.write_fails,
-            fails_to_flush: self.flush_fails,
+            fails_at,
+            fails_to_flush: matches!(self.failing, Failing::Flush),
         })
     }
 }
@@ -218,6 +198,15 @@ impl<'a> Outcome<'a> {
         }
     }
 
+    // Whether a program ended with this outcome.
+    fn is_outcome(&self, end: Result<(), Fault>, input: &Source<'_>, output: &Sink) -> bool {
+        end == self.end
+            && input.rest.len() == self.left
+            && output.has(self.text)
+            && output.writes == self.writes
+            && output.flushes == self.flushes
+    }
+
     /// Checks that a program ended with this outcome.
     pub(crate) fn check_outcome(
         &self,
@@ -227,15 +216,7 @@ impl<'a> Outcome<'a> {
         input: &Source<'_>,
         output: &Sink,
     ) {
-        let left = input.rest.len();
-        for (what, seen, want) in [
-            ("the end", u64::from(end == self.end), 1),
-            ("bytes left", left as u64, self.left as u64),
-            ("the text", u64::from(output.has(self.text)), 1),
-            ("writes", output.writes, self.writes),
-            ("flushes", output.flushes, self.flushes),
-        ] {
-            assert_eq!(rt; seen, want, "{} {}: {what}", devices.case, devices.call);
-        }
+        let is_so = self.is_outcome(end, input, output);
+        holds_at(rt, devices.case, devices.failing.call(), is_so);
     }
 }

@@ -1,13 +1,20 @@
 //! Guests: builds that share a host in a test. Each guest has a seat, and the guests' steps differ only in a fill
 //! value.
+ghost use Rattle.std.specs.Prelude.{◌≡◌, ◌≤◌, [], length, vec_capacity};
+
+use crate::expected::push;
 use crate::steps::{STEPS, guest_steps};
 use crate::tellers::Refusing;
 use builders::{Gate, Ledgers, Report, Seat, SeatTeller, Shared, work};
+use granule_addr::BuildId;
 use host_commands::Step;
 use page_arena::PageStore;
 use std::alloc::Global;
 use std::process::Abort;
 use std::sync::Wait;
+
+// The number of lines that a guest's report has capacity for.
+const ROOM: usize = 2 * STEPS + 1;
 
 /// A build that shares a host in a test, with the results of its run. `refused` is the index of its refused step, if it
 /// has one.
@@ -16,8 +23,19 @@ pub struct Guest<L: Ledgers> {
     pub seat: Seat<L>,
     pub steps: Vec<Step>,
     pub refused: Option<usize>,
-    pub report: Option<Report>,
+    pub report: Report,
     pub has_ended: bool,
+}
+
+// Checks that a guest has its steps, and a report that is still empty.
+fn is_new(rt: &impl Abort, steps: &Vec<Step>, report: &Report)
+    ensures steps { length steps.now.items ≡ STEPS }
+    ensures empty { report.now.lines.items ≡ [] }
+    ensures room { ROOM ≤ vec_capacity report.now.lines }
+{
+    assert!(rt; steps.len() == STEPS);
+    assert!(rt; report.lines.is_empty());
+    assert!(rt; report.lines.capacity() >= ROOM);
 }
 
 impl<L: Ledgers> Guest<L> {
@@ -25,25 +43,41 @@ impl<L: Ledgers> Guest<L> {
     pub(crate) fn run<R: Wait + Abort, S: PageStore, G: Gate>(
         &mut self,
         rt: &R,
-        alloc: Global,
         shared: &Shared<S, L>,
         gate: &G,
     ) {
-        assert!(rt; self.steps.len() == STEPS);
-        let lines = Vec::with_capacity(alloc, 2 * STEPS + 1).expect(rt, "memory");
-        let mut report = Report {
-            build: self.seat.build(),
-            lines,
-        };
+        is_new(rt, &self.steps, &self.report);
         let seat = &mut self.seat;
         let mut teller = Refusing {
             teller: SeatTeller { rt, shared, seat },
             asked: 0,
             refused: self.refused,
         };
-        let told = work(&mut report, self.steps.as_slice(), &mut teller, gate);
+        let told = work(&mut self.report, self.steps.as_slice(), &mut teller, gate);
         self.has_ended = told.is_ok();
-        self.report = Some(report);
+    }
+}
+
+// A report without lines, with capacity for those of a guest.
+fn new_report(rt: &impl Abort, alloc: Global, build: BuildId) -> Report {
+    let lines = Vec::with_capacity(alloc, ROOM).expect(rt, "memory");
+    Report { build, lines }
+}
+
+// A guest that has done nothing. Build 1 is refused the step with the index `refused`.
+fn guest_of<L: Ledgers>(rt: &impl Abort, alloc: Global, seat: Seat<L>, refused: usize) -> Guest<L> {
+    let build = seat.build();
+    let refused = if build.number() == 1 {
+        Some(refused)
+    } else {
+        None
+    };
+    Guest {
+        seat,
+        steps: guest_steps(rt, alloc, build.number().saturating_add(7)),
+        refused,
+        report: new_report(rt, alloc, build),
+        has_ended: false,
     }
 }
 
@@ -57,16 +91,7 @@ pub(crate) fn guests_of<L: Ledgers>(
 ) -> Vec<Guest<L>> {
     let mut guests = Vec::new(alloc);
     for seat in seats {
-        let number = seat.build().number();
-        let refused = if number == 1 { Some(refused) } else { None };
-        let guest = Guest {
-            seat,
-            steps: guest_steps(rt, alloc, number.saturating_add(7)),
-            refused,
-            report: None,
-            has_ended: false,
-        };
-        guests.push(guest).expect(rt, "memory");
+        push(rt, &mut guests, guest_of(rt, alloc, seat, refused));
     }
     guests
 }

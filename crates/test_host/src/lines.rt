@@ -1,13 +1,15 @@
-//! Lines that tests expect in workers' reports, written with plain numbers.
+//! Answers and lines that tests expect in workers' reports, written with plain numbers.
 use crate::expected::{equal, holds_at};
 use builders::{Answer, Asked, ReportLine};
 use granule_addr::RecNo;
 use realm_host::{Kind, Refusal, Reply, Rmi, Undone};
 use std::process::Abort;
 
-/// The expected reason for the refusal of a step in a test.
+/// The expected reason for a refusal in a test.
 #[derive(Drop)]
 pub(crate) enum No {
+    Build,
+    Aborting,
     HistoryFull,
     NothingToUndo,
     RecRunning,
@@ -17,31 +19,38 @@ pub(crate) enum No {
     Page(u16),
 }
 
-/// An expected line of a worker's report. The first number of a step's line is the number of the step.
+/// An expected answer to a step, or to another question of a build's worker.
+#[derive(Drop)]
+pub(crate) enum Want {
+    Done,
+    /// The reply to a Take step: the first page of the leased block.
+    Page(u16),
+    Byte(u8),
+    Marked(u16),
+    /// The answer to an abort step or a `back` step with nothing to undo.
+    Nothing,
+    /// An accepted undo of an operation. The number says how many operations are left open.
+    Undone(Kind, u16),
+    No(No),
+}
+
+/// An expected line of a worker's report.
 #[derive(Drop)]
 pub(crate) enum Line {
-    Done(usize),
-    /// The reply to a Take step: the first page of the leased block.
-    Page(usize, u16),
-    Byte(usize, u8),
-    Marked(usize, u16),
-    /// An abort step or a `back` step with nothing to undo.
-    Nothing(usize),
-    No(usize, No),
-    /// An undo of one operation by an abort step or a `back` step. The last number says how many operations are left
-    /// open.
-    StepUndone(usize, Kind, u16),
-    /// An accepted undo after a refused step. The number says how many operations are left open.
-    Undone(Kind, u16),
-    /// A refused undo after a refused step. The undo is refused because the history is full.
-    UndoRefused,
+    /// The answer to a step, with the number of the step.
+    Step(usize, Want),
+    /// The answer to an undo after a refused step.
+    Undo(Want),
     /// An accepted exit of a running REC after a refused step. The number is the REC's.
     Exited(u16),
 }
 
 impl No {
-    fn of_host(&self) -> Refusal {
+    /// Converts this reason to the host's.
+    pub(crate) fn of_host(&self) -> Refusal {
         match self {
+            No::Build => Refusal::NoBuild,
+            No::Aborting => Refusal::Aborting,
             No::HistoryFull => Refusal::HistoryFull,
             No::NothingToUndo => Refusal::NothingToUndo,
             No::RecRunning => Refusal::RecRunning,
@@ -51,51 +60,52 @@ impl No {
     }
 }
 
-impl Line {
-    // The question that the line answers.
-    fn asked(&self) -> Asked {
-        match *self {
-            Line::Done(step)
-            | Line::Page(step, _)
-            | Line::Byte(step, _)
-            | Line::Marked(step, _)
-            | Line::Nothing(step)
-            | Line::No(step, _)
-            | Line::StepUndone(step, _, _) => Asked::Step(step),
-            Line::Undone(_, _) | Line::UndoRefused => Asked::Undo,
-            Line::Exited(number) => Asked::Exit(RecNo::new(number)),
-        }
-    }
-
-    /// Returns the answer that the report line must have.
+impl Want {
+    /// Converts this expected answer to an `Answer`, for comparison with a worker's.
     pub(crate) fn answer(&self) -> Answer {
         match self {
-            Line::Done(_) | Line::Exited(_) => Answer::Replied(Reply::Done),
-            Line::Page(_, page) => Answer::Replied(Reply::FirstPage(*page)),
-            Line::Byte(_, byte) => Answer::Replied(Reply::Byte(*byte)),
-            Line::Marked(_, open) => Answer::Marked(*open),
-            Line::Nothing(_) => Answer::Nothing,
-            Line::No(_, no) => Answer::Refused(no.of_host()),
-            Line::StepUndone(_, kind, left) | Line::Undone(kind, left) => {
+            Want::Done => Answer::Replied(Reply::Done),
+            Want::Page(page) => Answer::Replied(Reply::FirstPage(*page)),
+            Want::Byte(byte) => Answer::Replied(Reply::Byte(*byte)),
+            Want::Marked(open) => Answer::Marked(*open),
+            Want::Nothing => Answer::Nothing,
+            Want::Undone(kind, left) => {
                 let (kind, left) = (*kind, *left);
                 Answer::Undone(Undone { kind, left })
             }
-            Line::UndoRefused => Answer::Refused(Refusal::HistoryFull),
+            Want::No(no) => Answer::Refused(no.of_host()),
         }
     }
+}
 
-    /// Converts this expected line to a `ReportLine`, for comparison with a report.
-    pub(crate) fn of_report(&self) -> ReportLine {
-        let (asked, answer) = (self.asked(), self.answer());
+impl Line {
+    // The line in a report.
+    fn of_report(&self) -> ReportLine {
+        let (asked, answer) = match self {
+            Line::Step(step, want) => (Asked::Step(*step), want.answer()),
+            Line::Undo(want) => (Asked::Undo, want.answer()),
+            Line::Exited(number) => (Asked::Exit(RecNo::new(*number)), Want::Done.answer()),
+        };
         ReportLine { asked, answer }
     }
+}
+
+/// Checks that a line of a report is the expected one. `place` is the index of the line.
+pub(crate) fn has_line(
+    rt: &impl Abort,
+    name: &str,
+    seen: &[ReportLine],
+    place: usize,
+    want: &Line,
+) {
+    let is_so = seen.get(place) == Some(&want.of_report());
+    holds_at(rt, name, place, is_so);
 }
 
 /// Checks that the lines of a report are the expected ones.
 pub(crate) fn has_lines(rt: &impl Abort, name: &str, seen: &[ReportLine], want: &[Line]) {
     for place in 0..want.len() {
-        let is_so = seen.get(place) == Some(&want[place].of_report());
-        holds_at(rt, name, place, is_so);
+        has_line(rt, name, seen, place, &want[place]);
     }
     equal(rt, name, seen.len() as u64, want.len() as u64);
 }

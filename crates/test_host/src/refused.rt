@@ -3,7 +3,7 @@
 ghost use Rattle.std.specs.Prelude.{◌≡◌, []};
 ghost use Rattle.build_seats.specs.Names.{AreNamed};
 
-use crate::expected::holds;
+use crate::expected::{holds, push};
 use crate::guests::{Guest, guests_of};
 use crate::hosts::{booted, closed, started};
 use crate::left::{has_two_guests, is_without_build_1};
@@ -22,8 +22,7 @@ use std::thread::Threads;
 use std::time::Clock;
 
 // Checks the report of a guest that was refused a given step, or no step.
-fn is_reported(rt: &impl Abort, report: &Option<Report>, refused: Option<usize>) {
-    let report = report.as_ref().expect(rt, "a report");
+fn is_reported(rt: &impl Abort, report: &Report, refused: Option<usize>) {
     match refused {
         Some(step) => is_refused(rt, report, step),
         None => is_accepted(rt, report),
@@ -48,7 +47,7 @@ fn ended<L: Ledgers>(rt: &impl Abort, guest: Guest<L>) -> Seat<L> {
 fn all_ended<L: Ledgers>(rt: &impl Abort, alloc: Global, guests: Vec<Guest<L>>) -> Vec<Seat<L>> {
     let mut seats = Vec::new(alloc);
     for guest in guests {
-        seats.push(ended(rt, guest)).expect(rt, "memory");
+        push(rt, &mut seats, ended(rt, guest));
     }
     seats
 }
@@ -72,7 +71,7 @@ fn run_guests<
         rt,
         guests.as_mut_slice(),
         3,
-        &|_, guest: &mut Guest<L>| { guest.run(rt, alloc, shared, gate) },
+        &|_, guest: &mut Guest<L>| { guest.run(rt, shared, gate) },
     );
     all_ended(rt, alloc, guests)
 }

@@ -1,5 +1,5 @@
 //! Tests that replay a plan and check the output. The replays use devices in memory, some of which fail.
-use crate::devices::{Devices, Outcome};
+use crate::devices::{Devices, Failing, Outcome};
 use granule_addr::BuildId;
 use realm_plan::PlanFault;
 use realm_program::{Fault, replay};
@@ -34,6 +34,23 @@ fn replays(
     want.check_outcome(rt, devices, end, input.device(), output.device());
 }
 
+// Replays a plan on devices that do not fail, and checks the outcome.
+fn works(
+    rt: &impl Abort,
+    alloc: Global,
+    case: &str,
+    input: &[u8],
+    erase: Option<BuildId>,
+    want: &Outcome<'_>,
+) {
+    let devices = Devices {
+        case,
+        input,
+        failing: Failing::Nothing,
+    };
+    replays(rt, alloc, &devices, erase, want);
+}
+
 #[test]
 fn a_build_is_replayed_or_left_out(rt: HostRuntime) {
     let rows = [
@@ -50,36 +67,44 @@ fn a_build_is_replayed_or_left_out(rt: HostRuntime) {
         ),
     ];
     for (case, erase, want) in &rows {
-        let devices = Devices::working(case, PLAN);
-        replays(&rt, rt.alloc(), &devices, *erase, want);
+        works(&rt, rt.alloc(), case, PLAN, *erase, want);
     }
 }
 
 #[test]
 fn a_plan_that_is_too_long_is_not_read_to_its_end(rt: HostRuntime) {
     let spaces = vec![in rt.alloc(); b' '; 1_048_600].expect(&rt, "memory");
-    let devices = Devices::working("a long plan", &spaces);
     let want = Outcome::nothing(Fault::Plan(PlanFault::Limit), 23);
-    replays(&rt, rt.alloc(), &devices, None, &want);
+    works(&rt, rt.alloc(), "a long plan", &spaces, None, &want);
+}
+
+// Replays the plan on devices of which one call fails, and checks the outcome.
+fn fails(rt: &impl Abort, alloc: Global, case: &str, failing: Failing, want: &Outcome<'_>) {
+    let devices = Devices {
+        case,
+        input: PLAN,
+        failing,
+    };
+    replays(rt, alloc, &devices, None, want);
 }
 
 // Each read fails in turn, then each write of one byte, and last the flush.
 #[test]
 fn a_failure_leaves_a_prefix_of_the_text(rt: HostRuntime) {
     for n in 0..5 {
-        let devices = Devices::read_fails(PLAN, n);
         let want = Outcome::nothing(Fault::Device, PLAN.len().saturating_sub(25 * n));
-        replays(&rt, rt.alloc(), &devices, None, &want);
+        fails(&rt, rt.alloc(), "a read fails", Failing::Read(n), &want);
     }
     for n in 0..TEXT.len() {
-        let devices = Devices::write_fails(PLAN, n);
         let want = Outcome::cut(&TEXT[..n]);
-        replays(&rt, rt.alloc(), &devices, None, &want);
+        fails(&rt, rt.alloc(), "a write fails", Failing::Write(n), &want);
     }
-    let devices = Devices::flush_fails(PLAN);
     let want = Outcome {
         end: Err(Fault::Device),
-        ..Outcome::printed(TEXT, 11)
+        left: 0,
+        text: TEXT,
+        writes: 11,
+        flushes: 1,
     };
-    replays(&rt, rt.alloc(), &devices, None, &want);
+    fails(&rt, rt.alloc(), "the flush fails", Failing::Flush, &want);
 }

@@ -1,6 +1,6 @@
 //! Tests that run the builds of a plan in threads. The runs use devices in memory, some of which fail, and gates that
 //! let builds wait.
-use crate::devices::{Devices, Outcome};
+use crate::devices::{Devices, Failing, Outcome};
 use crate::expected::equal;
 use crate::gates::{ForBuild0, MeetingGate};
 use builders::{Gate, OpenGate};
@@ -47,12 +47,18 @@ fn runs<R: Threads + Wait + Abort + Sync, G: Gate + Sync>(
     want.check_outcome(rt, devices, end, input.device(), output.device());
 }
 
+// The plan as the input of devices that do not fail.
+const WORKING: &Devices<'static> = &Devices {
+    case: "the plan",
+    input: PLAN,
+    failing: Failing::Nothing,
+};
+
 #[test]
 fn each_build_reads_after_both_have_filled(rt: HostRuntime) {
     let gate = MeetingGate::from(&rt);
     let want = Outcome::printed(TEXT, 1);
-    let devices = Devices::working("both have filled", PLAN);
-    runs(&rt, rt.alloc(), &gate, &devices, &want);
+    runs(&rt, rt.alloc(), &gate, WORKING, &want);
 }
 
 #[test]
@@ -60,24 +66,42 @@ fn the_lowest_build_that_waits_in_vain_is_reported(rt: HostRuntime) {
     let fault = Fault::Stuck(BuildId::new(1).unwrap());
     equal(&rt, "the status", fault.status() as u64, 3);
     let want = Outcome::nothing(fault, 0);
-    let devices = Devices::working("build 1 waits", PLAN);
-    runs(&rt, rt.alloc(), &ForBuild0, &devices, &want);
+    runs(&rt, rt.alloc(), &ForBuild0, WORKING, &want);
+}
+
+const NO_PLAN: &Devices<'static> = &Devices {
+    case: "no plan",
+    input: b"pages =",
+    failing: Failing::Nothing,
+};
+
+// Runs the plan on devices of which one call fails, and checks the outcome.
+fn fails<R: Threads + Wait + Abort + Sync>(
+    rt: &R,
+    alloc: Global,
+    case: &str,
+    failing: Failing,
+    want: &Outcome<'_>,
+) {
+    let devices = Devices {
+        case,
+        input: PLAN,
+        failing,
+    };
+    runs(rt, alloc, &OpenGate, &devices, want);
 }
 
 // The first input is not a plan. Then each read fails in turn, and each write of one byte.
 #[test]
 fn a_failure_leaves_a_prefix_of_the_text(rt: HostRuntime) {
-    let devices = Devices::working("no plan", b"pages =");
     let want = Outcome::nothing(Fault::Plan(PlanFault::Syntax), 0);
-    runs(&rt, rt.alloc(), &OpenGate, &devices, &want);
+    runs(&rt, rt.alloc(), &OpenGate, NO_PLAN, &want);
     for n in 0..5 {
-        let devices = Devices::read_fails(PLAN, n);
         let want = Outcome::nothing(Fault::Device, PLAN.len().saturating_sub(25 * n));
-        runs(&rt, rt.alloc(), &OpenGate, &devices, &want);
+        fails(&rt, rt.alloc(), "a read fails", Failing::Read(n), &want);
     }
     for n in 0..TEXT.len() {
-        let devices = Devices::write_fails(PLAN, n);
         let want = Outcome::cut(&TEXT[..n]);
-        runs(&rt, rt.alloc(), &OpenGate, &devices, &want);
+        fails(&rt, rt.alloc(), "a write fails", Failing::Write(n), &want);
     }
 }

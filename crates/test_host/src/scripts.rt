@@ -1,6 +1,7 @@
 //! Tests that run scripts of host calls, with both `PlainStore` and `BuddyArena`. The scripts have calls that no plan
 //! makes, or whose answers no plan prints.
-use crate::calls::{AcceptedAnswer, Call, Command, No, Script, Which, over_both};
+use crate::calls::{AcceptedAnswer, Call, Command, Script, Which, over_both};
+use crate::lines::No;
 use realm_host::{GranuleState, Kind, RealmState};
 
 const FIRST_PAGE: Result<AcceptedAnswer, No> = Ok(AcceptedAnswer::FirstPage(0));

@@ -1,4 +1,5 @@
 //! Steps of builds, spelled as in a plan.
+use crate::expected::push;
 use host_commands::{Cmd, Step};
 use realm_plan::step_from_text;
 use std::alloc::Global;
@@ -7,12 +8,16 @@ use std::process::Abort;
 /// The steps of a build, as a plan spells them.
 pub(crate) type Words = &'static [&'static str];
 
+/// Parses a step of a build.
+pub(crate) fn step_of(rt: &impl Abort, word: &str) -> Step {
+    step_from_text(word).expect(rt, "a step").asked()
+}
+
 /// Parses the steps of a build.
 pub(crate) fn steps_of(rt: &impl Abort, alloc: Global, words: Words) -> Vec<Step> {
     let mut steps = Vec::new(alloc);
     for word in words {
-        let step = step_from_text(word).expect(rt, "a step");
-        steps.push(step.asked()).expect(rt, "memory");
+        push(rt, &mut steps, step_of(rt, word));
     }
     steps
 }

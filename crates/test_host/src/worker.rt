@@ -2,7 +2,7 @@
 ghost use Rattle.std.specs.Prelude.{◌≡◌, ◌+◌, ◌*◌, ◌≤◌, [], length, vec_capacity};
 
 use crate::expected::holds;
-use crate::lines::{Line, No, has_lines};
+use crate::lines::{Line, No, Want, has_lines};
 use crate::steps::{FILLS, IS_REFUSED, READS, Words, steps_of};
 use builders::{Gate, Report, Stuck, Teller, work};
 use granule_addr::BuildId;
@@ -17,10 +17,8 @@ use std::sync::atomic::{AtomicU64, Ordering};
 #[derive(Drop)]
 struct Fake<'a> {
     asked: &'a AtomicU64,
-    refused: u64,
-    refused_later: u64,
+    case: &'a Case,
     mark: Mark,
-    above: u16,
 }
 
 impl Fake<'_> {
@@ -28,7 +26,7 @@ impl Fake<'_> {
         let question = self.asked.load(Ordering::SeqCst);
         self.asked
             .store(question.saturating_add(1), Ordering::SeqCst);
-        if question == self.refused || question == self.refused_later {
+        if question == self.case.refused || question == self.case.refused_later {
             return Err(Refusal::HistoryFull);
         }
         Ok(())
@@ -62,7 +60,7 @@ impl Teller for Fake<'_> {
     fn check_back(&mut self, mark: Mark) -> Result<u16, Refusal> {
         let _mark = mark;
         self.answer()?;
-        Ok(self.above)
+        Ok(self.case.above)
     }
 }
 
@@ -133,10 +131,8 @@ fn takes_all(report: &mut Report, case: &Case, mark: Mark, steps: &[Step]) -> bo
     let asked = AtomicU64::new(0);
     let mut fake = Fake {
         asked: &asked,
-        refused: case.refused,
-        refused_later: case.refused_later,
+        case,
         mark,
-        above: case.above,
     };
     let gate = Turns {
         most: case.turns,
@@ -177,45 +173,51 @@ const REFUSED_2: Case = Case { refused: 2, ..ALL };
 
 const REFUSED_3: Case = Case { refused: 3, ..ALL };
 
-// The line of each undo after a refusal. The teller always answers that one operation is left open.
-const UNDONE: Line = Line::Undone(Kind::Delegate, 1);
+// The refusal of a question by the teller.
+const FULL: Want = Want::No(No::HistoryFull);
+
+// The teller's answer to each undo that it accepts: one operation is left open.
+const ONE_LEFT: Want = Want::Undone(Kind::Delegate, 1);
+
+// The line of each accepted undo after a refusal.
+const UNDONE: Line = Line::Undo(ONE_LEFT);
 
 // Cases for three lists of steps: one for the refusal of each step, and one in which none is refused. After a refusal,
 // the open takes and delegations are undone.
 const REFUSED_STEPS: &[(&str, Case, Words, &[Line])] = &[
-    (
-        "fills, 0",
-        REFUSED_0,
-        FILLS,
-        &[Line::No(0, No::HistoryFull)],
-    ),
+    ("fills, 0", REFUSED_0, FILLS, &[Line::Step(0, FULL)]),
     (
         "fills, 1",
         REFUSED_1,
         FILLS,
-        &[Line::Done(0), Line::No(1, No::HistoryFull), UNDONE],
+        &[Line::Step(0, Want::Done), Line::Step(1, FULL), UNDONE],
     ),
-    ("fills", ALL, FILLS, &[Line::Done(0), Line::Done(1)]),
+    (
+        "fills",
+        ALL,
+        FILLS,
+        &[Line::Step(0, Want::Done), Line::Step(1, Want::Done)],
+    ),
     (
         "is refused, 0",
         REFUSED_0,
         IS_REFUSED,
-        &[Line::No(0, No::HistoryFull)],
+        &[Line::Step(0, FULL)],
     ),
     (
         "is refused, 1",
         REFUSED_1,
         IS_REFUSED,
-        &[Line::Done(0), Line::No(1, No::HistoryFull), UNDONE],
+        &[Line::Step(0, Want::Done), Line::Step(1, FULL), UNDONE],
     ),
     (
         "is refused, 2",
         REFUSED_2,
         IS_REFUSED,
         &[
-            Line::Done(0),
-            Line::Done(1),
-            Line::No(2, No::HistoryFull),
+            Line::Step(0, Want::Done),
+            Line::Step(1, Want::Done),
+            Line::Step(2, FULL),
             UNDONE,
             UNDONE,
         ],
@@ -225,10 +227,10 @@ const REFUSED_STEPS: &[(&str, Case, Words, &[Line])] = &[
         REFUSED_3,
         IS_REFUSED,
         &[
-            Line::Done(0),
-            Line::Done(1),
-            Line::Done(2),
-            Line::No(3, No::HistoryFull),
+            Line::Step(0, Want::Done),
+            Line::Step(1, Want::Done),
+            Line::Step(2, Want::Done),
+            Line::Step(3, FULL),
             UNDONE,
             UNDONE,
             UNDONE,
@@ -238,28 +240,28 @@ const REFUSED_STEPS: &[(&str, Case, Words, &[Line])] = &[
         "is refused",
         ALL,
         IS_REFUSED,
-        &[Line::Done(0), Line::Done(1), Line::Done(2), Line::Done(3)],
+        &[
+            Line::Step(0, Want::Done),
+            Line::Step(1, Want::Done),
+            Line::Step(2, Want::Done),
+            Line::Step(3, Want::Done),
+        ],
     ),
-    (
-        "reads, 0",
-        REFUSED_0,
-        READS,
-        &[Line::No(0, No::HistoryFull)],
-    ),
+    ("reads, 0", REFUSED_0, READS, &[Line::Step(0, FULL)]),
     (
         "reads, 1",
         REFUSED_1,
         READS,
-        &[Line::Done(0), Line::No(1, No::HistoryFull), UNDONE],
+        &[Line::Step(0, Want::Done), Line::Step(1, FULL), UNDONE],
     ),
     (
         "reads, 2",
         REFUSED_2,
         READS,
         &[
-            Line::Done(0),
-            Line::Done(1),
-            Line::No(2, No::HistoryFull),
+            Line::Step(0, Want::Done),
+            Line::Step(1, Want::Done),
+            Line::Step(2, FULL),
             UNDONE,
         ],
     ),
@@ -267,7 +269,11 @@ const REFUSED_STEPS: &[(&str, Case, Words, &[Line])] = &[
         "reads",
         ALL,
         READS,
-        &[Line::Done(0), Line::Done(1), Line::Done(2)],
+        &[
+            Line::Step(0, Want::Done),
+            Line::Step(1, Want::Done),
+            Line::Step(2, Want::Done),
+        ],
     ),
 ];
 
@@ -286,9 +292,9 @@ const ENDS: &[(&str, Case, Words, &[Line], bool)] = &[
         REFUSED_2,
         &["delegate 0", "delegate 0", "delegate 0", "undo"],
         &[
-            Line::Done(0),
-            Line::Done(1),
-            Line::No(2, No::HistoryFull),
+            Line::Step(0, Want::Done),
+            Line::Step(1, Want::Done),
+            Line::Step(2, FULL),
             UNDONE,
             UNDONE,
         ],
@@ -303,10 +309,10 @@ const ENDS: &[(&str, Case, Words, &[Line], bool)] = &[
         },
         DELEGATES,
         &[
-            Line::Done(0),
-            Line::Done(1),
-            Line::No(2, No::HistoryFull),
-            Line::UndoRefused,
+            Line::Step(0, Want::Done),
+            Line::Step(1, Want::Done),
+            Line::Step(2, FULL),
+            Line::Undo(FULL),
         ],
         true,
     ),
@@ -319,9 +325,9 @@ const ENDS: &[(&str, Case, Words, &[Line], bool)] = &[
         },
         DELEGATES,
         &[
-            Line::Done(0),
-            Line::Done(1),
-            Line::No(2, No::HistoryFull),
+            Line::Step(0, Want::Done),
+            Line::Step(1, Want::Done),
+            Line::Step(2, FULL),
             UNDONE,
         ],
         false,
@@ -331,12 +337,12 @@ const ENDS: &[(&str, Case, Words, &[Line], bool)] = &[
         ALL,
         &["delegate 0", "delegate 0", "abort", "abort", "back"],
         &[
-            Line::Done(0),
-            Line::Done(1),
-            Line::StepUndone(2, Kind::Delegate, 1),
-            Line::StepUndone(2, Kind::Delegate, 1),
-            Line::Nothing(3),
-            Line::No(4, No::NothingToUndo),
+            Line::Step(0, Want::Done),
+            Line::Step(1, Want::Done),
+            Line::Step(2, ONE_LEFT),
+            Line::Step(2, ONE_LEFT),
+            Line::Step(3, Want::Nothing),
+            Line::Step(4, Want::No(No::NothingToUndo)),
         ],
         true,
     ),
@@ -345,11 +351,11 @@ const ENDS: &[(&str, Case, Words, &[Line], bool)] = &[
         ALL,
         &["enter 5", "enter 3", "delegate 0", "enter 5", "abort"],
         &[
-            Line::Done(0),
-            Line::Done(1),
-            Line::Done(2),
-            Line::Done(3),
-            Line::No(4, No::RecRunning),
+            Line::Step(0, Want::Done),
+            Line::Step(1, Want::Done),
+            Line::Step(2, Want::Done),
+            Line::Step(3, Want::Done),
+            Line::Step(4, Want::No(No::RecRunning)),
             Line::Exited(3),
             Line::Exited(5),
             UNDONE,
@@ -361,12 +367,12 @@ const ENDS: &[(&str, Case, Words, &[Line], bool)] = &[
         Case { above: 7, ..ALL },
         &["delegate 0", "mark", "delegate 0", "back", "back"],
         &[
-            Line::Done(0),
-            Line::Marked(1, 0),
-            Line::Done(2),
-            Line::StepUndone(3, Kind::Delegate, 1),
-            Line::StepUndone(3, Kind::Delegate, 1),
-            Line::Nothing(4),
+            Line::Step(0, Want::Done),
+            Line::Step(1, Want::Marked(0)),
+            Line::Step(2, Want::Done),
+            Line::Step(3, ONE_LEFT),
+            Line::Step(3, ONE_LEFT),
+            Line::Step(4, Want::Nothing),
         ],
         true,
     ),
@@ -379,10 +385,10 @@ const ENDS: &[(&str, Case, Words, &[Line], bool)] = &[
         },
         &["delegate 0", "mark", "delegate 0", "back"],
         &[
-            Line::Done(0),
-            Line::Marked(1, 0),
-            Line::Done(2),
-            Line::StepUndone(3, Kind::Delegate, 1),
+            Line::Step(0, Want::Done),
+            Line::Step(1, Want::Marked(0)),
+            Line::Step(2, Want::Done),
+            Line::Step(3, ONE_LEFT),
         ],
         false,
     ),

@@ -5,4 +5,4 @@ use Rattle.test_host.proofs.threads.workers_of.Goals as goal
 
 pub loop-preserved : goal.loop-preserved
 loop-preserved g c =
-    rw c.in-Ok.ensures.items (All-push (λ (worker : WorkerView). worker.lines ≡ []) _ _ c.loop.invariant c.worker_of.ensures)
+    rw c.push.ensures (All-push (λ (worker : WorkerView). worker.lines ≡ []) _ _ c.loop.invariant c.worker_of.ensures)
