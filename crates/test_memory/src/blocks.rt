@@ -29,6 +29,23 @@ fn take_at_and_give(arena: &mut BuddyArena, order: Order, first: Gran) -> bool {
     true
 }
 
+// Takes a block of 512 pages from a store and gives it back, many times, and returns the number of times that this
+// succeeds.
+fn repeat(arena: &mut BuddyArena, are_named: bool) -> u32 {
+    let order = Order::new(9).unwrap();
+    let first = Gran::new(0, 1).unwrap();
+    let mut count: u32 = 0;
+    for _ in 0..TIMES {
+        let has_gone = if are_named {
+            take_at_and_give(arena, order, first)
+        } else {
+            take_and_give(arena, order)
+        };
+        count = count.saturating_add(u32::from(has_gone));
+    }
+    count
+}
+
 /// Takes a block of 512 pages from a store and gives it back, many times. The store is new, and has `pages` pages. The
 /// block begins at granule 0 if `are_named`, or else where the store chooses. Nothing else happens between the two
 /// printed lines.
@@ -43,18 +60,8 @@ pub(crate) fn take_and_give_repeatedly(
         Err(BuildError::Memory(error)) => return Err(error.into()),
         Err(BuildError::BadSize) => return Err(Fault::Other),
     };
-    let order = Order::new(9).unwrap();
-    let first = Gran::new(0, 1).unwrap();
-    let mut count: u32 = 0;
     tell(rt, "quiet");
-    for _ in 0..TIMES {
-        let has_gone = if are_named {
-            take_at_and_give(&mut arena, order, first)
-        } else {
-            take_and_give(&mut arena, order)
-        };
-        count = count.saturating_add(u32::from(has_gone));
-    }
+    let count = repeat(&mut arena, are_named);
     let _told = println!(rt; "{count} blocks come and go in {pages} pages, by name: {are_named}");
     Ok(())
 }

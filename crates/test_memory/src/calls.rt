@@ -141,21 +141,27 @@ fn read_all(host: &Host<BuddyArena>, build: BuildId) -> u32 {
     seen.saturating_add(u32::from(has_realm))
 }
 
+// Makes the test's calls for the two builds of a host, and counts the answers. Returns what `read_all` does.
+fn ask_both(host: &mut Host<BuddyArena>, tally: &mut Tally) -> u32 {
+    let first = BuildId::new(0).unwrap();
+    let second = BuildId::new(1).unwrap();
+    ask_all(host, first, tally);
+    ask_all(host, second, tally);
+    let seen = read_all(host, first);
+    tally.count(&host.begin_abort(second));
+    tally.count(&host.command(second, command(0)));
+    tally.count(&host.undo(second));
+    tally.count(&host.abort(second));
+    seen
+}
+
 /// Boots a host, and makes the test's calls for the host's two builds. The abort of the second build begins with one
 /// undo, and ends with a call that undoes the rest. The first build stays.
 pub(crate) fn all_calls(rt: &impl Print, alloc: Global) -> Result<Host<BuddyArena>, Fault> {
     let mut host = booted(rt, alloc)?;
     let mut tally = Tally::new();
-    let first = BuildId::new(0).unwrap();
-    let second = BuildId::new(1).unwrap();
     tell(rt, "quiet");
-    ask_all(&mut host, first, &mut tally);
-    ask_all(&mut host, second, &mut tally);
-    let seen = read_all(&host, first);
-    tally.count(&host.begin_abort(second));
-    tally.count(&host.command(second, command(0)));
-    tally.count(&host.undo(second));
-    tally.count(&host.abort(second));
+    let seen = ask_both(&mut host, &mut tally);
     tally.tell(rt);
     let _told = println!(rt; "{seen} seen");
     Ok(host)

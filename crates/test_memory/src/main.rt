@@ -88,6 +88,23 @@ fn bytes_in<I: Read>(alloc: Global, input: &mut Told<I>) -> Result<Vec<u8>, Plan
     Ok(read_whole(alloc, input)?)
 }
 
+// Runs a plan or a script of RMM operations. If there are no bytes, the calls to be tested are made.
+fn use_bytes<H: Print + Eprint + AllocGlobal + CpuClock + Threads + Wait + Sync, O: Write>(
+    rt: &H,
+    bytes: &[u8],
+    output: &mut Told<O>,
+) -> Result<(), Fault>
+    requires { output.old.failed ≡ false }
+{
+    if bytes.is_empty() {
+        make_calls(rt)
+    } else if script::is_script(bytes) {
+        script::perform_all(rt, rt.alloc(), bytes)
+    } else {
+        Ok(plain::replay(rt.alloc(), bytes, output)?)
+    }
+}
+
 /// Runs the input, which is a plan or a script of RMM operations. If the input is empty, the calls to be tested are
 /// made.
 fn run<H: Print + Eprint + AllocGlobal + CpuClock + Threads + Wait + Sync, I: Read, O: Write>(
@@ -99,14 +116,7 @@ fn run<H: Print + Eprint + AllocGlobal + CpuClock + Threads + Wait + Sync, I: Re
     requires writable { output.old.failed ≡ false }
 {
     let bytes = bytes_in(rt.alloc(), input)?;
-    if bytes.is_empty() {
-        return make_calls(rt);
-    }
-    if script::is_script(&bytes) {
-        return script::perform_all(rt, rt.alloc(), &bytes);
-    }
-    plain::replay(rt.alloc(), &bytes, output)?;
-    Ok(())
+    use_bytes(rt, &bytes, output)
 }
 
 fn main(rt: HostRuntime) -> ExitCode {

@@ -82,6 +82,17 @@ impl Script {
         Ok(())
     }
 
+    // Reads the numbers of a line that is no part's. A line of an unknown kind is ignored.
+    fn read_numbers(&mut self, kind: &str, n: &[u64; 7]) -> Result<(), AllocError> {
+        if kind == "machine" {
+            self.pages = (n[0] % 0x1_0000) as u16;
+            self.rounds = n[1];
+        } else if let Some(operation) = Operation::new(kind, n) {
+            self.push(operation)?;
+        }
+        Ok(())
+    }
+
     // Reads a line of a script. A line of an unknown kind is ignored.
     fn read(&mut self, alloc: Global, line: &str) -> Result<(), AllocError> {
         let (kind, words) = line.split_once(' ').unwrap_or((line, ""));
@@ -91,12 +102,7 @@ impl Script {
                 least: u64::MAX,
             })?;
         } else if let Some(n) = numbers(words) {
-            if kind == "machine" {
-                self.pages = (n[0] % 0x1_0000) as u16;
-                self.rounds = n[1];
-            } else if let Some(operation) = Operation::new(kind, &n) {
-                self.push(operation)?;
-            }
+            self.read_numbers(kind, &n)?;
         }
         Ok(())
     }
@@ -137,17 +143,27 @@ fn read_all(alloc: Global, text: &str) -> Result<Script, AllocError> {
     Ok(script)
 }
 
+// Runs a script on an RMM, and prints the sum of all results and the least time of each part.
 fn measure(
+    rt: &(impl CpuClock + Print + Eprint),
+    script: &mut Script,
+    rmm: &mut Rmm<PlainStore>,
+) -> io::Result<()> {
+    let sum = script.run(rt, rmm)?;
+    println!(rt; "{sum}")?;
+    script.print_times(rt)
+}
+
+// Runs a script on a new RMM, if there is memory for one.
+fn open_and_measure(
     rt: &(impl CpuClock + Print + Eprint),
     script: &mut Script,
     alloc: Global,
 ) -> io::Result<()> {
-    if let Some(mut rmm) = script.open(alloc) {
-        let sum = script.run(rt, &mut rmm)?;
-        println!(rt; "{sum}")?;
-        script.print_times(rt)?;
+    match script.open(alloc) {
+        Some(mut rmm) => measure(rt, script, &mut rmm),
+        None => Ok(()),
     }
-    Ok(())
 }
 
 /// Returns whether an input begins with `machine`, as every script does and no plan does.
@@ -165,7 +181,7 @@ pub(crate) fn perform_all(
         return Err(Fault::Other);
     };
     let mut script = read_all(alloc, text)?;
-    match measure(rt, &mut script, alloc) {
+    match open_and_measure(rt, &mut script, alloc) {
         Ok(()) => Ok(()),
         Err(_) => Err(Fault::Other),
     }

@@ -10,7 +10,7 @@ use buddy::BuddyArena;
 use builders::{Blanks, Ledgers, OpenGate, Seat, Shared, Worker, run_builds};
 use host_commands::Step;
 use realm_host::{Cmd, Host};
-use std::alloc::{AllocError, Global};
+use std::alloc::Global;
 use std::marker::{Brand, Send, Sync};
 use std::sync::Wait;
 use std::thread::Threads;
@@ -36,31 +36,71 @@ fn ask_all<R: Wait, L: Ledgers>(
     tally.count(&shared.undo(rt, seat));
 }
 
-// Steps that take a page, delegate it after a mark, go back to the mark, and fill the page.
+// The number of the worker's steps.
+const STEPS: u8 = 5;
+
+// A step of the worker, by its number. The steps take a page, delegate it after a mark, go back to the mark, and fill
+// the page.
+fn step(number: u8) -> Step {
+    match number {
+        0 => Step::Ask(Cmd::Take { order: 0 }),
+        1 => Step::Mark,
+        2 => Step::Ask(Cmd::Delegate { page: 0 }),
+        3 => Step::Back,
+        _ => Step::Ask(Cmd::Fill { page: 0, value: 1 }),
+    }
+}
+
+// The steps of the worker.
 fn few_steps(alloc: Global) -> Result<Vec<Step>, Fault> {
-    let take = Step::Ask(Cmd::Take { order: 0 });
-    let delegate = Step::Ask(Cmd::Delegate { page: 0 });
-    let fill = Step::Ask(Cmd::Fill { page: 0, value: 1 });
-    Ok(Vec::from_array(alloc, [take, Step::Mark, delegate, Step::Back, fill])?)
+    let mut steps = Vec::with_capacity(alloc, STEPS as usize)?;
+    for number in 0..STEPS {
+        steps.push(step(number))?;
+    }
+    Ok(steps)
 }
 
 // A worker from a second try, built with the arguments that the first try handed back.
 fn built_again<L: Ledgers>(
+    rt: &impl Print,
     alloc: Global,
-    back: (AllocError, Seat<L>, Vec<Step>),
+    seat: Seat<L>,
+    steps: Vec<Step>,
 ) -> Result<Worker<L>, Fault>
-    requires trail { back.1.trail ≡ [] }
-    requires few { vec_len back.2 ≤ 1024 }
+    requires trail { seat.trail ≡ [] }
+    requires few { vec_len steps ≤ 1024 }
     ensures { IfOk result (λ worker. worker.lines ≡ []) }
 {
-    let (_, seat, steps) = back;
     match Worker::build(alloc, seat, steps) {
-        Ok(worker) => Ok(worker),
+        Ok(worker) => {
+            tell_try(rt, "built", true);
+            Ok(worker)
+        }
         Err(_) => Err(Fault::Memory),
     }
 }
 
-// A worker for the last of the seats, with a second try if an allocation fails.
+// A worker for a seat, with a second try if an allocation fails.
+fn built<L: Ledgers>(
+    rt: &impl Print,
+    alloc: Global,
+    seat: Seat<L>,
+    steps: Vec<Step>,
+) -> Result<Worker<L>, Fault>
+    requires trail { seat.trail ≡ [] }
+    requires few { vec_len steps ≤ 1024 }
+    ensures { IfOk result (λ worker. worker.lines ≡ []) }
+{
+    match Worker::build(alloc, seat, steps) {
+        Ok(worker) => {
+            tell_try(rt, "built", false);
+            Ok(worker)
+        }
+        Err((_, seat, steps)) => built_again(rt, alloc, seat, steps),
+    }
+}
+
+// A worker for the last of the seats.
 fn last_worker<L: Ledgers>(
     rt: &impl Print,
     alloc: Global,
@@ -69,16 +109,10 @@ fn last_worker<L: Ledgers>(
     ensures { IfOk result (λ worker. worker.lines ≡ []) }
 {
     let steps = few_steps(alloc)?;
-    let seat = seats.pop().ok_or(Fault::Other)?;
-    if seat.count() > 0 || steps.len() > 1024 {
-        return Err(Fault::Other);
+    match seats.pop() {
+        Some(seat) if seat.count() == 0 && steps.len() <= 1024 => built(rt, alloc, seat, steps),
+        _ => Err(Fault::Other),
     }
-    let (worker, is_second) = match Worker::build(alloc, seat, steps) {
-        Ok(worker) => (worker, false),
-        Err(back) => (built_again(alloc, back)?, true),
-    };
-    tell_try(rt, "built", is_second);
-    Ok(worker)
 }
 
 // Makes every call through one build's seat, and runs the workers of the other builds. The answers are printed.
@@ -98,6 +132,34 @@ fn make_calls_and_run_workers<R: Print + Threads + Wait + Sync, L: Ledgers + Sen
     has_ended
 }
 
+// Ends a worker, prints the length of its report, and returns its seat.
+fn ended<L: Ledgers>(rt: &impl Print, worker: Worker<L>, has_ended: bool) -> Seat<L> {
+    let (seat, _steps, report) = worker.end();
+    let _told = println!(rt;
+        "a report of {} lines, whole: {has_ended}",
+        report.lines.len()
+    );
+    seat
+}
+
+// Makes every call through the last of the seats, and runs a worker for another build. Returns the worker's seat.
+fn work_beside<R: Print + Threads + Wait + Sync, L: Ledgers + Send + Sync>(
+    rt: &R,
+    shared: &Shared<BuddyArena, L>,
+    seats: &mut [Seat<L>],
+    worker: Worker<L>,
+) -> Seat<L>
+    requires { worker.lines ≡ [] }
+{
+    let mut workers = [worker];
+    let has_ended = match seats.last_mut() {
+        Some(seat) => make_calls_and_run_workers(rt, shared, seat, &mut workers),
+        None => false,
+    };
+    let [worker] = workers;
+    ended(rt, worker, has_ended)
+}
+
 // Makes every call through the seat of one build, and runs a worker for the other build.
 fn ask_and_work<R: Print + Threads + Wait + Sync, L: Ledgers + Send + Sync>(
     rt: &R,
@@ -105,31 +167,28 @@ fn ask_and_work<R: Print + Threads + Wait + Sync, L: Ledgers + Send + Sync>(
     shared: &Shared<BuddyArena, L>,
     seats: &mut Vec<Seat<L>>,
 ) -> Result<(), Fault> {
-    let mut workers = [last_worker(rt, alloc, seats)?];
-    let seat = seats.last_mut().ok_or(Fault::Other)?;
-    let has_ended = make_calls_and_run_workers(rt, shared, seat, &mut workers);
-    let [worker] = workers;
-    let (seat, _steps, report) = worker.end();
-    let _told = println!(rt;
-        "a report of {} lines, whole: {has_ended}",
-        report.lines.len()
-    );
+    let worker = last_worker(rt, alloc, seats)?;
+    let seat = work_beside(rt, shared, seats.as_mut_slice(), worker);
     seats.push(seat)?;
     Ok(())
 }
 
 // A shared host from a second try, started with the arguments that the first try handed back.
 fn shared_again<L: Ledgers>(
+    rt: &impl Print,
     alloc: Global,
-    back: (AllocError, Blanks, Host<BuddyArena>),
+    blanks: Blanks,
+    host: Host<BuddyArena>,
 ) -> Result<(Shared<BuddyArena, L>, Vec<Seat<L>>), Fault>
-    requires empty { back.2.history ≡ [] }
-    requires opened { back.2 ≡ L.opened }
-    requires named { AreNamed L.names back.1 }
+    requires empty { host.history ≡ [] }
+    requires opened { host ≡ L.opened }
+    requires named { AreNamed L.names blanks }
 {
-    let (_, blanks, host) = back;
     match Shared::start(alloc, blanks, host) {
-        Ok(started) => Ok(started),
+        Ok(started) => {
+            tell_try(rt, "shared", true);
+            Ok(started)
+        }
         Err(_) => Err(Fault::Memory),
     }
 }
@@ -145,12 +204,13 @@ fn started<L: Ledgers>(
     requires opened { host ≡ L.opened }
     requires named { AreNamed L.names blanks }
 {
-    let (started, is_second) = match Shared::start(alloc, blanks, host) {
-        Ok(started) => (started, false),
-        Err(back) => (shared_again(alloc, back)?, true),
-    };
-    tell_try(rt, "shared", is_second);
-    Ok(started)
+    match Shared::start(alloc, blanks, host) {
+        Ok(started) => {
+            tell_try(rt, "shared", false);
+            Ok(started)
+        }
+        Err((_, blanks, host)) => shared_again(rt, alloc, blanks, host),
+    }
 }
 
 fn tell_events(rt: &impl Print, host: &Host<BuddyArena>) {
