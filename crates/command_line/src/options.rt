@@ -1,13 +1,13 @@
 //! Functions that define parts of a command line for `clap`, parse a command line, and read its values. The parts are a
 //! program, a subcommand, and the option `--erase`. The functions have proved contracts.
 ghost use Rattle.std.specs.Prelude.{◌≡◌, IfOk, None, Some, codes, false, if◌then◌else◌, map, nat_lt, option_and_then, option_map, string_bytes, true};
-ghost use Rattle.clap.specs.Words.{FailsBy, app_of, fault_of, found_of, is_simple_and_free, new_app, one_of, rows_of, rule_of, subcommand_of, subcommand_rows_of};
+ghost use Rattle.clap.specs.Words.{App, FailsBy, app_of, fault_of, found_of, is_simple_and_free, new_app, one_of, rows_of, rule_of, subcommand_of, subcommand_rows_of};
 ghost use Rattle.clap.specs.declared.builder.command.Command.TheViews.{out-Command as fields_of};
 ghost use Rattle.command_line.specs.Options.{ArePassed, IsErase, built_erase, erase_option, named_file, program_named};
 
 use clap::{Arg, ArgAction, ArgMatches, Command, Error, value_parser};
 use granule_addr::BuildId;
-use std::alloc::Global;
+use std::alloc::{AllocError, Global};
 
 /// Returns the `clap` definition of a program, to which subcommands are yet to be added. The program has a version, and
 /// requires a subcommand.
@@ -39,16 +39,18 @@ pub(crate) fn erase<'a>(alloc: Global, help: &'a str) -> Arg<'a>
         .value_parser(value_parser!(u8).range(0..=7))
 }
 
-/// Parses a command line by a program's `clap` definition. Returns the matches, or the error.
+/// Parses a command line by a program's `clap` definition, if there was memory to make it. Returns the matches, or the
+/// error.
 pub(crate) fn matched<'a>(
-    program: Command<'a>,
+    program: Result<Command<'a>, AllocError>,
     words: &'a [String],
 ) -> Result<ArgMatches<'a>, Error>
-    requires { is_simple_and_free (app_of program) ≡ true }
-    ensures ok { IfOk result (λ m. subcommand_rows_of m ≡ subcommand_of (app_of program.entry) (map string_bytes words.now)) }
-    ensures kinds { FailsBy (fault_of (app_of program.entry) (map string_bytes words.now)) result }
+    ensures ok { (app : App) → IfOk program.entry (λ c. app_of c ≡ app) → is_simple_and_free app ≡ true
+        → IfOk result (λ m. subcommand_rows_of m ≡ subcommand_of app (map string_bytes words.now)) }
+    ensures kinds { (app : App) → IfOk program.entry (λ c. app_of c ≡ app) → is_simple_and_free app ≡ true
+        → FailsBy (fault_of app (map string_bytes words.now)) result }
 {
-    program.try_get_matches_from(words)
+    program?.try_get_matches_from(words)
 }
 
 /// Returns the build with the given number, or `None` if there is no number or it is not below 8.

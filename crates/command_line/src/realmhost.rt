@@ -1,11 +1,11 @@
 //! The command line of `realmhost`.
-ghost use Rattle.std.specs.Prelude.{◌≡◌, IfOk, false, true, map, string_bytes};
-ghost use Rattle.clap.specs.Words.{FailsBy, app_of, fault_of, subcommand_of};
+ghost use Rattle.std.specs.Prelude.{◌≡◌, List, [], IfOk, false, map, string_bytes};
+ghost use Rattle.clap.specs.Words.{FailsBy, Text, app_of, fault_of, subcommand_of, subcommand_rows_of, with_subcommand};
 ghost use Rattle.clap.specs.declared.builder.command.Command.TheViews.{out-Command as fields_of};
-ghost use Rattle.command_line.specs.Realmhost.{replay_subcommand, realmhost, IsHostSubcommand};
+ghost use Rattle.command_line.specs.Realmhost.{replay_subcommand, realmhost, realmhost_alone, IsHostSubcommand};
 
 use crate::options::{erase, erased, matched, program, subcommand};
-use clap::{Command, Error};
+use clap::{ArgMatches, Command, Error};
 use granule_addr::BuildId;
 use std::alloc::{AllocError, Global};
 
@@ -35,16 +35,32 @@ fn replay<'a>(alloc: Global) -> Result<Command<'a>, AllocError>
     subcommand(alloc, "replay", REPLAY).arg(erase(alloc, ERASE))
 }
 
+// Returns the program's `clap` definition with the one subcommand `replay`.
+fn with_replay<'a>(alloc: Global) -> Result<Command<'a>, AllocError>
+    ensures { IfOk result (λ c. app_of c ≡ with_subcommand realmhost_alone replay_subcommand.top) }
+{
+    let replay = replay(alloc)?;
+    program(alloc, "realmhost", ABOUT)
+        .disable_help_subcommand(true)
+        .subcommand(replay)
+}
+
 // Returns the program's `clap` definition.
 fn command<'a>(alloc: Global) -> Result<Command<'a>, AllocError>
     ensures { IfOk result (λ c. app_of c ≡ realmhost) }
 {
-    let replay = replay(alloc)?;
-    let run = subcommand(alloc, "run", RUN);
-    program(alloc, "realmhost", ABOUT)
-        .disable_help_subcommand(true)
-        .subcommand(replay)?
-        .subcommand(run)
+    with_replay(alloc)?.subcommand(subcommand(alloc, "run", RUN))
+}
+
+// Returns the request of words that were matched.
+fn line_of(matches: &ArgMatches) -> Line
+    requires { (words : List Text) × (fault_of realmhost words ≡ []) × (subcommand_rows_of matches.now ≡ subcommand_of realmhost words) }
+    ensures { IsHostSubcommand (subcommand_rows_of matches.now) result }
+{
+    match matches.subcommand_matches("replay") {
+        Some(replay) => Line::Replay(erased(replay)),
+        None => Line::Run,
+    }
 }
 
 impl Line {
@@ -55,10 +71,6 @@ impl Line {
         // An error is of the kind that the specification gives, or reports a failed allocation.
         ensures kinds { FailsBy (fault_of realmhost (map string_bytes words.now)) result }
     {
-        let matches = matched(command(alloc)?, words)?;
-        let Some(replay) = matches.subcommand_matches("replay") else {
-            return Ok(Line::Run);
-        };
-        Ok(Line::Replay(erased(replay)))
+        Ok(line_of(&matched(command(alloc), words)?))
     }
 }

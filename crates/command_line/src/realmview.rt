@@ -3,7 +3,7 @@ ghost use Rattle.std.specs.Prelude.{◌≡◌};
 ghost use Rattle.command_line.specs.Realmview.{after_refusal, question_asked, question_of_leased, schedules_asked, schedules_drawn};
 
 use crate::options::build_of;
-use crate::table::{Opt, Program, Subcommand, given_file};
+use crate::table::{Argument, Program, Subcommand, given_file};
 use crate::{BaseAddress, Invocation};
 use clap::{ArgMatches, Error};
 use granule_addr::BuildId;
@@ -313,72 +313,71 @@ const REALMVIEW: Program = Program {
             name: "history",
             about: HISTORY,
             examples: HISTORY_EXAMPLES,
-            file: PLAN,
-            options: &[Opt::Erase(ERASE)],
+            arguments: &[Argument::File(PLAN), Argument::Erase(ERASE)],
         },
         Subcommand {
             name: "apply",
             about: APPLY,
             examples: APPLY_EXAMPLES,
-            file: HISTORY_FILE,
-            options: &[Opt::Erase(ERASE)],
+            arguments: &[Argument::File(HISTORY_FILE), Argument::Erase(ERASE)],
         },
         Subcommand {
             name: "json",
             about: JSON,
             examples: JSON_EXAMPLES,
-            file: PLAN,
-            options: &[],
+            arguments: &[Argument::File(PLAN)],
         },
         Subcommand {
             name: "page",
             about: PAGE,
             examples: PAGE_EXAMPLES,
-            file: PLAN,
-            options: &[],
+            arguments: &[Argument::File(PLAN)],
         },
         Subcommand {
             name: "why",
             about: WHY,
             examples: WHY_EXAMPLES,
-            file: PLAN,
-            options: &[Opt::Flag("all", ALL_HELP)],
+            arguments: &[Argument::File(PLAN), Argument::Flag("all", ALL_HELP)],
         },
         Subcommand {
             name: "explore",
             about: EXPLORE,
             examples: EXPLORE_EXAMPLES,
-            file: PLAN,
-            options: &[
-                Opt::Number("most-states", "N", MOST_STATES_HELP),
-                Opt::Number("sample", "K", SAMPLE_HELP),
-                Opt::Number("seed", "S", SEED_HELP),
-                Opt::Text("refused", "B:S", REFUSED_HELP),
-                Opt::Number("waiting", "B", WAITING_HELP),
-                Opt::Number("leased", "N", LEASED_HELP),
-                Opt::Flag("give-up", GIVE_UP_HELP),
+            arguments: &[
+                Argument::File(PLAN),
+                Argument::Number("most-states", "N", MOST_STATES_HELP),
+                Argument::Number("sample", "K", SAMPLE_HELP),
+                Argument::Number("seed", "S", SEED_HELP),
+                Argument::Text("refused", "B:S", REFUSED_HELP),
+                Argument::Number("waiting", "B", WAITING_HELP),
+                Argument::Number("leased", "N", LEASED_HELP),
+                Argument::Flag("give-up", GIVE_UP_HELP),
             ],
         },
         Subcommand {
             name: "order",
             about: ORDER,
             examples: ORDER_EXAMPLES,
-            file: PLAN,
-            options: &[Opt::Flag("one-by-one", ONE_BY_ONE_HELP)],
+            arguments: &[
+                Argument::File(PLAN),
+                Argument::Flag("one-by-one", ONE_BY_ONE_HELP),
+            ],
         },
         Subcommand {
             name: "calls",
             about: CALLS,
             examples: CALLS_EXAMPLES,
-            file: PLAN,
-            options: &[Opt::Text("base", "HEX", BASE_HELP), Opt::Flag("c", C_HELP)],
+            arguments: &[
+                Argument::File(PLAN),
+                Argument::Text("base", "HEX", BASE_HELP),
+                Argument::Flag("c", C_HELP),
+            ],
         },
         Subcommand {
             name: "check",
             about: CHECK,
             examples: CHECK_EXAMPLES,
-            file: PLAN,
-            options: &[],
+            arguments: &[Argument::File(PLAN)],
         },
     ],
 };
@@ -402,23 +401,29 @@ fn step_of(text: &str) -> Option<StepPlace> {
     Some(StepPlace { build, step })
 }
 
-// Returns the schedules that the matched words ask for, or an error.
-fn schedules_by(explore: &ArgMatches) -> Result<Schedules, BadOption> {
-    let most_states: Option<u32> = explore.get_one("most-states");
-    let question = question_asked(
+// Returns the question that the matched words ask, if they ask one, or an error.
+fn question_by(explore: &ArgMatches) -> Result<Option<ScheduleQuestion>, BadOption> {
+    question_asked(
         explore.get_str("refused").map(step_of),
         explore.get_one("waiting"),
         explore.get_one("leased"),
-    )?;
-    if let Some(question) = question {
-        let most = most_states.unwrap_or(DEFAULT_STATE_LIMIT);
-        return Ok(Schedules::Shortest(most, question));
-    }
-    schedules_asked(
-        most_states,
-        explore.get_one("sample"),
-        explore.get_one("seed"),
     )
+}
+
+// Returns the schedules that the matched words ask for, or an error.
+fn schedules_by(explore: &ArgMatches) -> Result<Schedules, BadOption> {
+    let most_states: Option<u32> = explore.get_one("most-states");
+    match question_by(explore)? {
+        Some(question) => Ok(Schedules::Shortest(
+            most_states.unwrap_or(DEFAULT_STATE_LIMIT),
+            question,
+        )),
+        None => schedules_asked(
+            most_states,
+            explore.get_one("sample"),
+            explore.get_one("seed"),
+        ),
+    }
 }
 
 // Returns the exploration that the matched words ask for, or an error.
@@ -454,20 +459,32 @@ fn scheduling_policy_by(order: &ArgMatches) -> SchedulingPolicy {
     }
 }
 
+// Returns the request for calls that the matched words make, or an error.
+fn calls_by(calls: &ArgMatches) -> Result<ViewSubcommand, BadOption> {
+    Ok(ViewSubcommand::Calls(base_by(calls)?, form_by(calls)))
+}
+
+// The request that the subcommand `name` makes, if its options cannot be wrong.
+fn plainly_asked_by(name: &str, matches: &ArgMatches) -> ViewSubcommand {
+    match name {
+        "history" => ViewSubcommand::History(erased(matches)),
+        "apply" => ViewSubcommand::Apply(erased(matches)),
+        "json" => ViewSubcommand::Json,
+        "page" => ViewSubcommand::Page,
+        "why" => ViewSubcommand::Why {
+            all: matches.get_flag("all"),
+        },
+        "order" => ViewSubcommand::Order(scheduling_policy_by(matches)),
+        _ => ViewSubcommand::Check,
+    }
+}
+
 // Returns the request that the subcommand `name` makes, or an error.
 fn asked_by(name: &str, matches: &ArgMatches) -> Result<ViewSubcommand, BadOption> {
     match name {
-        "history" => Ok(ViewSubcommand::History(erased(matches))),
-        "apply" => Ok(ViewSubcommand::Apply(erased(matches))),
-        "json" => Ok(ViewSubcommand::Json),
-        "page" => Ok(ViewSubcommand::Page),
-        "why" => Ok(ViewSubcommand::Why {
-            all: matches.get_flag("all"),
-        }),
         "explore" => explore_by(matches),
-        "order" => Ok(ViewSubcommand::Order(scheduling_policy_by(matches))),
-        "calls" => Ok(ViewSubcommand::Calls(base_by(matches)?, form_by(matches))),
-        _ => Ok(ViewSubcommand::Check),
+        "calls" => calls_by(matches),
+        _ => Ok(plainly_asked_by(name, matches)),
     }
 }
 
@@ -501,6 +518,20 @@ fn bad_option(alloc: Global, reason: BadOption) -> Result<Error, AllocError> {
     realmview().error(alloc, &format!(in alloc; "{reason}")?)
 }
 
+// Returns the request of the matched words with the name of the file, or the error.
+fn invocation_of<'a>(
+    alloc: Global,
+    matches: &ArgMatches<'a>,
+) -> Result<Invocation<'a, ViewSubcommand>, Error> {
+    match asked_of(matches) {
+        Ok(asked) => Ok(Invocation {
+            asked,
+            file: given_file(matches),
+        }),
+        Err(reason) => Err(bad_option(alloc, reason)?),
+    }
+}
+
 impl ViewSubcommand {
     /// Parses a command line of `realmview`. Returns the request and the name of the file, or the error. The first word
     /// is the program's name.
@@ -508,13 +539,6 @@ impl ViewSubcommand {
         alloc: Global,
         words: &'a [String],
     ) -> Result<Invocation<'a, ViewSubcommand>, Error> {
-        let matches = realmview().matched(alloc, words)?;
-        match asked_of(&matches) {
-            Ok(asked) => Ok(Invocation {
-                asked,
-                file: given_file(&matches),
-            }),
-            Err(reason) => Err(bad_option(alloc, reason)?),
-        }
+        invocation_of(alloc, &realmview().matched(alloc, words)?)
     }
 }

@@ -1,9 +1,9 @@
 //! The command line of `rmitrace`.
-ghost use Rattle.std.specs.Prelude.{◌≡◌};
+ghost use Rattle.std.specs.Prelude.{◌≡◌, ◌<◌, IfOk};
 ghost use Rattle.command_line.specs.Rmitrace.{is_name_in};
 
 use crate::Invocation;
-use crate::table::{Opt, Program, Subcommand, given_file};
+use crate::table::{Argument, Program, Subcommand, given_file};
 use clap::{ArgMatches, Error};
 use rmm_trace::place::{FIRST_CHECK, WRITE};
 use rmm_trace::{find_name, name_text};
@@ -98,34 +98,31 @@ const RMITRACE: Program = Program {
             name: "answer",
             about: ANSWER,
             examples: ANSWER_EXAMPLES,
-            file: FILE,
-            options: &[],
+            arguments: &[Argument::File(FILE)],
         },
         Subcommand {
             name: "check",
             about: CHECK,
             examples: CHECK_EXAMPLES,
-            file: FILE,
-            options: &[
-                Opt::Flag("each", EACH_HELP),
-                Opt::Flag("stop", STOP_HELP),
-                Opt::Names("only", ONLY_HELP),
-                Opt::Names("skip", SKIP_HELP),
+            arguments: &[
+                Argument::File(FILE),
+                Argument::Flag("each", EACH_HELP),
+                Argument::Flag("stop", STOP_HELP),
+                Argument::Names("only", ONLY_HELP),
+                Argument::Names("skip", SKIP_HELP),
             ],
         },
         Subcommand {
             name: "names",
             about: NAMES,
             examples: NAMES_EXAMPLES,
-            file: FILE,
-            options: &[],
+            arguments: &[Argument::File(FILE)],
         },
         Subcommand {
             name: "why",
             about: WHY,
             examples: WHY_EXAMPLES,
-            file: FILE,
-            options: &[],
+            arguments: &[Argument::File(FILE)],
         },
     ],
 };
@@ -185,15 +182,29 @@ fn nearest(alloc: Global, text: &str) -> Result<Option<&'static str>, AllocError
     Ok(found)
 }
 
+// Returns the message for a name that no line can have.
+fn unknown_text(alloc: Global, name: &str) -> Result<String, AllocError> {
+    match nearest(alloc, name)? {
+        Some(near) => {
+            format!(in alloc; "no command or check is named '{name}'; did you mean '{near}'?")
+        }
+        None => format!(in alloc; "no command or check is named '{name}'"),
+    }
+}
+
 // Returns the error for a name that no line can have.
 fn unknown(alloc: Global, name: &str) -> Result<Error, AllocError> {
-    let message = match nearest(alloc, name)? {
-        Some(near) => {
-            format!(in alloc; "no command or check is named '{name}'; did you mean '{near}'?")?
-        }
-        None => format!(in alloc; "no command or check is named '{name}'")?,
-    };
-    rmitrace().error(alloc, &message)
+    rmitrace().error(alloc, &unknown_text(alloc, name)?)
+}
+
+// Returns the place of a name that a line can have, or an error for any other name.
+fn known_place(alloc: Global, name: &str) -> Result<usize, Error>
+    ensures { IfOk result (λ place. place < 256) }
+{
+    match place_of(alloc, name)? {
+        Some(place) if place < 256 => Ok(place),
+        _ => Err(unknown(alloc, name)?),
+    }
 }
 
 // Returns the set of the given names, or an error if any of them is a name that no line can have.
@@ -202,10 +213,7 @@ fn set_of(alloc: Global, names: &[&str]) -> Result<NameSet, Error> {
         places: [false; 256],
     };
     for name in names {
-        match place_of(alloc, name)? {
-            Some(place) if place < 256 => set.places[place] = true,
-            _ => return Err(unknown(alloc, name)?),
-        }
+        set.places[known_place(alloc, name)?] = true;
     }
     Ok(set)
 }
@@ -221,23 +229,42 @@ fn names_by(alloc: Global, check: &ArgMatches, option: &str) -> Result<Option<Na
 }
 
 // Returns the comparison that the matched words ask for, or an error.
-fn compared_by(alloc: Global, check: &ArgMatches) -> Result<Comparison, Error> {
-    Ok(Comparison {
+fn compared_by(alloc: Global, check: &ArgMatches) -> Result<TraceSubcommand, Error> {
+    Ok(TraceSubcommand::Check(Comparison {
         is_each: check.get_flag("each"),
         stops: check.get_flag("stop"),
         only: names_by(alloc, check, "only")?,
         skip: names_by(alloc, check, "skip")?,
-    })
+    }))
+}
+
+// The request that the subcommand `name` makes, which has no options.
+fn plainly_asked_by(name: &str) -> TraceSubcommand {
+    match name {
+        "names" => TraceSubcommand::Names,
+        "why" => TraceSubcommand::Why,
+        _ => TraceSubcommand::Answer,
+    }
 }
 
 // Returns the request that the matched words make, or an error.
 fn asked_by(alloc: Global, matches: &ArgMatches) -> Result<TraceSubcommand, Error> {
     match matches.subcommand() {
-        Some(("check", check)) => Ok(TraceSubcommand::Check(compared_by(alloc, check)?)),
-        Some(("names", _)) => Ok(TraceSubcommand::Names),
-        Some(("why", _)) => Ok(TraceSubcommand::Why),
-        _ => Ok(TraceSubcommand::Answer),
+        Some(("check", check)) => compared_by(alloc, check),
+        Some((name, _)) => Ok(plainly_asked_by(name)),
+        None => Ok(TraceSubcommand::Answer),
     }
+}
+
+// Returns the request of the matched words with the name of the file, or the error.
+fn invocation_of<'a>(
+    alloc: Global,
+    matches: &ArgMatches<'a>,
+) -> Result<Invocation<'a, TraceSubcommand>, Error> {
+    Ok(Invocation {
+        asked: asked_by(alloc, matches)?,
+        file: given_file(matches),
+    })
 }
 
 impl TraceSubcommand {
@@ -247,10 +274,6 @@ impl TraceSubcommand {
         alloc: Global,
         words: &'a [String],
     ) -> Result<Invocation<'a, TraceSubcommand>, Error> {
-        let matches = rmitrace().matched(alloc, words)?;
-        Ok(Invocation {
-            asked: asked_by(alloc, &matches)?,
-            file: given_file(&matches),
-        })
+        invocation_of(alloc, &rmitrace().matched(alloc, words)?)
     }
 }

@@ -62,7 +62,7 @@ impl<F: Reason> Display for Stop<F> {
     fn fmt<W: fmt::Write>(&self, f: &mut fmt::Formatter<W>) -> fmt::Result {
         match self {
             Stop::Usage(error) => write!(f, "{error}"),
-            Stop::NotUtf8 => write!(f, "an argument is not UTF-8\n"),
+            Stop::NotUtf8 => f.write_str("an argument is not UTF-8\n"),
             Stop::Unopened(line) => write!(f, "{line}\n"),
             Stop::Run(fault) => write!(f, "{fault}\n"),
         }

@@ -1,13 +1,15 @@
-//! The command line of a program, described by a table of subcommands and options. A program has subcommands, and each
-//! subcommand reads a FILE and has options.
-use crate::options::{erase, named_file, program, subcommand};
+//! The command line of a program, described by a table of subcommands and their arguments. A program has subcommands,
+//! and each subcommand reads a FILE and has options.
+use crate::options::{erase, matched, named_file, program, subcommand};
 use clap::error::ErrorKind;
 use clap::{Arg, ArgAction, ArgMatches, Command, Error, value_parser};
 use std::alloc::{AllocError, Global};
 
-/// An option of a subcommand, with its help text.
+/// An argument of a subcommand, FILE or an option, with its help text.
 #[derive(Clone, Copy)]
-pub(crate) enum Opt {
+pub(crate) enum Argument {
+    /// The argument FILE.
+    File(&'static str),
     /// The option `--erase B`, which leaves out build B.
     Erase(&'static str),
     /// An option whose value is a 32-bit number. The texts are the option's name, the value's name, and the help.
@@ -20,15 +22,14 @@ pub(crate) enum Opt {
     Text(&'static str, &'static str, &'static str),
 }
 
-/// A description of a program's subcommand: its name, help texts and options. The help texts are a description,
-/// examples, and the help for its argument FILE.
+/// A description of a program's subcommand: its name, help texts and arguments. The help texts are a description and
+/// examples.
 #[derive(Clone, Copy)]
 pub(crate) struct Subcommand {
     pub name: &'static str,
     pub about: &'static str,
     pub examples: &'static str,
-    pub file: &'static str,
-    pub options: &'static [Opt],
+    pub arguments: &'static [Argument],
 }
 
 /// A description of a program's command line: the program's name, help texts and subcommands. The help texts are a
@@ -41,67 +42,80 @@ pub(crate) struct Program {
     pub subcommands: &'static [Subcommand],
 }
 
+// An option, by its name and its help.
+fn option<'a>(alloc: Global, name: &'a str, help: &'a str) -> Arg<'a> {
+    Arg::new(alloc, name).long(name).help(help)
+}
+
+// An option that has a value. The action says what becomes of the values if the option is repeated.
+fn valued<'a>(
+    alloc: Global,
+    name: &'a str,
+    value: &'a str,
+    help: &'a str,
+    action: ArgAction,
+) -> Arg<'a> {
+    option(alloc, name, help).value_name(value).action(action)
+}
+
 // An option whose value is a 32-bit number.
 fn number<'a>(alloc: Global, name: &'a str, value: &'a str, help: &'a str) -> Arg<'a> {
-    Arg::new(alloc, name)
-        .long(name)
-        .value_name(value)
-        .help(help)
-        .action(ArgAction::Set)
-        .value_parser(value_parser!(u32))
+    valued(alloc, name, value, help, ArgAction::Set).value_parser(value_parser!(u32))
 }
 
 // A flag.
 fn flag<'a>(alloc: Global, name: &'a str, help: &'a str) -> Arg<'a> {
-    Arg::new(alloc, name)
-        .long(name)
-        .help(help)
-        .action(ArgAction::SetTrue)
+    option(alloc, name, help).action(ArgAction::SetTrue)
 }
 
-// An option whose value is a text.
-fn text<'a>(alloc: Global, name: &'a str, value: &'a str, help: &'a str) -> Arg<'a> {
-    Arg::new(alloc, name)
-        .long(name)
-        .value_name(value)
-        .help(help)
+// The argument FILE of a subcommand.
+fn file<'a>(alloc: Global, help: &'a str) -> Arg<'a> {
+    Arg::new(alloc, "file").value_name("FILE").help(help)
 }
 
-impl Opt {
-    fn argument<'a>(self, alloc: Global) -> Arg<'a> {
+impl Argument {
+    // The argument's `clap` definition.
+    fn definition<'a>(self, alloc: Global) -> Arg<'a> {
         match self {
-            Opt::Erase(help) => erase(alloc, help),
-            Opt::Number(name, value, help) => number(alloc, name, value, help),
-            Opt::Flag(name, help) => flag(alloc, name, help),
-            Opt::Names(name, help) => text(alloc, name, "NAME", help).action(ArgAction::Append),
-            Opt::Text(name, value, help) => {
-                text(alloc, name, value, help).action(ArgAction::Set)
-            }
+            Argument::File(help) => file(alloc, help),
+            Argument::Erase(help) => erase(alloc, help),
+            Argument::Number(name, value, help) => number(alloc, name, value, help),
+            Argument::Flag(name, help) => flag(alloc, name, help),
+            Argument::Names(name, help) => valued(alloc, name, "NAME", help, ArgAction::Append),
+            Argument::Text(name, value, help) => valued(alloc, name, value, help, ArgAction::Set),
         }
     }
 }
 
+// Appends an item, if there was memory to make it.
+fn append<T: Drop>(items: &mut Vec<T>, item: Result<T, AllocError>) -> Result<(), AllocError> {
+    items.push(item?)?;
+    Ok(())
+}
+
 impl Subcommand {
+    // Returns the subcommand's `clap` definition.
     fn command<'a>(&self, alloc: Global) -> Result<Command<'a>, AllocError> {
-        let file = Arg::new(alloc, "file").value_name("FILE").help(self.file);
-        let mut command = subcommand(alloc, self.name, self.about)
-            .after_help(self.examples)
-            .arg(file)?;
-        for option in self.options {
-            command = command.arg(option.argument(alloc))?;
+        let mut arguments = Vec::new(alloc);
+        for argument in self.arguments {
+            append(&mut arguments, Ok(argument.definition(alloc)))?;
         }
-        Ok(command)
+        subcommand(alloc, self.name, self.about)
+            .after_help(self.examples)
+            .args(arguments)
     }
 }
 
 impl Program {
     // Returns the program's `clap` definition.
     fn command<'a>(&self, alloc: Global) -> Result<Command<'a>, AllocError> {
-        let mut command = program(alloc, self.name, self.about).after_help(self.examples);
+        let mut commands = Vec::new(alloc);
         for row in self.subcommands {
-            command = command.subcommand(row.command(alloc)?)?;
+            append(&mut commands, row.command(alloc))?;
         }
-        Ok(command)
+        program(alloc, self.name, self.about)
+            .after_help(self.examples)
+            .subcommands(commands)
     }
 
     /// Returns the error for an option value that `clap` accepts but the program refuses.
@@ -117,7 +131,7 @@ impl Program {
         alloc: Global,
         words: &'a [String],
     ) -> Result<ArgMatches<'a>, Error> {
-        self.command(alloc)?.try_get_matches_from(words)
+        matched(self.command(alloc), words)
     }
 }
 
