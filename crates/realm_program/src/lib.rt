@@ -8,6 +8,7 @@
 //! their turns.
 #![tactic(auto)]
 
+mod append;
 mod audit;
 mod boot_host;
 mod command;

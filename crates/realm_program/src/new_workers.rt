@@ -6,6 +6,7 @@ ghost use Rattle.realm_plan.specs.PlanView.{plan_view};
 ghost use Rattle.build_seats.specs.Seats.{new_seat};
 ghost use Rattle.realm_program.specs.Workers.{new_worker, new_workers};
 
+use crate::append::append_item;
 use builders::{Ledgers, Seat, Worker};
 use host_commands::Step;
 use realm_plan::{Plan, PlanStep};
@@ -17,7 +18,7 @@ fn asked_of(alloc: Global, steps: &[PlanStep]) -> Result<Vec<Step>, AllocError>
 {
     let mut asks = Vec::with_capacity(alloc, steps.len())?;
     for step in steps {
-        asks.push(step.asked())?;
+        append_item(&mut asks, step.asked())?;
     }
     Ok(asks)
 }
@@ -53,7 +54,7 @@ pub fn workers_of<L: Ledgers>(
     let mut workers = Vec::with_capacity(alloc, seats.len())?;
     let mut build = 0;
     for seat in seats {
-        workers.push(worker_of(alloc, plan, build, seat)?)?;
+        append_item(&mut workers, worker_of(alloc, plan, build, seat)?)?;
         build += 1;
     }
     Ok(workers)

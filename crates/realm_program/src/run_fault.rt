@@ -4,20 +4,16 @@ ghost use Rattle.realm_program.specs.declared.run_fault.RunFault.TheVariants.{Me
 
 use granule_addr::BuildId;
 use std::alloc::AllocError;
-use thiserror::Error;
 
 /// The reason why the run of a plan in threads fails.
-#[derive(Clone, Copy, Debug, Error)]
+#[derive(Clone, Copy)]
 pub enum RunFault {
     /// A failed allocation.
-    #[error("memory")]
     Memory,
     /// The lowest-numbered build whose worker was denied a turn by the scheduler (gate).
-    #[error("thread")]
     Stuck(BuildId),
     /// A mismatch between the records of a build and the history of events. A build's report, or the list of events of
     /// a build's seat, does not fit the history.
-    #[error("mismatch")]
     Mismatch,
 }
 

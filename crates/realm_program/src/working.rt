@@ -7,6 +7,7 @@ ghost use Rattle.std.specs.List.{range_with_len, AllZip};
 ghost use Rattle.realm_program.specs.Order.{ScheduleIsNotRevealed};
 ghost use Rattle.build_seats.specs.Names.{AreNamed};
 
+use crate::append::append_item;
 use crate::new_workers::workers_of;
 use crate::run_fault::RunFault;
 use crate::threads_text::audited_text_of;
@@ -142,8 +143,8 @@ pub(crate) fn ends_of<L: Ledgers>(
     let mut reports = Vec::with_capacity(alloc, workers.len())?;
     for worker in workers {
         let (seat, steps, report) = worker.end();
-        seats.push(seat)?;
-        reports.push((report, steps))?;
+        append_item(&mut seats, seat)?;
+        append_item(&mut reports, (report, steps))?;
     }
     Ok(Ends { seats, reports })
 }

@@ -19,7 +19,7 @@ pub returns-then-n-eq0-clause-bytes : goal.returns-then-n-eq0-clause-bytes
 returns-then-n-eq0-clause-bytes g c =
     let room = c.min-room.ensures in
     let few = c.loop.invariant.few in
-    let some : 0 < length c.read.new.buf = grind (arith, room, few) in
+    let some : 0 < length c.read.new.buf = omega (arith, c.read.auto.buf, length-take-le c.min-room.result c.loop.buf, room, few, c.len.ensures) in
     let none : take c.in_ok-n.n c.read.new.buf ≡ [] = rw c.if-n-eq0.true in
     kept_at_end _ _ _ _ _ c.loop.invariant.taken c.in_ok-n.ensures.bytes.0 none (c.in_ok-n.ensures.bytes.1 c.if-n-eq0.true some) (omega arith)
 
@@ -30,8 +30,8 @@ loop-preserved g c =
       fine = c.in_ok-n.ensures.told;
       not_lowered = omega (arith, c.in_ok-n.ensures.not_lowered, c.loop.invariant.not_lowered);
       asked = omega (arith, c.in_ok-n.ensures.counted, c.loop.invariant.asked);
-      some = let l = c.in-Ok.ensures.len in let b = c.in_ok-n.ensures.bound in let m = c.min-room.ensures in grind (arith, l, b, m);
-      few = grind arith;
+      some = let l = c.in-Ok.ensures.len in let b = c.in_ok-n.ensures.bound in let m = c.min-room.ensures in omega (arith, l, b, m);
+      few = omega arith;
       taken = rw more (consumes_more _ _ _ _ _ c.loop.invariant.taken c.in_ok-n.ensures.bytes.0);
     }
 

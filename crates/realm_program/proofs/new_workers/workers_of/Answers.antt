@@ -43,5 +43,5 @@ loop-seat-preserved g c =
       taken_more at.yielded _ _ _ at.invariant.0 at.invariant.1 x _ steps.0,
       left_less at.yielded _ _ _ at.invariant.0 at.invariant.1 x _ _ steps.0 steps.1,
       ap (λ n. n + 1) at.invariant.2 ∙ sym (length-append at.yielded (x ∷ [])),
-      one_more (plan_view c.args.plan.now) at.build at.workers.items _ c.in_ok-worker_of.field-0 at.invariant.3 c.in_ok-worker_of.ensures c.in_ok-push.ensures.items,
+      one_more (plan_view c.args.plan.now) at.build at.workers.items _ c.in_ok-worker_of.field-0 at.invariant.3 c.in_ok-worker_of.ensures c.in_ok-append_item.ensures,
     )

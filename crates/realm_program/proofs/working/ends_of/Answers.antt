@@ -13,8 +13,8 @@ loop-worker-preserved g c =
     let steps = c.in-Some.ensures.steps in (
       taken_more at.yielded _ _ _ at.invariant.0 at.invariant.1 x _ steps.0,
       left_less at.yielded _ _ _ at.invariant.0 at.invariant.1 x _ _ steps.0 steps.1,
-      seats_more at.yielded at.seats.items _ x c.end-seat.result.0 at.invariant.2 parts.0 c.in_ok-push.ensures.items,
-      reports_more at.yielded at.reports.items _ x (c.end-seat.result.2, c.end-seat.result.1) at.invariant.3 (c.end-seat.ensures.build, parts.2, parts.1) c.in_ok-push-2.ensures.items,
+      seats_more at.yielded at.seats.items _ x c.end-seat.result.0 at.invariant.2 parts.0 c.in_ok-append_item.ensures,
+      reports_more at.yielded at.reports.items _ x (c.end-seat.result.2, c.end-seat.result.1) at.invariant.3 (c.end-seat.ensures.build, parts.2, parts.1) c.in_ok-append_item-2.ensures,
     )
 
 pub returns-clause-seats : goal.returns-clause-seats
