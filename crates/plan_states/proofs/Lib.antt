@@ -18,3 +18,4 @@ pub mod RunPaths
 pub mod Snapshots
 pub mod Lengths
 pub mod Positions
+pub mod Loops

@@ -1,6 +1,6 @@
 -- Lemmas on tallies of paths: a tally has the number of an outcome's paths and the first of their schedules, and
 -- tallies are sorted by these schedules.
-use Rattle.std.proofs.Common.{◌≡◌, ℕ, zero, suc, ◌+◌, ◌<◌, ◌≤◌, Bool, true, false, cond, List, [], ◌∷◌, ◌++◌, map, length, min, get_or, take, drop, Vec, Global, Option, Some, None, refl, sym, subst, ap, ◌∙◌, add-one, drop-cons, arith}
+use Rattle.std.proofs.Common.{◌≡◌, ℕ, zero, suc, ◌+◌, ◌<◌, ◌≤◌, Bool, true, false, cond, List, [], ◌∷◌, ◌++◌, map, length, min, get_or, take, drop, Vec, Global, vec_items, Option, Some, None, refl, sym, subst, ap, ◌∙◌, add-one, drop-cons, arith}
 use Rattle.std.specs.Prelude.{filter, option_map, slice_index_or}
 use Rattle.std.specs.List.{find, insert}
 use Rattle.std.proofs.lemmas.List.{map-append, take-map, drop-map}
@@ -9,7 +9,7 @@ use Rattle.std.proofs.lemmas.Simd.{map-map}
 use Rattle.schedule_graph.specs.First.{first_like, any_path, layers_in, path_numbers_in, ArePathNumbers}
 use Rattle.schedule_graph.specs.Paths.{Layer, Path, paths, count_at}
 use Rattle.schedule_graph.specs.declared.graph.Edge.{Edge}
-use Rattle.plan_states.specs.Tallies.{PathCount, all_added, builds_of_path, count_of_tally, tally_of, is_before, place_for, with_tally}
+use Rattle.plan_states.specs.Tallies.{PathCount, all_added, builds_of_path, count_of_tally, tally_by_counts, tally_of, is_before, place_for, with_tally}
 use Rattle.plan_states.specs.declared.edges.Label.{Label}
 use Rattle.plan_states.specs.declared.tally.PathTally.{PathTally}
 
@@ -45,6 +45,13 @@ pub tally-first : {K : Type 0} (like : Path Label → Bool) (outcome : K) (layer
     → Some (record { outcome = outcome; count = count; first = first }) ≡ tally_of like outcome (paths layers 0)
 tally-first like outcome layers numbers labels count first are some number schedule =
     tally_of-some like outcome (paths layers 0) labels count first some (number ∙ are 0 0) schedule
+
+pub tally-of_first : {K : Type 0} (like : Path Label → Bool) (outcome : K) (layers : List (Layer Label)) (numbers : List (List ℕ)) (path : Option (Vec Label Global))
+    → ArePathNumbers like layers numbers → first_like like (paths layers 0) ≡ option_map vec_items path
+    → option_map (λ (labels : Vec Label Global). tally_by_counts outcome numbers labels.items) path ≡ tally_of like outcome (paths layers 0)
+tally-of_first like outcome layers numbers None are first = tally_of-none like outcome (paths layers 0) first
+tally-of_first like outcome layers numbers (Some labels) are first =
+    tally-first like outcome layers numbers labels.items (count_at (slice_index_or numbers 0 []) 0) (map (λ label. label.build) labels.items) are first refl refl
 
 -- ---- the order of schedules
 

@@ -1,8 +1,8 @@
 -- The tallies of a state graph's outcomes: for each outcome, the number of paths, and the schedule of the first path.
-use Rattle.std.specs.Prelude.{◌≡◌, ℕ, zero, suc, nat_lt, ◌==◌, if◌then◌else◌, Bool, true, false, List, [], ◌∷◌, map, filter, length, Option, Some, None, option_map, slice_get}
+use Rattle.std.specs.Prelude.{◌≡◌, ℕ, zero, suc, nat_lt, ◌==◌, if◌then◌else◌, Bool, true, false, List, [], ◌∷◌, map, filter, length, Option, Some, None, option_map, slice_get, slice_index_or}
 use Rattle.std.specs.List.{find, insert}
 use Rattle.schedule_graph.specs.First.{layers_in, shows_none}
-use Rattle.schedule_graph.specs.Paths.{Layer, Path, paths, shows}
+use Rattle.schedule_graph.specs.Paths.{Layer, Path, paths, shows, count_at}
 use Rattle.plan_states.specs.LabelProperties.{has_number, is_refusal_of}
 use Rattle.plan_states.specs.declared.edges.Label.{Label}
 use Rattle.plan_states.specs.declared.graph.Graph.{Graph}
@@ -31,6 +31,11 @@ count_of_tally tally = record { outcome = tally.outcome; count = tally.count; fi
 abbrev pub tally_of : {K : Type 0} → (Path Label → Bool) → K → List (Path Label) → Option (PathCount K)
 tally_of like outcome ps =
     option_map (λ path. record { outcome = outcome; count = length (filter like ps); first = builds_of_path path }) (find like ps)
+
+-- the tally of an outcome, given its path counts by layer and state, and the labels of its first path
+abbrev pub tally_by_counts : {K : Type 0} → K → List (List ℕ) → List Label → PathCount K
+tally_by_counts outcome counts labels =
+    record { outcome = outcome; count = count_at (slice_index_or counts 0 []) 0; first = map (λ label. label.build) labels }
 
 -- ---- the order of tallies
 

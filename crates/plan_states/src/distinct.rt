@@ -4,14 +4,7 @@ ghost use Rattle.std.specs.Bool.{OnTrue, OnFalse};
 ghost use Rattle.plan_states.specs.Distinct.{AreEndsDistinct, AreMapsDistinct, IsGraphDistinct, IsNewEnd, IsNewMap};
 
 use crate::graph::Graph;
-use crate::step_end::EndOfStep;
-
-// Whether two outcomes of steps are the same.
-fn is_same_end(one: &EndOfStep, other: &EndOfStep) -> bool
-    ensures { OnFalse result (one.now ≢ other.now) }
-{
-    one == other
-}
+use crate::step_end::{EndOfStep, is_same_end};
 
 // Whether two maps are the same.
 fn is_same_map(one: &str, other: &str) -> bool

@@ -1,5 +1,5 @@
 //! The state graph of a plan's runs.
-ghost use Rattle.std.specs.Prelude.{◌≡◌, ◌≤◌, ◌<◌, ◌++◌, ◌∷◌, [], Some, OnOk, IfOk, IfErr, IfSome, length, string_bytes, sum_by, vec_len};
+ghost use Rattle.std.specs.Prelude.{◌≡◌, ◌≤◌, ◌<◌, ◌++◌, ◌∷◌, [], Some, OnOk, IfOk, IfErr, IfSome, length, map, slice_index_or, string_bytes, sum_by, vec_items, vec_len};
 ghost use Rattle.realm_plan.specs.PlanView.{plan_view};
 ghost use Rattle.plan_states.specs.Exploration.{AreOfRuns, IsExploration, IsFound, HasNoGraph};
 ghost use Rattle.plan_replay.specs.Run.{map_text};
@@ -107,6 +107,16 @@ impl Drop for Explorer {
     }
 }
 
+/// Returns the list at index `place`, or an empty list if there is none.
+pub(crate) fn list_at<T>(lists: &[Vec<T>], place: usize) -> &[T]
+    ensures { result.now ≡ slice_index_or (map vec_items lists.now) place [] }
+{
+    match lists.get(place) {
+        Some(list) => list,
+        None => &[],
+    }
+}
+
 // Adds an item at the end.
 pub(crate) fn push<T: Drop>(items: &mut Vec<T>, item: T) -> Result<(), AllocError>
     ensures { OnOk result (items.new.items ≡ items.old.items ++ item ∷ []) }
@@ -152,15 +162,19 @@ impl Front {
         let to = self.states.len();
         let target = Target { to, held, map };
         self.targets.insert(state, target)?;
-        self.arrivals.push(arrival)?;
-        self.states.push(state)?;
+        push(&mut self.arrivals, arrival)?;
+        push(&mut self.states, state)?;
         Ok(target)
     }
 }
 
 // The numbers of steps that builds have done, for each state of a layer.
 fn progress_of(alloc: Global, states: &[State]) -> Result<Vec<StepsDone>, AllocError> {
-    states.iter().map(|state| state.progress()).collect(alloc)
+    let mut progress = Vec::new(alloc);
+    for state in states {
+        push(&mut progress, state.progress())?;
+    }
+    Ok(progress)
 }
 
 // The first schedule that leads to a state of the last layer. `Mismatch`: there is no such state.
@@ -221,7 +235,7 @@ fn number_of_map(maps: &mut Vec<String>, map: String) -> Result<usize, AllocErro
         }
     }
     let number = maps.len();
-    maps.push(map)?;
+    push(maps, map)?;
     Ok(number)
 }
 

@@ -2,10 +2,10 @@
 ghost use Rattle.std.specs.Prelude.{◌≡◌, ◌≤◌, Bool, List, [], length, map, option_map, slice_index_or, OnOk, IfOk};
 ghost use Rattle.schedule_graph.specs.First.{any_path, layers_in, path_numbers_in, shows_none, ArePathNumbers};
 ghost use Rattle.schedule_graph.specs.Paths.{paths, shows, count_at};
-ghost use Rattle.plan_states.specs.Tallies.{with_tally, all_added, count_of_tally, end_tally, is_before, layers_of, map_tallies, map_tally, place_for, never_refused_tally, tally_of, whole_tallies, AreOutcomes};
+ghost use Rattle.plan_states.specs.Tallies.{with_tally, all_added, tally_by_counts, count_of_tally, end_tally, is_before, layers_of, map_tallies, map_tally, place_for, never_refused_tally, tally_of, whole_tallies, AreOutcomes};
 
 use crate::edges::Label;
-use crate::graph::{Graph, Layer};
+use crate::graph::{Graph, Layer, list_at, push};
 use crate::label_properties::{HasEnd, HasMap, HasRefusal};
 use crate::step_end::EndOfStep;
 use crate::tally::{Outcomes, PathTally, StepOutcomes};
@@ -15,21 +15,11 @@ use schedule_graph::{
 };
 use std::alloc::{AllocError, Global};
 
-// The path counts of the first layer's states; empty if there is no layer.
-fn first_numbers(counts: &[Vec<PathNumber>]) -> &[PathNumber]
-    ensures { result.now ≡ slice_index_or (path_numbers_in counts.now) 0 [] }
-{
-    match counts.get(0) {
-        Some(layer) => layer,
-        None => &[],
-    }
-}
-
 // The count of paths from the first state.
 fn root_of(alloc: Global, counts: &[Vec<PathNumber>]) -> Result<Count, AllocError>
     ensures { IfOk result (λ count. count ≡ count_at (slice_index_or (path_numbers_in counts.now) 0 []) 0) }
 {
-    match first_numbers(counts).get(0) {
+    match list_at(counts, 0).get(0) {
         Some(count) => count.count(alloc),
         None => Ok(Count::zero(alloc)),
     }
@@ -39,11 +29,36 @@ fn root_of(alloc: Global, counts: &[Vec<PathNumber>]) -> Result<Count, AllocErro
 fn builds_of_path(alloc: Global, path: &[Label]) -> Result<Vec<usize>, AllocError>
     ensures { IfOk result (λ builds. builds.items ≡ map (λ label. label.build) path.now) }
 {
-    path.iter().map(|label| label.build).collect(alloc)
+    let mut builds = Vec::new(alloc);
+    for label in path {
+        push(&mut builds, label.build)?;
+    }
+    Ok(builds)
+}
+
+// The tally of the paths that are counted in `counts`, given the labels of the first of these paths, if there are any.
+fn tally_from<K: Copy>(
+    alloc: Global,
+    counts: &[Vec<PathNumber>],
+    path: Option<Vec<Label>>,
+    outcome: K,
+) -> Result<Option<PathTally<K>>, AllocError>
+    ensures { IfOk result (λ tally. option_map count_of_tally tally ≡ option_map (λ labels. tally_by_counts outcome (path_numbers_in counts.now) labels.items) path) }
+{
+    let Some(path) = path else {
+        return Ok(None);
+    };
+    let count = root_of(alloc, counts)?;
+    let first = builds_of_path(alloc, &path)?;
+    Ok(Some(PathTally {
+        outcome,
+        count,
+        first,
+    }))
 }
 
 // The tally of the paths that show the property `property`, if there are any.
-pub(crate) fn tally_with<K: Drop, S: LabelProperty<Label>>(
+pub(crate) fn tally_with<K: Copy, S: LabelProperty<Label>>(
     alloc: Global,
     layers: &[Layer],
     all: &[Vec<PathNumber>],
@@ -54,20 +69,12 @@ pub(crate) fn tally_with<K: Drop, S: LabelProperty<Label>>(
         → option_map count_of_tally tally ≡ tally_of (shows (S.holds_for property.now)) outcome (paths (layers_in layers.now) 0)) }
 {
     let with = count_all_with(alloc, layers, property, all)?;
-    let Some(path) = first_with(alloc, layers, property, all, &with)? else {
-        return Ok(None);
-    };
-    let count = root_of(alloc, &with)?;
-    let first = builds_of_path(alloc, &path)?;
-    Ok(Some(PathTally {
-        outcome,
-        count,
-        first,
-    }))
+    let path = first_with(alloc, layers, property, all, &with)?;
+    tally_from(alloc, &with, path, outcome)
 }
 
 // The tally of the paths that do not show the property `property`, if there are any.
-fn tally_without<K: Drop, S: LabelProperty<Label>>(
+fn tally_without<K: Copy, S: LabelProperty<Label>>(
     alloc: Global,
     layers: &[Layer],
     property: &S,
@@ -76,16 +83,8 @@ fn tally_without<K: Drop, S: LabelProperty<Label>>(
     ensures { IfOk result (λ tally. option_map count_of_tally tally ≡ tally_of (shows_none (S.holds_for property.now)) outcome (paths (layers_in layers.now) 0)) }
 {
     let without = count_all_without(alloc, layers, property)?;
-    let Some(path) = first_without(alloc, layers, property, &without)? else {
-        return Ok(None);
-    };
-    let count = root_of(alloc, &without)?;
-    let first = builds_of_path(alloc, &path)?;
-    Ok(Some(PathTally {
-        outcome,
-        count,
-        first,
-    }))
+    let path = first_without(alloc, layers, property, &without)?;
+    tally_from(alloc, &without, path, outcome)
 }
 
 // Whether a schedule comes before another: it has the lower build at the first turn at which they differ.
@@ -248,7 +247,7 @@ fn maps_of(
     let mut maps = Vec::new(alloc);
     if graph.layers.len() == 1 {
         let tally = only_map(alloc)?;
-        maps.push(tally)?;
+        push(&mut maps, tally)?;
         return Ok(maps);
     }
     for map in 0..graph.maps.len() {

@@ -70,7 +70,12 @@ fn is_other_without_pages(held: &PagesHeld, build: usize, other: usize) -> bool
 fn has_other_without_pages(held: &PagesHeld, builds: usize, build: usize) -> bool
     ensures { result ≡ has_other_without_pages builds build held.now }
 {
-    (0..builds).any(|other| is_other_without_pages(held, build, other))
+    for other in 0..builds {
+        if is_other_without_pages(held, build, other) {
+            return true;
+        }
+    }
+    false
 }
 
 // The number of pages that all builds hold together.

@@ -18,7 +18,7 @@ use crate::graph::{Graph, push};
 use crate::question::{PagesHeld, pages_of_builds};
 use crate::running::{Running, TurnTaken, has_more, run_to, take};
 use crate::snapshot::{Snapshot, is_same, snapshot_of};
-use crate::step_end::EndOfStep;
+use crate::step_end::{EndOfStep, is_same_end};
 use plan_replay::map_text;
 use realm_plan::Plan;
 use realm_program::Fault;
@@ -46,13 +46,6 @@ impl Drop for RunLog {
             turns: _,
         } = self;
     }
-}
-
-// Whether two outcomes of steps are the same.
-fn is_same_end(one: &EndOfStep, other: &EndOfStep) -> bool
-    ensures { OnTrue result (one.now ≡ other.now) }
-{
-    one == other
 }
 
 // Whether a turn ended its step with the outcome that its label names, or ended no step if the label names none.

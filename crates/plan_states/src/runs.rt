@@ -8,7 +8,7 @@ ghost use Rattle.plan_states.specs.Runs.{ArePathsRuns};
 ghost use Rattle.plan_states.specs.RunLog.{position_of, snapshot_at, AreEdgesLogged, IsComplete, IsEdgeLogged, IsLog, IsShownBy};
 
 use crate::edges::Label;
-use crate::graph::{Graph, push};
+use crate::graph::{Graph, list_at, push};
 use crate::run_log::{LoggedTurn, RunLog};
 use crate::running::Running;
 use crate::whole::{edges_at, layer_at};
@@ -112,10 +112,7 @@ impl Walk {
     fn visits_at(&self, depth: usize) -> &[Visit]
         ensures { result.now ≡ slice_index_or (map vec_items self.now.visits.items) depth [] }
     {
-        match self.visits.get(depth) {
-            Some(visits) => visits,
-            None => &[],
-        }
+        list_at(&self.visits, depth)
     }
 
     // The number of the snapshot of a state, if it has one.

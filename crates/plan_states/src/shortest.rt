@@ -12,7 +12,7 @@ ghost use Rattle.plan_states.specs.Tallies.{count_of_tally};
 ghost use Rattle.plan_states.specs.Turned.{end_taken};
 
 use crate::edges::Label;
-use crate::graph::{Exploration, Graph, Layer, explore};
+use crate::graph::{Exploration, Graph, Layer, explore, list_at, push};
 use crate::outcomes::tally_with;
 use crate::question::{AnswersQuestion, TurnQuestion, pages_of_builds};
 use crate::running::{Running, TurnTaken, run_to, take};
@@ -38,14 +38,24 @@ pub enum Witness {
 fn edges_show(edges: &[Edge<Label>], property: &AnswersQuestion) -> bool
     ensures { result ≡ shows (is_answer_at property.now.ends.now property.now.held.now property.now.builds property.now.question) edges.now }
 {
-    edges.iter().any(|edge| property.holds_for(&edge.label))
+    for edge in edges {
+        if property.holds_for(&edge.label) {
+            return true;
+        }
+    }
+    false
 }
 
 // Whether some edge of a layer has the property `property`.
 fn layer_shows(layer: &[Vec<Edge<Label>>], property: &AnswersQuestion) -> bool
     ensures { result ≡ layer_shows (is_answer_at property.now.ends.now property.now.held.now property.now.builds property.now.question) layer.now }
 {
-    layer.iter().any(|edges| edges_show(edges, property))
+    for edges in layer {
+        if edges_show(edges, property) {
+            return true;
+        }
+    }
+    false
 }
 
 // The index of the first layer that has an edge with the property `property`.
@@ -68,23 +78,13 @@ fn is_answered(graph: &Graph, builds: usize, question: TurnQuestion) -> bool
     first_layer(&graph.layers, &property).is_some()
 }
 
-// The states of a layer; none if there is no such layer.
-fn layer_at(layers: &[Layer], depth: usize) -> &[Vec<Edge<Label>>]
-    ensures { result.now ≡ slice_index_or (map vec_items layers.now) depth [] }
-{
-    match layers.get(depth) {
-        Some(layer) => layer,
-        None => &[],
-    }
-}
-
 // The states of a layer, without edges.
 fn without_edges(alloc: Global, layer: &[Vec<Edge<Label>>]) -> Result<Layer, AllocError>
     ensures { IfOk result (λ bare. map vec_items bare.items ≡ map (λ edges. []) layer.now) }
 {
     let mut bare = Vec::new(alloc);
     for _edges in layer {
-        bare.push(Vec::new(alloc))?;
+        push(&mut bare, Vec::new(alloc))?;
     }
     Ok(bare)
 }
@@ -94,10 +94,10 @@ fn cut_after(alloc: Global, layers: Vec<Layer>, depth: usize) -> Result<Vec<Laye
     requires { depth < length layers.items }
     ensures { IfOk result (λ cut. layers_in cut.items ≡ cut_after depth (layers_in layers.items)) }
 {
-    let states = without_edges(alloc, layer_at(&layers, depth + 1))?;
+    let states = without_edges(alloc, list_at(&layers, depth + 1))?;
     let mut layers = layers;
     layers.truncate(depth + 1);
-    layers.push(states)?;
+    push(&mut layers, states)?;
     Ok(layers)
 }
 

@@ -7,7 +7,7 @@ ghost use Rattle.plan_states.specs.Turned.{AreWith, end_taken};
 
 use crate::running::{TurnTaken, turn_after};
 use crate::state::{BuildState, State};
-use crate::step_end::EndOfStep;
+use crate::step_end::{EndOfStep, is_same_end};
 use host_commands::{Cmd, Step};
 use plan_replay::step_after;
 use realm_plan::{Plan, PlanStep};
@@ -21,14 +21,6 @@ pub(crate) struct Moved {
     pub(crate) is_back: bool,
     pub(crate) order: u8,
     pub(crate) first: u16,
-}
-
-/// The kind of shared resource that a step needs: none, blocks of pages, or VMIDs.
-#[derive(Clone, Copy, PartialEq, Eq)]
-enum Shared {
-    Nothing,
-    Blocks,
-    Vmids,
 }
 
 /// A key for the turns that a build has taken so far: the index of the earlier turns, and the result of the last turn.
@@ -85,19 +77,14 @@ impl Drop for Turns {
     }
 }
 
-// The shared resources that a step needs.
-fn shared_by(step: &PlanStep) -> Shared {
-    match step {
-        PlanStep::Whole(Step::Ask(Cmd::Take { .. })) => Shared::Blocks,
-        PlanStep::Whole(Step::Ask(Cmd::Realm { .. })) => Shared::Vmids,
-        PlanStep::WidthLeftOut { .. } => Shared::Vmids,
-        _ => Shared::Nothing,
-    }
-}
-
 // Whether a build has a realm with this VMID.
 fn is_used(state: &State, vmid: u8) -> bool {
-    state.builds.iter().any(|build| build.vmid == Some(vmid))
+    for build in &state.builds {
+        if build.vmid == Some(vmid) {
+            return true;
+        }
+    }
+    false
 }
 
 // The lowest VMID that no realm has; 0 if there is none.
@@ -110,20 +97,29 @@ fn lowest_vmid(plan: &Plan, state: &State) -> usize {
     0
 }
 
+// The state of the shared resources that a step needs: the blocks' index, or the lowest VMID that no realm has. 0 if the
+// step needs neither.
+fn shared_by(plan: &Plan, state: &State, step: &PlanStep) -> usize {
+    match step {
+        PlanStep::Whole(Step::Ask(Cmd::Take { .. })) => state.blocks,
+        PlanStep::Whole(Step::Ask(Cmd::Realm { .. })) => lowest_vmid(plan, state),
+        PlanStep::WidthLeftOut { .. } => lowest_vmid(plan, state),
+        _ => 0,
+    }
+}
+
 /// Returns the inputs of a build's next turn, or `None` if the build has no step left.
 pub(crate) fn before_turn(plan: &Plan, state: &State, build: usize) -> Option<TurnInputs>
     requires { build < 8 }
 {
     let it = state.builds[build];
-    let shared = match shared_by(step_after(plan, build, it.done)?) {
-        Shared::Nothing => 0,
-        Shared::Blocks => state.blocks,
-        Shared::Vmids => lowest_vmid(plan, state),
-    };
-    Some(TurnInputs {
-        build: it.did,
-        shared,
-    })
+    match step_after(plan, build, it.done) {
+        Some(step) => Some(TurnInputs {
+            build: it.did,
+            shared: shared_by(plan, state, step),
+        }),
+        None => None,
+    }
 }
 
 // The first granule of a block that was leased or given back.
@@ -136,7 +132,12 @@ fn first_of(moved: Option<Moved>) -> Option<u16> {
 
 // The index of an outcome of a step, if the outcome is known.
 fn known_end(ends: &[EndOfStep], end: &EndOfStep) -> Option<usize> {
-    ends.iter().position(|known| *known == *end)
+    for place in 0..ends.len() {
+        if is_same_end(&ends[place], end) {
+            return Some(place);
+        }
+    }
+    None
 }
 
 // Finds or adds an outcome of a step, and returns its index.

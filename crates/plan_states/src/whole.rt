@@ -9,7 +9,7 @@ ghost use Rattle.plan_replay.specs.Turn.{undoes_many};
 ghost use Rattle.plan_states.specs.Whole.{done_of, has_step_left, is_of_build, takes_many, uses_next, done_after, are_done_after, is_end_refused, number_with, are_over, is_fresh, is_at_start, has_map, leads_to_state, leads_on, states_at, layer_at, IsStateWhole, IsLayerWhole, IsWholeGraph};
 
 use crate::edges::Label;
-use crate::graph::Graph;
+use crate::graph::{Graph, list_at};
 use crate::step_end::EndOfStep;
 use host_commands::Step;
 use plan_replay::{number_after, step_after};
@@ -150,18 +150,24 @@ fn are_done_after(
 ) -> bool
     ensures { result ≡ are_done_after (plan_view plan.now) ends.now done.now label.now then.now }
 {
-    let builds = all_builds();
-    builds.iter().all(|build| done_of(then, *build) == done_after(plan, ends, done, label, *build))
+    for build in 0..8 {
+        if done_of(then, build) != done_after(plan, ends, done, label, build) {
+            return false;
+        }
+    }
+    true
 }
 
 // Whether no build has a step left.
 fn are_over(plan: &Plan, done: &StepsDone) -> bool
     ensures { result ≡ are_over (plan_view plan.now) done.now }
 {
-    let builds = all_builds();
-    builds
-        .iter()
-        .all(|build| !has_step_left(plan, done, *build))
+    for build in 0..8 {
+        if has_step_left(plan, done, build) {
+            return false;
+        }
+    }
+    true
 }
 
 // Whether `map` fits a turn. If no build has a step left after the turn (`over`), `map` is an index below `map_count`,
@@ -219,9 +225,12 @@ fn all_lead_on(
 ) -> bool
     ensures { result ≡ list_all (leads_on (plan_view plan.now) ends.now map_count done.now next.now) edges.now }
 {
-    edges
-        .iter()
-        .all(|edge| leads_on(plan, ends, map_count, done, next, edge))
+    for edge in edges {
+        if !leads_on(plan, ends, map_count, done, next, edge) {
+            return false;
+        }
+    }
+    true
 }
 
 // Whether a state has an edge for each build with a step left, and each edge leads to a state that fits its turn.
@@ -246,10 +255,7 @@ fn is_state_whole(
 pub(crate) fn edges_at(layer: &[Vec<Edge<Label>>], state: usize) -> &[Edge<Label>]
     ensures { result.now ≡ slice_index_or (map vec_items layer.now) state [] }
 {
-    match layer.get(state) {
-        Some(edges) => edges,
-        None => &[],
-    }
+    list_at(layer, state)
 }
 
 // Whether a layer has states, and each is whole.
@@ -279,20 +285,14 @@ fn is_layer_whole(
 fn states_at(graph: &Graph, depth: usize) -> &[StepsDone]
     ensures { result.now ≡ states_at graph.now depth }
 {
-    match graph.progress.get(depth) {
-        Some(states) => states,
-        None => &[],
-    }
+    list_at(&graph.progress, depth)
 }
 
 /// Returns the layer of a state graph at index `depth`, or an empty layer if there is none.
 pub(crate) fn layer_at(graph: &Graph, depth: usize) -> &[Vec<Edge<Label>>]
     ensures { result.now ≡ layer_at graph.now depth }
 {
-    match graph.layers.get(depth) {
-        Some(layer) => layer,
-        None => &[],
-    }
+    list_at(&graph.layers, depth)
 }
 
 // The outcomes of steps that a graph lists.
@@ -306,8 +306,12 @@ fn ends_of(graph: &Graph) -> &[EndOfStep]
 fn is_fresh(done: &StepsDone) -> bool
     ensures { result ≡ is_fresh done.now }
 {
-    let builds = all_builds();
-    builds.iter().all(|build| done_of(done, *build) == 0)
+    for build in 0..8 {
+        if done_of(done, build) != 0 {
+            return false;
+        }
+    }
+    true
 }
 
 // Whether a layer has a single state, in which no build has done a step.

@@ -1,17 +1,18 @@
-use Rattle.std.proofs.Common.{ℕ, List, [], map, Vec, Global, vec_items, ap, sym, subst, ◌∙◌}
-use Rattle.std.specs.Prelude.{option_map, slice_index_or}
+use Rattle.std.proofs.Common.{ℕ, List, Vec, Global, ap, sym, subst, ◌∙◌}
+use Rattle.std.specs.Prelude.{option_map}
+use Rattle.std.proofs.lemmas.Result.{IfOk-weaker}
 use Rattle.schedule_graph.specs.First.{ArePathNumbers, layers_in, path_numbers_in, shows_none}
-use Rattle.schedule_graph.specs.Paths.{count_at}
+use Rattle.plan_states.specs.Tallies.{tally_by_counts}
 use Rattle.plan_states.specs.declared.edges.Label.{Label}
-use Rattle.plan_states.proofs.Tallies.{tally-first}
+use Rattle.plan_states.proofs.Tallies.{tally-of_first}
 use Rattle.plan_states.proofs.outcomes.tally_without.Goals as goal
 
 pub returns : goal.returns
 returns g c =
     let like = shows_none (g.S.LabelProperty.holds_for c.args.property.now) in
     let layers = layers_in c.args.layers.now in
-    tally-first like c.args.outcome layers (path_numbers_in c.in_ok-without.without.items) c.in-Some.path.items c.in_ok-count.count c.in_ok-first.first.items
-    (c.in_ok-without.ensures)
-    (c.in_ok-path.ensures (subst (λ (ns : List (Vec ℕ Global)). ArePathNumbers like layers (path_numbers_in ns)) (sym c.deref.ensures.value) (c.in_ok-without.ensures)) ∙ ap (option_map vec_items) c.in-Some.is)
-    (c.in_ok-count.ensures ∙ ap (λ (ns : List (Vec ℕ Global)). count_at (slice_index_or (path_numbers_in ns) 0 []) 0) c.deref-2.ensures.value)
-    (c.in_ok-first.ensures ∙ ap (λ (labels : List Label). map (λ label. label.build) labels) c.deref-3.ensures.value)
+    let counts = c.in_ok-without.without.items in
+    IfOk-weaker c.tally_from.result _ _ (λ tally is. is
+    ∙ ap (λ (ns : List (Vec ℕ Global)). option_map (λ (labels : Vec Label Global). tally_by_counts c.args.outcome (path_numbers_in ns) labels.items) c.in_ok-path.path) c.deref-2.ensures.value
+    ∙ tally-of_first like c.args.outcome layers (path_numbers_in counts) c.in_ok-path.path (c.in_ok-without.ensures)
+    (c.in_ok-path.ensures (subst (λ (ns : List (Vec ℕ Global)). ArePathNumbers like layers (path_numbers_in ns)) (sym c.deref.ensures.value) (c.in_ok-without.ensures)))) c.tally_from.ensures

@@ -8,7 +8,7 @@ use Rattle.plan_states.proofs.shortest.cut_after.Goals as goal
 pub returns : goal.returns
 returns c =
     let f : Vec (Edge Label) Global → List (Edge Label) = λ edges. [] in
-    cut_is c.args.layers.items c.truncate.new.self.items c.push.new.self.items c.args.depth c.in_ok-states.states
-    c.truncate.ensures.items c.in_ok-push.ensures.items
-    (c.in_ok-states.ensures ∙ ap (map f) (c.layer_at.ensures
+    cut_is c.args.layers.items c.truncate.new.self.items c.push.new.items.items c.args.depth c.in_ok-states.states
+    c.truncate.ensures.items c.in_ok-push.ensures
+    (c.in_ok-states.ensures ∙ ap (map f) (c.list_at.ensures
     ∙ ap (λ (ls : List (Vec (Vec (Edge Label) Global) Global)). slice_index_or (map vec_items ls) (c.args.depth + 1) []) c.deref.ensures.value))
