@@ -1,8 +1,8 @@
 -- A proof that cutting a state graph after a layer keeps the layers up to it, and the next layer's states without their
 -- edges.
-use Rattle.std.proofs.Common.{◌≡◌, ℕ, ◌+◌, List, [], ◌∷◌, ◌++◌, map, take, get_or, Vec, Global, vec_items, sym, ap, ◌∙◌}
+use Rattle.std.proofs.Common.{◌≡◌, ℕ, ◌+◌, ◌<◌, List, [], ◌∷◌, ◌++◌, map, take, get_or, length, Vec, Global, vec_items, sym, ap, ◌∙◌}
 use Rattle.std.specs.Prelude.{slice_index_or}
-use Rattle.std.proofs.lemmas.List.{map-append, take-map}
+use Rattle.std.proofs.lemmas.List.{map-append, take-map, take_more}
 use Rattle.std.proofs.lemmas.Simd.{map-map}
 use Rattle.std.proofs.Math.ListN as seq
 use Rattle.plan_states.specs.Shortest.{cut_after}
@@ -32,3 +32,12 @@ cut_is layers kept new depth states is_kept_mark is_new bare =
     bare ∙ sym (map-map f vec_items next) ∙ ap (map f) (sym there) in
     let front : map layer_in kept ≡ take n (layers_in layers) = ap (map layer_in) is_kept_mark ∙ sym (take-map layer_in n layers) in
     ap layers_in is_new ∙ map-append layer_in kept (states ∷ []) ∙ (λ j. front j ++ ends j ∷ [])
+
+-- the states without edges, with one more
+pub bare_more :
+    (layer : List Edges) (i : ℕ) (old new : List Edges) (bare : Edges) → i < length layer → bare.items ≡ [] → new ≡ old ++ bare ∷ []
+    → map vec_items old ≡ map (λ edges. []) (take i layer) → map vec_items new ≡ map (λ edges. []) (take (i + 1) layer)
+bare_more layer i old new bare inside empty more before =
+    let f : Edges → List (Edge Label) = λ edges. [] in
+    ap (map vec_items) more ∙ map-append vec_items old (bare ∷ []) ∙ (λ j. before j ++ empty j ∷ [])
+    ∙ sym (ap (map f) (take_more layer i bare inside) ∙ map-append f (take i layer) (get_or layer i bare ∷ []))

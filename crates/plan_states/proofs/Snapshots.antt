@@ -7,7 +7,7 @@ use Rattle.realm_model.specs.History.{events_of}
 use Rattle.realm_model.specs.declared.act.Event.{Event}
 use Rattle.realm_model.proofs.TakenAlone.{events_push}
 use Rattle.plan_replay.specs.Run.{Position}
-use Rattle.plan_states.specs.Snapshots.{seen_at, shown_build, AreBuildsAt, SeenBuild}
+use Rattle.plan_states.specs.Snapshots.{AreSameBuilds, seen_at, shown_build, AreBuildsAt, SeenBuild}
 use Rattle.plan_states.specs.declared.snapshot.BuildSnapshot.{BuildSnapshot}
 use Rattle.plan_states.proofs.RunLogs.{slice_get_last}
 
@@ -25,6 +25,13 @@ build_more at count old new it long are more shown =
     (shown_more old it k (seen_at at k) (are k less)))
     (subst (λ (l : List BuildSnapshot). option_map shown_build (slice_get l count) ≡ Some (seen_at at count)) (sym more)
     (ap (option_map shown_build) (subst (λ n. slice_get (old ++ it ∷ []) n ≡ Some it) long (slice_get_last old it)) ∙ ap Some shown))
+
+pub same_more : (count : ℕ) (ones others : List BuildSnapshot) (one other : BuildSnapshot)
+    → slice_get ones count ≡ Some one → slice_get others count ≡ Some other → shown_build one ≡ shown_build other
+    → AreSameBuilds count ones others → AreSameBuilds (count + 1) ones others
+same_more count ones others one other here there same are =
+    below_more (λ k. option_map shown_build (slice_get ones k) ≡ option_map shown_build (slice_get others k)) count are
+    (ap (option_map shown_build) here ∙ ap Some same ∙ sym (ap (option_map shown_build) there))
 
 -- the next event of the history is added if it is one of the build
 pub event_more : (build i : ℕ) (history : List Event) (e : Event) (is_own : Bool) (old new : List Event)

@@ -112,3 +112,13 @@ place_more {K} first tallies place all t inside later same =
     let more : place_for first (map count_of_tally (drop (place + 1) tallies)) ≡ place_for first rest =
     ap (λ k. place_for first (map count_of_tally (drop k tallies))) (add-one place) in
     omega (arith, here, more, same)
+
+-- the place of a tally before the first that comes after it
+pub place_here : {K : Type 0} (first : List ℕ) (tallies : List (PathTally K)) (place all : ℕ) (t : PathTally K)
+    → place < length tallies → is_before first (get_or tallies place t).first.items ≡ true
+    → place + place_for first (map count_of_tally (drop place tallies)) ≡ all → place ≡ all
+place_here {K} first tallies place all t inside sooner same =
+    let rest : List (PathCount K) = map count_of_tally (drop (suc place) tallies) in
+    let here : place_for first (map count_of_tally (drop place tallies)) ≡ 0 =
+    ap (λ (l : List (PathTally K)). place_for first (map count_of_tally l)) (drop-cons tallies place t inside) ∙ ap (λ b. cond b 0 (suc (place_for first rest))) sooner in
+    omega (arith, here, same)

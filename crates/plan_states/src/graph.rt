@@ -33,7 +33,6 @@ pub type Layer = Vec<Vec<Edge<Label>>>;
 
 /// A plan's state graph, whose paths are the plan's schedules. The graph is a list of layers, and its first layer has
 /// one state.
-#[derive(Drop)]
 pub struct Graph {
     pub layers: Vec<Layer>,
     /// The number of steps that each build has done, by layer and state.
@@ -44,6 +43,18 @@ pub struct Graph {
     pub held: Vec<PagesHeld>,
     /// The maps of pages at the ends of runs, indexed by `Label::map`.
     pub maps: Vec<String>,
+}
+
+impl Drop for Graph {
+    fn drop(self) {
+        let Graph {
+            layers: _,
+            progress: _,
+            ends: _,
+            held: _,
+            maps: _,
+        } = self;
+    }
 }
 
 /// The result of exploring all schedules of a plan.
@@ -226,8 +237,9 @@ fn map_after(alloc: Global, plan: &Plan, schedule: &[usize]) -> Result<String, F
 }
 
 // Finds or adds a map, and returns its index.
-fn number_of_map(maps: &mut Vec<String>, map: String) -> Result<usize, AllocError>
-    ensures { OnOk result (AreWith maps.old.items (Some map) maps.new.items) }
+fn number_of_map(maps: &mut Vec<String>, map: String) -> Result<usize, Fault>
+    ensures ok { OnOk result (AreWith maps.old.items (Some map) maps.new.items) }
+    ensures err { IfErr result HasNoGraph }
 {
     for number in 0..maps.len() {
         if maps[number].as_str() == map.as_str() {
@@ -260,7 +272,7 @@ impl Explorer {
         ensures err { IfErr result HasNoGraph }
     {
         let map = map_after(alloc, plan, schedule)?;
-        Ok(number_of_map(&mut self.maps, map)?)
+        number_of_map(&mut self.maps, map)
     }
 
     // Finds or runs the turn of a build in a state of the last layer, and returns the turn's outcome.

@@ -169,8 +169,7 @@ fn push_never_refused(
     ensures { OnOk result (string_bytes text.new ≡ string_bytes text.old ++ never_refused_line schedule_count.now tally.now) }
 {
     write!(text, "never refused {}", tally.outcome)?;
-    push_shown(text, schedule_count, &tally.count, &tally.first)?;
-    Ok(())
+    push_shown(text, schedule_count, &tally.count, &tally.first)
 }
 
 /// Appends a line with the number of schedules in which a build is never refused. The line begins with `never refused`.

@@ -1,5 +1,5 @@
 //! The count of a plan's schedules by their outcomes. Schedules are counted as paths of the graph.
-ghost use Rattle.std.specs.Prelude.{◌≡◌, ◌≤◌, Bool, List, [], length, map, option_map, slice_index_or, OnOk, IfOk};
+ghost use Rattle.std.specs.Prelude.{◌≡◌, ◌≤◌, Bool, List, [], ◌∷◌, length, map, option_map, slice_index_or, OnOk, IfOk};
 ghost use Rattle.schedule_graph.specs.First.{any_path, layers_in, path_numbers_in, shows_none, ArePathNumbers};
 ghost use Rattle.schedule_graph.specs.Paths.{paths, shows, count_at};
 ghost use Rattle.plan_states.specs.Tallies.{with_tally, all_added, tally_by_counts, count_of_tally, end_tally, is_before, layers_of, map_tallies, map_tally, place_for, never_refused_tally, tally_of, whole_tallies, AreOutcomes};
@@ -224,15 +224,19 @@ fn map_tally(
     tally_with(alloc, &graph.layers, all, &HasMap(map), map)
 }
 
-// The tally of the only map of a plan without steps: one schedule, which has no turn.
-fn only_map(alloc: Global) -> Result<PathTally<usize>, AllocError>
-    ensures { IfOk result (λ tally. count_of_tally tally ≡ record { outcome = 0; count = 1; first = [] }) }
+// The tallies of the only map of a plan without steps: one schedule, which has no turn.
+fn only_map(alloc: Global) -> Result<Vec<PathTally<usize>>, AllocError>
+    ensures { IfOk result (λ maps. map count_of_tally maps.items ≡ record { outcome = 0; count = 1; first = [] } ∷ []) }
 {
-    Ok(PathTally {
+    let mut maps = Vec::new(alloc);
+    let count = Count::one(alloc)?;
+    let tally = PathTally {
         outcome: 0,
-        count: Count::one(alloc)?,
+        count,
         first: Vec::new(alloc),
-    })
+    };
+    push(&mut maps, tally)?;
+    Ok(maps)
 }
 
 // The tallies of the final maps.
@@ -244,12 +248,10 @@ fn maps_of(
     ensures { IfOk result (λ maps. ArePathNumbers any_path (layers_of graph.now) (path_numbers_in all.now)
         → map count_of_tally maps.items ≡ map_tallies graph.now) }
 {
-    let mut maps = Vec::new(alloc);
     if graph.layers.len() == 1 {
-        let tally = only_map(alloc)?;
-        push(&mut maps, tally)?;
-        return Ok(maps);
+        return only_map(alloc);
     }
+    let mut maps = Vec::new(alloc);
     for map in 0..graph.maps.len() {
         let tally = map_tally(alloc, graph, all, map)?;
         add(&mut maps, tally)?;

@@ -1,5 +1,5 @@
 //! The search for a shortest schedule whose last turn has a given property.
-ghost use Rattle.std.specs.Prelude.{◌≡◌, ◌<◌, ◌++◌, ◌∷◌, ℕ, List, true, false, [], map, length, option_map, slice_index_or, vec_items, IfOk, IfErr};
+ghost use Rattle.std.specs.Prelude.{◌≡◌, ◌<◌, ◌++◌, ◌∷◌, ℕ, List, true, false, [], map, length, option_map, vec_items, IfOk, IfErr, OnOk};
 ghost use Rattle.realm_plan.specs.PlanView.{plan_view};
 ghost use Rattle.schedule_graph.specs.First.{layers_in};
 ghost use Rattle.plan_states.specs.Exploration.{HasNoGraph};
@@ -7,8 +7,8 @@ ghost use Rattle.schedule_graph.specs.Paths.{shows};
 ghost use Rattle.plan_states.specs.Questions.{is_answer_at};
 ghost use Rattle.plan_states.specs.Reached.{IsReached};
 ghost use Rattle.plan_states.specs.RunLog.{position_of};
-ghost use Rattle.plan_states.specs.Shortest.{cut_after, first_layer, is_answered, layer_shows, shortest_tally, EndsWithAnswer, EndsWithoutAnswer, IsUnanswered, IsWitness};
-ghost use Rattle.plan_states.specs.Tallies.{count_of_tally};
+ghost use Rattle.plan_states.specs.Shortest.{cut_after, first_layer, is_answer_in, is_answered, layer_shows, shortest_tally, EndsWithAnswer, EndsWithoutAnswer, IsUnanswered, IsWitness};
+ghost use Rattle.plan_states.specs.Tallies.{count_of_tally, paths_of, tally_of};
 ghost use Rattle.plan_states.specs.Turned.{end_taken};
 
 use crate::edges::Label;
@@ -65,9 +65,9 @@ fn first_layer(layers: &[Layer], property: &AnswersQuestion) -> Option<usize>
     layers.iter().position(|layer| layer_shows(layer, property))
 }
 
-// Whether some turn in the graph of a plan with `builds` builds answers a question.
-fn is_answered(graph: &Graph, builds: usize, question: TurnQuestion) -> bool
-    ensures { result ≡ is_answered graph.now builds question }
+// The index of the first layer with a turn that answers a question, in the graph of a plan with `builds` builds.
+fn first_answered(graph: &Graph, builds: usize, question: TurnQuestion) -> Option<usize>
+    ensures { result ≡ first_layer (is_answer_in graph.now builds question) graph.now.layers.items }
 {
     let property = AnswersQuestion {
         ends: &graph.ends,
@@ -75,7 +75,14 @@ fn is_answered(graph: &Graph, builds: usize, question: TurnQuestion) -> bool
         builds,
         question,
     };
-    first_layer(&graph.layers, &property).is_some()
+    first_layer(&graph.layers, &property)
+}
+
+// Whether some turn in the graph of a plan with `builds` builds answers a question.
+fn is_answered(graph: &Graph, builds: usize, question: TurnQuestion) -> bool
+    ensures { result ≡ is_answered graph.now builds question }
+{
+    first_answered(graph, builds, question).is_some()
 }
 
 // The states of a layer, without edges.
@@ -89,16 +96,34 @@ fn without_edges(alloc: Global, layer: &[Vec<Edge<Label>>]) -> Result<Layer, All
     Ok(bare)
 }
 
-// The layers up to layer `depth`, and the states of the next layer without edges.
-fn cut_after(alloc: Global, layers: Vec<Layer>, depth: usize) -> Result<Vec<Layer>, AllocError>
-    requires { depth < length layers.items }
-    ensures { IfOk result (λ cut. layers_in cut.items ≡ cut_after depth (layers_in layers.items)) }
+// Cuts layers after layer `depth`, and adds the states of the next layer without edges.
+fn cut_after(alloc: Global, layers: &mut Vec<Layer>, depth: usize) -> Result<(), AllocError>
+    requires { depth < length layers.old.items }
+    ensures { OnOk result (layers_in layers.new.items ≡ cut_after depth (layers_in layers.old.items)) }
 {
-    let states = without_edges(alloc, list_at(&layers, depth + 1))?;
-    let mut layers = layers;
+    let states = without_edges(alloc, list_at(layers, depth + 1))?;
     layers.truncate(depth + 1);
-    push(&mut layers, states)?;
-    Ok(layers)
+    push(layers, states)
+}
+
+// The tally of the paths with a turn that answers a question, in the graph of a plan with `builds` builds, if there are
+// any.
+fn answered_tally(
+    alloc: Global,
+    graph: &Graph,
+    builds: usize,
+    question: TurnQuestion,
+) -> Result<Option<PathTally<TurnQuestion>>, AllocError>
+    ensures { IfOk result (λ tally. option_map count_of_tally tally ≡ tally_of (shows (is_answer_in graph.now builds question)) question (paths_of graph.now)) }
+{
+    let property = AnswersQuestion {
+        ends: &graph.ends,
+        held: &graph.held,
+        builds,
+        question,
+    };
+    let all = count_all(alloc, &graph.layers)?;
+    tally_with(alloc, &graph.layers, &all, &property, question)
 }
 
 // The tally of the shortest paths that answer a question, in the graph of a plan with `builds` builds, if there are
@@ -111,25 +136,12 @@ fn shortest_tally(
 ) -> Result<Option<PathTally<TurnQuestion>>, AllocError>
     ensures { IfOk result (λ tally. option_map count_of_tally tally ≡ shortest_tally graph builds question) }
 {
-    let Graph {
-        layers,
-        progress: _,
-        ends,
-        held,
-        maps: _,
-    } = graph;
-    let property = AnswersQuestion {
-        ends: &ends,
-        held: &held,
-        builds,
-        question,
-    };
-    let Some(depth) = first_layer(&layers, &property) else {
+    let Some(depth) = first_answered(&graph, builds, question) else {
         return Ok(None);
     };
-    let layers = cut_after(alloc, layers, depth)?;
-    let all = count_all(alloc, &layers)?;
-    tally_with(alloc, &layers, &all, &property, question)
+    let mut graph = graph;
+    cut_after(alloc, &mut graph.layers, depth)?;
+    answered_tally(alloc, &graph, builds, question)
 }
 
 // The outcome of the step that a turn of `build` ended, if any.

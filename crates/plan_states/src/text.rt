@@ -118,8 +118,7 @@ pub fn push_step_outcomes(
     let schedule_count = &outcomes.schedule_count;
     push_by_refusal(text, schedule_count, &outcomes.by_refusal)?;
     push_builds(text, plan, outcomes, builds)?;
-    push_all_never_refused(text, schedule_count, &outcomes.never_refused, builds)?;
-    Ok(())
+    push_all_never_refused(text, schedule_count, &outcomes.never_refused, builds)
 }
 
 /// Appends the outcomes of all schedules of a plan: the number of schedules, the outcomes of steps, and the final maps.
@@ -135,13 +134,13 @@ pub fn push_outcomes(
     let schedule_count = &outcomes.steps.schedule_count;
     push_count(text, schedule_count)?;
     push_step_outcomes(text, plan, &outcomes.steps)?;
-    push_maps(text, schedule_count, maps, &outcomes.maps)?;
-    Ok(())
+    push_maps(text, schedule_count, maps, &outcomes.maps)
 }
 
 // The text of the outcomes of a plan's graph.
-fn graph_text(alloc: Global, plan: &Plan, graph: &Graph) -> Result<String, AllocError>
-    ensures { IfOk result (λ text. IsGraphText (plan_view plan.now) graph.now (string_bytes text)) }
+fn graph_text(alloc: Global, plan: &Plan, graph: &Graph) -> Result<String, Fault>
+    ensures ok { IfOk result (λ text. IsGraphText (plan_view plan.now) graph.now (string_bytes text)) }
+    ensures err { IfErr result HasNoGraph }
 {
     let mut text = String::new(alloc);
     let outcomes = outcomes_of(alloc, plan.builds.len(), graph)?;
@@ -170,7 +169,7 @@ pub fn states_text(alloc: Global, plan: &Plan, most: usize) -> Result<String, Fa
     ensures err { IfErr result HasNoGraph }
 {
     match explore(alloc, plan, most)? {
-        Exploration::All(graph) => Ok(graph_text(alloc, plan, &graph)?),
+        Exploration::All(graph) => graph_text(alloc, plan, &graph),
         Exploration::TooMany => Ok(too_many_text(alloc, most)?),
     }
 }

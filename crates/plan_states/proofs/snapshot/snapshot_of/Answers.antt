@@ -9,9 +9,9 @@ pub loop-build-preserved : goal.loop-build-preserved
 loop-build-preserved g c =
     let it : BuildSnapshot = record { point = c.point_of-point.result; events = c.in_ok-events.events } in
     record {
-      long = one_longer c.loop-build.builds c.push.new.self it c.loop-build.build c.in_ok-push.ensures.items c.loop-build.invariant.long;
-      builds = build_more (record { host = c.args.host.now; places = c.args.places.now }) c.loop-build.build c.loop-build.builds.items c.push.new.self.items it
-          (sym c.loop-build.builds.ok.0 ∙ c.loop-build.invariant.long) c.loop-build.invariant.builds c.in_ok-push.ensures.items
+      long = one_longer c.loop-build.builds c.push.new.items it c.loop-build.build c.in_ok-push.ensures c.loop-build.invariant.long;
+      builds = build_more (record { host = c.args.host.now; places = c.args.places.now }) c.loop-build.build c.loop-build.builds.items c.push.new.items.items it
+          (sym c.loop-build.builds.ok.0 ∙ c.loop-build.invariant.long) c.loop-build.invariant.builds c.in_ok-push.ensures
           (λ i. record {
             point = c.point_of-point.ensures i;
             events = subst (λ h. c.in_ok-events.events.items ≡ events_of c.loop-build.build h) c.history-history.ensures.events c.in_ok-events.ensures i;

@@ -1,5 +1,6 @@
 use Rattle.std.proofs.Common.{◌++◌, length, string_bytes}
 use Rattle.std.specs.List.{flat_map, range_with_len}
+use Rattle.std.proofs.lemmas.Result.{on_ok_weaker}
 use Rattle.realm_plan.specs.PlanView.{plan_view}
 use Rattle.plan_states.specs.Lines.{refusals_line, ends_of_build, never_refused_lines}
 use Rattle.plan_states.proofs.Joined.{joined}
@@ -17,5 +18,7 @@ returns c =
     let one = string_bytes c.push_by_refusal.new.text in
     let two = string_bytes c.push_builds.new.text in
     let three = string_bytes c.push_all_never_refused.new.text in
-    joined (string_bytes c.args.text.now) by_refusal (builds ++ never_refused) one three (rw c.deref.ensures.value at c.in_ok-push_by_refusal.ensures)
-    (joined one builds never_refused two three (rw are at c.in_ok-push_builds.ensures) (rw (are, c.deref-2.ensures.value) at c.in_ok-push_all_never_refused.ensures))
+    on_ok_weaker c.push_all_never_refused.result
+    (λ shown. joined (string_bytes c.args.text.now) by_refusal (builds ++ never_refused) one three (rw c.deref.ensures.value at c.in_ok-push_by_refusal.ensures)
+    (joined one builds never_refused two three (rw are at c.in_ok-push_builds.ensures) shown))
+    (rw (are, c.deref-2.ensures.value) at c.push_all_never_refused.ensures)
