@@ -3,16 +3,10 @@
 use Rattle.std.proofs.Common.{◌≡◌, ℕ, zero, suc, ◌+◌, ◌<◌, ◌≤◌, ◌&&◌, ◌||◌, Bool, true, false, List, [], ◌∷◌, ◌++◌, map, length, get_or, take, refl, sym, subst, ap, ◌∙◌, zero-add, take_all, arith}
 use Rattle.std.specs.List.{list_all, list_any, range_with_len}
 use Rattle.std.proofs.lemmas.List.{map-append, take_more}
-use Rattle.std.proofs.lemmas.List.Folds.{list_all_at, list_all_more, list_any_at, list_any_more}
+use Rattle.std.proofs.lemmas.List.Folds.{list_all_at, list_any_at, list_any_more}
 use Rattle.std.proofs.lemmas.List.FromFn.{length-range_with_len, get_or-range_with_len}
 
 module _ {X : Type 0} (test : X → Bool) (xs : List X) (i : ℕ) where
-  pub more_pass : (x : X) → i < length xs → x ≡ get_or xs i x → list_all test (take i xs) ≡ true → test x ≡ true → list_all test (take (i + 1) xs) ≡ true
-  more_pass x inside is before here = list_all_more test xs i x inside ∙ (λ j. before j && (ap test (sym is) ∙ here) j)
-
-  pub one_fails : (x : X) → i < length xs → x ≡ get_or xs i x → test x ≡ false → list_all test xs ≡ false
-  one_fails x inside is fails = list_all_at test xs i x inside (ap test (sym is) ∙ fails)
-
   pub all_pass : length xs ≤ i → list_all test (take i xs) ≡ true → list_all test xs ≡ true
   all_pass over before = subst (λ ys. list_all test ys ≡ true) (take_all i xs over) before
 
@@ -57,10 +51,10 @@ module _ (test : ℕ → Bool) (n k : ℕ) where
 -- ---- a list that is made item by item
 
 pub map_next :
-    {X Y : Type 0} (f : X → Y) (xs : List X) (i : ℕ) (x : X) (old new : List Y) → i < length xs → x ≡ get_or xs i x
-    → old ≡ map f (take i xs) → new ≡ old ++ f x ∷ [] → new ≡ map f (take (i + 1) xs)
-map_next f xs i x old new inside is before more =
-    more ∙ (λ j. before j ++ f (is j) ∷ []) ∙ sym (ap (map f) (take_more xs i x inside) ∙ map-append f (take i xs) (get_or xs i x ∷ []))
+    {X Y : Type 0} (f : X → Y) (xs : List X) (i : ℕ) (d : X) (old new : List Y) → i < length xs
+    → old ≡ map f (take i xs) → new ≡ old ++ f (get_or xs i d) ∷ [] → new ≡ map f (take (i + 1) xs)
+map_next f xs i d old new inside before more =
+    more ∙ (λ j. before j ++ f (get_or xs i d) ∷ []) ∙ sym (ap (map f) (take_more xs i d inside) ∙ map-append f (take i xs) (get_or xs i d ∷ []))
 
 pub map_whole : {X Y : Type 0} (f : X → Y) (xs : List X) (i : ℕ) (made : List Y) → length xs ≤ i → made ≡ map f (take i xs) → made ≡ map f xs
 map_whole f xs i made over before = before ∙ ap (map f) (take_all i xs over)

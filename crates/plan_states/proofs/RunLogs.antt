@@ -1,10 +1,10 @@
 -- Proofs that the log of the turns run along a state graph is correct at boot, and stays correct with each logged turn.
-use Rattle.std.proofs.Common.{◌≡◌, ℕ, zero, suc, ◌<◌, List, [], ◌∷◌, ◌++◌, length, get_or, All, Some, inl, inr, refl, sym, ap, ◌∙◌, subst}
+use Rattle.std.proofs.Common.{◌≡◌, ℕ, zero, suc, ◌<◌, ◌≤◌, List, [], ◌∷◌, ◌++◌, length, get_or, All, Some, None, inl, inr, refl, sym, ap, ◌∙◌, subst}
 use Rattle.std.specs.Prelude.{slice_get, Result, Ok, Err, IfOk}
 use Rattle.std.specs.declared.alloc.Global.{Global}
 use Rattle.std.specs.declared.string.String.{String}
 use Rattle.std.proofs.lemmas.List.Elements.{All-nil, All-push}
-use Rattle.std.proofs.lemmas.Option.{none-some, slice_get_read}
+use Rattle.std.proofs.lemmas.Option.{none-some, slice_get_past, slice_get_read}
 use Rattle.realm_plan.specs.Plan.{Plan}
 use Rattle.realm_program.specs.Replay.{opening_host}
 use Rattle.plan_replay.specs.Run.{Position, Turn, start, AreTurns}
@@ -136,6 +136,9 @@ read_at xs k x inside is = slice_get_read xs (length xs) k x refl inside is
 
 pub seen_at_place : {X : Type 0} (xs seen : List X) (k : ℕ) (x : X) → seen ≡ xs → k < length seen → x ≡ get_or seen k x → slice_get xs k ≡ Some x
 seen_at_place xs seen k x same inside is = subst (λ l. slice_get l k ≡ Some x) same (read_at seen k x inside is)
+
+pub nothing_at_place : {X : Type 0} (xs seen : List X) (k : ℕ) → seen ≡ xs → length seen ≤ k → slice_get xs k ≡ None
+nothing_at_place xs seen k same over = subst (λ l. slice_get l k ≡ None) same (slice_get_past seen k over)
 
 pub last_number : (snapshots new : List Snapshot) (snapshot : Snapshot) (number : ℕ) → number ≡ length snapshots → new ≡ snapshots ++ snapshot ∷ [] → IsSnapshotNumber new number snapshot
 last_number snapshots new snapshot number is more = record {

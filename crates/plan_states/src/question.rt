@@ -110,7 +110,10 @@ impl TurnQuestion {
 fn end_numbered(ends: &[EndOfStep], number: Option<usize>) -> Option<EndOfStep>
     ensures { result ≡ end_numbered ends.now number }
 {
-    ends.get(number?).copied()
+    match number {
+        Some(number) => ends.get(number).copied(),
+        None => None,
+    }
 }
 
 /// A property of edge labels: the answer to `question` is yes for the turn that the label describes. A label has

@@ -263,7 +263,10 @@ impl Walk {
 
     // The index in the log of the turn that ran a state's edge at index `place`.
     fn turn_at(&self, depth: usize, state: usize, place: usize) -> Option<usize> {
-        self.visits_at(depth).get(state)?.turns.get(place).copied()
+        match self.visits_at(depth).get(state) {
+            Some(visit) => visit.turns.get(place).copied(),
+            None => None,
+        }
     }
 
     // Whether each edge of a state was run.

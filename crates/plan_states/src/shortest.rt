@@ -62,7 +62,12 @@ fn layer_shows(layer: &[Vec<Edge<Label>>], property: &AnswersQuestion) -> bool
 fn first_layer(layers: &[Layer], property: &AnswersQuestion) -> Option<usize>
     ensures { result ≡ first_layer (is_answer_at property.now.ends.now property.now.held.now property.now.builds property.now.question) layers.now }
 {
-    layers.iter().position(|layer| layer_shows(layer, property))
+    for depth in 0..layers.len() {
+        if layer_shows(&layers[depth], property) {
+            return Some(depth);
+        }
+    }
+    None
 }
 
 // The index of the first layer with a turn that answers a question, in the graph of a plan with `builds` builds.
