@@ -1,4 +1,4 @@
-use Rattle.std.proofs.Common.{List, Vec, Global, sym, subst, ◌∙◌}
+use Rattle.std.proofs.Common.{sym, ◌∙◌}
 use Rattle.std.proofs.lemmas.Result.{IfOk-weaker}
 use Rattle.schedule_graph.specs.First.{layers_in}
 use Rattle.schedule_graph.specs.Paths.{paths, shows}

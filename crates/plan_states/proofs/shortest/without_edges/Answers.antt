@@ -1,4 +1,4 @@
-use Rattle.std.proofs.Common.{List, [], map, Vec, Global}
+use Rattle.std.proofs.Common.{List, [], Vec, Global}
 use Rattle.schedule_graph.specs.declared.graph.Edge.{Edge}
 use Rattle.plan_states.specs.declared.edges.Label.{Label}
 use Rattle.plan_states.proofs.Cuts.{bare_more}

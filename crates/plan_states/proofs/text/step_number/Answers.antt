@@ -1,4 +1,4 @@
-use Rattle.std.proofs.Common.{ℕ, List, length, Vec, Global, Option, sym, subst, ap, ◌∙◌}
+use Rattle.std.proofs.Common.{ℕ, List, length, Vec, Global, Option, sym, ap, ◌∙◌}
 use Rattle.std.specs.Prelude.{option_map, slice_get, unwrap_or}
 use Rattle.std.proofs.lemmas.Option.{slice_get-map, slice_get_past}
 use Rattle.realm_plan.specs.declared.step.PlanStep.{PlanStep}

@@ -1,4 +1,5 @@
 use Rattle.std.proofs.Common.{◌≡◌, ℕ, ◌==◌, ◌&&◌, Bool, true, false, List, Option, Some, refl, sym, ap, ◌∙◌, eq-eqb, ne_eqb}
+use Rattle.std.proofs.lemmas.Option.{slice_get_past}
 use Rattle.std.specs.Prelude.{slice_get}
 use Rattle.realm_plan.specs.Plan.{Plan}
 use Rattle.realm_plan.specs.PlanView.{plan_view}
@@ -24,3 +25,8 @@ returns-else-end-label c =
     ∙ sym (uses_by (plan_view c.args.plan.now) c.args.ends.now c.args.label.now.build c.args.done c.in-Some.number c.args.label.now.end c.in-Some-get.end.now false
     c.in-Some.is (seen_at_place c.args.ends.now c.args.ends.now c.in-Some.number c.in-Some-get.end.now refl c.in-Some-get.ensures.lookup.3.0 c.in-Some-get.ensures.lookup.1)
     (ne_eqb c.in-Some-get.end.now.build c.args.label.now.build c.if-end-label.false))
+
+pub returns-in-None : goal.returns-in-None
+returns-in-None c =
+    sym (ap (uses_next (plan_view c.args.plan.now) c.args.ends.now c.args.label.now.build c.args.done) c.in-Some.is
+    ∙ ap (is_end_of c.args.label.now.build c.args.done) (slice_get_past c.args.ends.now c.in-Some.number c.in-None.ensures.lookup.3))

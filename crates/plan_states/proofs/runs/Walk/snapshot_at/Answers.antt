@@ -1,4 +1,4 @@
-use Rattle.std.proofs.Common.{ℕ, Option, [], map, vec_items, sym, ap, ◌∙◌}
+use Rattle.std.proofs.Common.{ℕ, Option, [], map, vec_items, sym, ap}
 use Rattle.std.specs.Prelude.{option_and_then, slice_index_or}
 use Rattle.plan_states.specs.declared.runs.Visit.{Visit}
 use Rattle.plan_states.proofs.RunLogs.{nothing_at_place, seen_at_place}
