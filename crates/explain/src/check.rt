@@ -40,11 +40,18 @@ pub(crate) fn rmi_check(fact: Fact, fails: bool, rmi: Rmi) -> Check
     }
 }
 
+/// Appends checks to a list of checks.
+pub(crate) fn add_all(checks: &mut Vec<Check>, more: &[Check]) -> Result<(), AllocError>
+    ensures { OnOk result (checks.new.items ≡ checks.old.items ++ more.now) }
+{
+    checks.extend_from_slice(more)
+}
+
 /// Appends a check to a list of checks.
 pub(crate) fn add(checks: &mut Vec<Check>, check: Check) -> Result<(), AllocError>
     ensures { OnOk result (checks.new.items ≡ checks.old.items ++ check ∷ []) }
 {
-    checks.extend_from_slice(&[check])
+    add_all(checks, &[check])
 }
 
 /// Appends a check to a list, unless the check is `None`.

@@ -4,7 +4,7 @@ ghost use Rattle.std.specs.Prelude.{◌≡◌, ◌++◌, [], OnOk, map};
 ghost use Rattle.std.specs.List.{cons_option};
 ghost use Rattle.explain.specs.OfBuild.{build_there, not_aborting, checks_of_build, checks_of_order, page_there, checks_of_realm, checks_of_journal, room_left, room_check, checks_of_vmid, needs_checks};
 
-use crate::check::{Check, Fact, add, add_some};
+use crate::check::{Check, Fact, add, add_all, add_some};
 use crate::host_facts::{BuildFact, RoomFact};
 use granule_addr::BuildId;
 use host_commands::{BuildsView, RealmRequirement};
@@ -177,7 +177,7 @@ pub(crate) fn add_needs<S: PageStore>(
     ensures { OnOk result (checks.new.items ≡ checks.old.items ++ needs_checks host.now build cmd.now pages.now) }
 {
     let needs = cmd.needs();
-    checks.extend_from_slice(&checks_of_build(host, build))?;
+    add_all(checks, &checks_of_build(host, build))?;
     add_some(checks, order_check(cmd))?;
     add_pages(host, build, pages, checks)?;
     add_some(checks, realm_check(host, build, needs.realm))?;

@@ -3,7 +3,7 @@ ghost use Rattle.std.specs.Prelude.{◌≡◌, ◌++◌, ◌≤◌, OnOk, length
 ghost use Rattle.explain.specs.Commands.{above_of, take_checks, rtt_create_checks, init_ripas_checks, data_create_checks, unknown_checks};
 ghost use Rattle.explain.specs.Commands.{guest_write_checks, enter_checks, recs_checks, tables_checks, monitor_checks, command_checks};
 
-use crate::check::{Check, add};
+use crate::check::{Check, add, add_all};
 use crate::of_block::block_check;
 use crate::of_build::add_needs;
 use crate::of_input::{
@@ -146,13 +146,16 @@ fn add_recs<S: PageStore>(
     ensures { OnOk result (checks.new.items ≡ checks.old.items ++ recs_checks host.now build cmd.now) }
 {
     match cmd {
-        Cmd::Enter { number } => checks.extend_from_slice(&enter(host, build, *number)),
-        Cmd::Exit { number } => checks.extend_from_slice(&[
-            rec_there(host, build, *number),
-            rec_is_running(host, build, *number),
-        ]),
+        Cmd::Enter { number } => add_all(checks, &enter(host, build, *number)),
+        Cmd::Exit { number } => add_all(
+            checks,
+            &[
+                rec_there(host, build, *number),
+                rec_is_running(host, build, *number),
+            ],
+        ),
         Cmd::Poke { number, ipa, .. } => {
-            checks.extend_from_slice(&guest_write(host, build, *number, *ipa))
+            add_all(checks, &guest_write(host, build, *number, *ipa))
         }
         _ => Ok(()),
     }
@@ -169,15 +172,13 @@ fn add_there<S: PageStore>(
 {
     match cmd {
         Cmd::Rtt { page, ipa, level } => {
-            checks.extend_from_slice(&rtt_create(host, build, *page, *ipa, *level))
+            add_all(checks, &rtt_create(host, build, *page, *ipa, *level))
         }
-        Cmd::Ripas { ipa, count } => {
-            checks.extend_from_slice(&init_ripas(host, build, *ipa, *count))
-        }
+        Cmd::Ripas { ipa, count } => { add_all(checks, &init_ripas(host, build, *ipa, *count)) }
         Cmd::Data { page, ipa, source } => {
-            checks.extend_from_slice(&data_create(host, build, *page, *ipa, *source))
+            add_all(checks, &data_create(host, build, *page, *ipa, *source))
         }
-        Cmd::Unknown { page, ipa } => checks.extend_from_slice(&unknown(host, build, *page, *ipa)),
+        Cmd::Unknown { page, ipa } => add_all(checks, &unknown(host, build, *page, *ipa)),
         Cmd::Activate => add(checks, realm_new(host, build)),
         _ => add_recs(host, build, cmd, checks),
     }

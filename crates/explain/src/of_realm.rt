@@ -2,7 +2,7 @@
 ghost use Rattle.std.specs.Prelude.{◌≡◌, ◌++◌, ◌∷◌, ◌≤◌, OnOk, length};
 ghost use Rattle.explain.specs.OfRealm.{state_of_realm, state_check, realm_new, realm_active, follow, are_adjacent, begins_right, width_check, apart_check, start_checks, realm_create_checks};
 
-use crate::check::{Check, Fact, add, rmi_check};
+use crate::check::{Check, Fact, add, add_all, rmi_check};
 use crate::of_input::{add_delegated, input_check};
 use crate::rmi_facts::RealmFact;
 use granule_addr::{BuildId, Gran, IpaWidth};
@@ -103,14 +103,17 @@ fn apart_check(rd: Gran, tables: &[Gran]) -> Check
 fn add_tables(rd: Gran, tables: &[Gran], checks: &mut Vec<Check>) -> Result<(), AllocError>
     ensures { OnOk result (checks.new.items ≡ checks.old.items ++ start_checks rd tables.now) }
 {
-    checks.extend_from_slice(&[
-        input_check(Fact::Realm(RealmFact::Adjacent), !are_adjacent(tables)),
-        input_check(
-            Fact::Realm(RealmFact::Multiple(tables.len())),
-            !begins_right(tables),
-        ),
-        apart_check(rd, tables),
-    ])
+    add_all(
+        checks,
+        &[
+            input_check(Fact::Realm(RealmFact::Adjacent), !are_adjacent(tables)),
+            input_check(
+                Fact::Realm(RealmFact::Multiple(tables.len())),
+                !begins_right(tables),
+            ),
+            apart_check(rd, tables),
+        ],
+    )
 }
 
 /// Appends the checks of RMI_REALM_CREATE to a list. The pages and the granules are those of the RD and the starting

@@ -3,7 +3,7 @@ ghost use Rattle.std.specs.Prelude.{◌≡◌, ◌++◌, ◌∷◌, ◌≤◌, O
 ghost use Rattle.realm_model.specs.Command.Check.{are_distinct};
 ghost use Rattle.explain.specs.OfRec.{state_of_rec, rec_check, rec_there, rec_ready, rec_is_running, rec_create_checks};
 
-use crate::check::{Check, Fact, rmi_check};
+use crate::check::{Check, Fact, add_all, rmi_check};
 use crate::of_input::{add_delegated, input_check};
 use crate::of_realm::realm_new;
 use crate::rmi_facts::RecFact;
@@ -41,14 +41,17 @@ pub(crate) fn add_rec_create<S: PageStore>(
     let needed = host.rec_aux_count();
     let named = granules.len().saturating_sub(1);
     add_delegated(host, build, pages, checks)?;
-    checks.extend_from_slice(&[
-        input_check(Fact::Rec(RecFact::Distinct), !are_distinct(granules)),
-        input_check(
-            Fact::Rec(RecFact::Auxiliaries { named, needed }),
-            named != needed as usize,
-        ),
-        realm_new(host, build),
-    ])
+    add_all(
+        checks,
+        &[
+            input_check(Fact::Rec(RecFact::Distinct), !are_distinct(granules)),
+            input_check(
+                Fact::Rec(RecFact::Auxiliaries { named, needed }),
+                named != needed as usize,
+            ),
+            realm_new(host, build),
+        ],
+    )
 }
 
 // The state of a REC of a build's realm, if the realm has that REC.

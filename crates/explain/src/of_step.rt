@@ -2,7 +2,7 @@
 ghost use Rattle.std.specs.Prelude.{◌≡◌, ◌∷◌, ◌++◌, [], OnOk, IfOk, Some};
 ghost use Rattle.explain.specs.Steps.{undo_checks, running_of, begin_checks, mark_checks, back_checks, step_checks};
 
-use crate::check::{Check, Fact, add};
+use crate::check::{Check, Fact, add, add_all};
 use crate::host_facts::UndoFact;
 use crate::of_build::{build_there, checks_of_build, not_aborting};
 use crate::of_command::add_command;
@@ -98,7 +98,7 @@ fn add_back<S: PageStore>(
     ensures { OnOk result (checks.new.items ≡ checks.old.items ++ back_checks host.now build mark) }
 {
     match mark {
-        Some(mark) => checks.extend_from_slice(&back(host, build, mark)),
+        Some(mark) => add_all(checks, &back(host, build, mark)),
         None => add(checks, mark_check(true)),
     }
 }
@@ -116,10 +116,10 @@ fn add_step<S: PageStore>(
 {
     match step {
         Step::Ask(cmd) => add_command(host, build, cmd, checks),
-        Step::Mark => checks.extend_from_slice(&checks_of_build(host, build)),
-        Step::Abort if place.left == 0 => checks.extend_from_slice(&begin(host, build)),
+        Step::Mark => add_all(checks, &checks_of_build(host, build)),
+        Step::Abort if place.left == 0 => add_all(checks, &begin(host, build)),
         Step::Back if place.left == 0 => add_back(host, build, place.mark, checks),
-        _ => checks.extend_from_slice(&undo(host, build)),
+        _ => add_all(checks, &undo(host, build)),
     }
 }
 

@@ -7,7 +7,7 @@ use Rattle.explain.proofs.of_build.add_needs.Goals as goal
 
 pub returns : goal.returns
 returns g c =
-    let l1 = c.extend_from_slice.new.self.items in
+    let l1 = c.add_all.new.checks.items in
     let l2 = c.add_some.new.checks.items in
     let l3 = c.add_pages.new.checks.items in
     let l4 = c.add_some-2.new.checks.items in
@@ -17,7 +17,7 @@ returns g c =
     on_ok_weaker c.add_some-4.result
     (λ last. needs_added c.args.host.now c.args.build c.args.cmd.now c.needs-needs.result c.args.pages.now c.args.checks.now.items
     l1 l2 l3 l4 l5 l6 l7 c.needs-needs.ensures
-    (added c.args.checks.now.items c.checks_of_build.result _ l1 c.in_ok-extend_from_slice.ensures.items c.checks_of_build.ensures)
+    (added c.args.checks.now.items c.checks_of_build.result _ l1 c.in_ok-add_all.ensures c.checks_of_build.ensures)
     (added l1 (cons_option c.order_check.result []) _ l2 c.in_ok-add_some.ensures c.order_check.ensures)
     c.in_ok-add_pages.ensures
     (added l3 (cons_option c.realm_check.result []) _ l4 c.in_ok-add_some-2.ensures c.realm_check.ensures)
