@@ -156,12 +156,12 @@ pub(crate) fn undos_of_delegation<S: PageStore>(
 ) -> Option<usize> {
     let wanted = host.page_granule(build, page)?;
     let open = host.open_acts(build);
-    for (place, act) in open.iter().enumerate() {
-        if let Act::Delegate { granule } = act {
-            if *granule == wanted {
-                return Some(open.len() - place);
-            }
+    let mut undos = open.len();
+    for act in open {
+        if matches!(act, Act::Delegate { granule } if *granule == wanted) {
+            return Some(undos);
         }
+        undos = undos.saturating_sub(1);
     }
     None
 }
@@ -169,10 +169,12 @@ pub(crate) fn undos_of_delegation<S: PageStore>(
 /// Counts the undos needed to reverse the creation of a build's realm. Returns `None` if that creation is not open.
 pub(crate) fn undos_of_realm<S: PageStore>(host: &Host<S>, build: BuildId) -> Option<usize> {
     let open = host.open_acts(build);
-    for (place, act) in open.iter().enumerate() {
-        if let Act::Realm { .. } = act {
-            return Some(open.len() - place);
+    let mut undos = open.len();
+    for act in open {
+        if matches!(act, Act::Realm { .. }) {
+            return Some(undos);
         }
+        undos = undos.saturating_sub(1);
     }
     None
 }
