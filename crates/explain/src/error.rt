@@ -1,26 +1,27 @@
 //! The error message of a refused step: what the failed check requires, what it found, and the name of the refusal.
 use crate::check::{Check, Fact};
 use crate::host_facts::{BuildFact, RoomFact, UndoFact};
-use crate::names::{entry_state, granule_state, realm_state, rec_state, refusal_name};
-use crate::phrase::Value::{self, Number, Page, Word};
-use crate::phrase::{Phrase, four, many, one, pages, plain, three, two};
+use crate::names::refusal_name;
+use crate::phrase::Value::{self, Number, Page};
+use crate::phrase::{
+    Phrase, four_values, one, one_value, plain, three, three_values, two, two_values,
+};
 use crate::readings::{
     Recs, count_of_recs, first_entry, ipa_of, newest_rec, page_of, served, size_of_order,
 };
 use crate::rmi_facts::{InputFact, RealmFact, RecFact, WalkFact};
-use crate::roles::{role_by_state, role_of};
+use crate::roles::{Role, role_by_state, role_of};
 use granule_addr::{BuildId, Gran};
 use host_commands::{Cmd, Step};
 use page_arena::PageStore;
 use realm_host::{GranuleState, Host};
-use realm_plan::{realm_word, state_word};
 use std::alloc::AllocError;
 
 // The name of a failed check's refusal. For a `fill` or `peek` of a page in another state it is the hardware's fault,
 // since these are no RMI commands: the hardware refuses the access.
 fn failure_name(step: &Step, check: &Check) -> Phrase {
     match check.fact {
-        Fact::Input(InputFact::Page { .. }) if access_of(step).is_some() => {
+        Fact::Input(InputFact::Page { .. }) if is_access(step) => {
             plain("on hardware: a granule protection fault")
         }
         _ => refusal_name(check.refusal),
@@ -68,27 +69,26 @@ fn no_build(build: u8, count: u8) -> Phrase {
     } else {
         "build {} does not exist; builds are numbered from 0 and there are {}"
     };
-    two(words, Number(build as u64), Number(count as u64))
+    two(words, build as u64, count as u64)
 }
 
 // The error for a page that the build does not have.
 fn missing_page(step: &Step, page: u16, count: u16) -> Phrase {
     let role = role_of(step, page);
-    let name = Page(role, page);
-    if role.is_empty() {
-        two("the build has no {}; it has {}", name, pages(count))
-    } else {
-        two("{} does not exist; the build has {}", name, pages(count))
-    }
+    let words = match role {
+        Role::NoRole => "the build has no {}; it has { page| pages}",
+        _ => "{} does not exist; the build has { page| pages}",
+    };
+    two_values(words, Page(role, page), Number(count as u64))
 }
 
 // The error for a build that has a realm already, with the page of the realm's RD.
 fn second_realm<S: PageStore>(host: &Host<S>, build: BuildId, rd: Option<Gran>) -> Phrase {
     if let Some(rd) = rd {
         if let Some(page) = page_of(host, build, rd) {
-            return one(
+            return one_value(
                 "the build must have no realm; it has one, with its RD in {}",
-                Page("", page),
+                Page(Role::NoRole, page),
             );
         }
     }
@@ -101,7 +101,7 @@ fn of_build<S: PageStore>(host: &Host<S>, build: BuildId, step: &Step, fact: Bui
         BuildFact::NotAborting => plain("the build must not be in abort; it is"),
         BuildFact::Order(order) => one(
             "the order of a block must be at most 9; it is {}",
-            Number(order as u64),
+            order as u64,
         ),
         BuildFact::Page { page, count, .. } => missing_page(step, page, count),
         BuildFact::Realm(_) => plain("the build must have a realm; it has none"),
@@ -112,27 +112,27 @@ fn of_build<S: PageStore>(host: &Host<S>, build: BuildId, step: &Step, fact: Bui
 // The error for a `take` when no block of its order is free, on a machine of `machine` pages.
 fn block_error(machine: u16, order: u8, free: u16) -> Phrase {
     let size = size_of_order(order);
-    let wanted = Number(size as u64);
+    let wanted = size as u64;
     match free {
         _ if size == 1 => plain("a page must be free; none is"),
         _ if size > machine => two(
-            "an aligned block of {} pages must be free; the machine has {}",
+            "an aligned block of {} pages must be free; the machine has { page| pages}",
             wanted,
-            pages(machine),
+            machine as u64,
         ),
         0 => one(
             "an aligned block of {} pages must be free; no page is",
             wanted,
         ),
         _ if free < size => two(
-            "an aligned block of {} pages must be free; {} free",
+            "an aligned block of {} pages must be free; { page is| pages are} free",
             wanted,
-            many(free as usize, "page is", "pages are"),
+            free as u64,
         ),
         _ => two(
             "an aligned block of {} pages must be free; {} pages are, but not in one block",
             wanted,
-            Number(free as u64),
+            free as u64,
         ),
     }
 }
@@ -141,12 +141,12 @@ fn of_room(machine: u16, fact: RoomFact) -> Phrase {
     match fact {
         RoomFact::Journal(open) => one(
             "fewer than 512 operations of the build must be open; {} are",
-            Number(open as u64),
+            open as u64,
         ),
         RoomFact::History { left, needed } => two(
-            "the build's history must have room for {}; it has room for {}",
-            many(needed as usize, "more event", "more events"),
-            Number(left as u64),
+            "the build's history must have room for { more event| more events}; it has room for {}",
+            needed as u64,
+            left as u64,
         ),
         RoomFact::Vmid(_) => plain("a VMID must be free; all are in use"),
         RoomFact::Block { order, free } => block_error(machine, order, free),
@@ -157,7 +157,7 @@ fn of_room(machine: u16, fact: RoomFact) -> Phrase {
 pub(crate) fn newest_error(number: u16) -> Phrase {
     one(
         "REC {}, the newest operation's, must be READY; it is RUNNING",
-        Number(number as u64),
+        number as u64,
     )
 }
 
@@ -169,8 +169,8 @@ fn running_error<S: PageStore>(
     of_many: &'static str,
 ) -> Phrase {
     match count_of_recs(host, build, Recs::Running) {
-        (1, only) => one(of_one, Number(only as u64)),
-        (count, _) => one(of_many, Number(count as u64)),
+        (1, only) => one(of_one, only as u64),
+        (count, _) => one(of_many, count as u64),
     }
 }
 
@@ -199,32 +199,17 @@ fn of_undo<S: PageStore>(host: &Host<S>, build: BuildId, fact: UndoFact) -> Phra
 
 // ---- what the RMM checks
 
-// The participle for a `fill` or a `peek` of a page, `written` or `read`, or `None` for any other step.
-fn access_of(step: &Step) -> Option<&'static str> {
-    match step {
-        Step::Ask(Cmd::Fill { .. }) => Some("written"),
-        Step::Ask(Cmd::Peek { .. }) => Some("read"),
-        _ => None,
-    }
+// Whether a step is a `fill` or a `peek`.
+fn is_access(step: &Step) -> bool {
+    matches!(step, Step::Ask(Cmd::Fill { .. } | Cmd::Peek { .. }))
 }
 
-// The error for a page that is not in the required state.
-fn page_error(
-    step: &Step,
-    page: Value,
-    required: GranuleState,
-    found: Option<GranuleState>,
-) -> Phrase {
-    let (required, found) = (Word(state_word(required)), Word(granule_state(found)));
-    match access_of(step) {
-        Some(access) => four(
-            "{} must be {} to be {}; it is {}",
-            page,
-            required,
-            Word(access),
-            found,
-        ),
-        None => three("{} must be {}; it is {}", page, required, found),
+// The words of the error for a page that is not in the required state.
+fn page_words(step: &Step) -> &'static str {
+    match step {
+        Step::Ask(Cmd::Fill { .. }) => "{} must be {} to be written; it is {}",
+        Step::Ask(Cmd::Peek { .. }) => "{} must be {} to be read; it is {}",
+        _ => "{} must be {}; it is {}",
     }
 }
 
@@ -235,34 +220,38 @@ fn of_input(step: &Step, fact: InputFact) -> Phrase {
             required,
             found,
         } => {
-            let role = role_by_state(step, page, required);
-            page_error(step, Page(role, page), required, found)
+            let page = Page(role_by_state(step, page, required), page);
+            let (required, found) = (
+                Value::GranuleState(Some(required)),
+                Value::GranuleState(found),
+            );
+            three_values(page_words(step), page, required, found)
         }
         InputFact::Protected { ipa, width } => three(
             "IPA granule {} must be below {}, in the protected half at IPA width {}",
-            Number(ipa as u64),
-            Number(protected_end(width)),
-            Number(width as u64),
+            ipa as u64,
+            protected_end(width),
+            width as u64,
         ),
         InputFact::Level(level) => one(
             "the level of a table must be 2 or 3; it is {}",
-            Number(level as u64),
+            level as u64,
         ),
         InputFact::Start { ipa, level } => three(
             "a table of level {} must start at a multiple of {}; IPA granule {} is none",
-            Number(level as u64),
-            Number(served(level) as u64),
-            Number(ipa as u64),
+            level as u64,
+            served(level) as u64,
+            ipa as u64,
         ),
         InputFact::Count(count) => one(
             "the count of pages must be 1 to 512; it is {}",
-            Number(count as u64),
+            count as u64,
         ),
         InputFact::OneTable { ipa, count } => three(
             "{} pages from IPA granule {} must lie in one table of level 3; the next begins at {}",
-            Number(count as u64),
-            Number(ipa as u64),
-            Number((ipa as u64 / 512 + 1) * 512),
+            count as u64,
+            ipa as u64,
+            (ipa as u64 / 512 + 1) * 512,
         ),
     }
 }
@@ -286,29 +275,26 @@ fn realm_pages(step: &Step) -> (u16, u16, u16) {
 fn of_realm<S: PageStore>(host: &Host<S>, build: BuildId, step: &Step, fact: RealmFact) -> Phrase {
     let (rd, root, count) = realm_pages(step);
     match fact {
-        RealmFact::Width(width) => one(
-            "the IPA width must be 39 to 43; it is {}",
-            Number(width as u64),
-        ),
-        RealmFact::Adjacent => two(
+        RealmFact::Width(width) => one("the IPA width must be 39 to 43; it is {}", width as u64),
+        RealmFact::Adjacent => two_values(
             "the {} starting tables from {} on must be adjacent granules; they are not",
             Number(count as u64),
-            Page("", root),
+            Page(Role::NoRole, root),
         ),
-        RealmFact::Multiple(count) => three(
+        RealmFact::Multiple(count) => three_values(
             "the first starting table, {}, must be at a multiple of {} granules; it is {}",
-            Page("", root),
+            Page(Role::NoRole, root),
             Number(count as u64),
-            Page("", root).in_granules(host, build),
+            Page(Role::NoRole, root).in_granules(host, build),
         ),
-        RealmFact::Apart => one(
+        RealmFact::Apart => one_value(
             "the RD must not be a starting table; {} is both",
-            Page("", rd),
+            Page(Role::NoRole, rd),
         ),
-        RealmFact::State { required, found } => two(
+        RealmFact::State { required, found } => two_values(
             "the realm must be {}; it is {}",
-            Word(realm_word(required)),
-            Word(realm_state(found)),
+            Value::RealmState(Some(required)),
+            Value::RealmState(found),
         ),
     }
 }
@@ -333,9 +319,9 @@ fn repeated_page(step: &Step) -> Option<u16> {
 
 fn distinct_error(step: &Step) -> Phrase {
     match repeated_page(step) {
-        Some(page) => one(
+        Some(page) => one_value(
             "the REC and its auxiliaries must differ; {} is named twice",
-            Page("", page),
+            Page(Role::NoRole, page),
         ),
         None => plain("the REC and its auxiliaries must differ"),
     }
@@ -343,18 +329,18 @@ fn distinct_error(step: &Step) -> Phrase {
 
 // The error for a REC that the realm lacks, with the realm's only REC or the number of its RECs.
 fn no_rec_error<S: PageStore>(host: &Host<S>, build: BuildId, number: u16) -> Phrase {
-    let number = Number(number as u64);
+    let number = number as u64;
     match count_of_recs(host, build, Recs::All) {
         (0, _) => one("the realm must have REC {}; it has none", number),
         (1, only) => two(
             "the realm must have REC {}; it has only REC {}",
             number,
-            Number(only as u64),
+            only as u64,
         ),
         (count, _) => two(
             "the realm must have REC {}; it has {} others",
             number,
-            Number(count as u64),
+            count as u64,
         ),
     }
 }
@@ -364,40 +350,40 @@ fn of_rec<S: PageStore>(host: &Host<S>, build: BuildId, step: &Step, fact: RecFa
         RecFact::Distinct => distinct_error(step),
         RecFact::There(number) => no_rec_error(host, build, number.number()),
         RecFact::Auxiliaries { named, needed } => two(
-            "a REC must have {}; {} named",
-            many(needed as usize, "auxiliary page", "auxiliary pages"),
-            many(named, "is", "are"),
+            "a REC must have { auxiliary page| auxiliary pages}; { is| are} named",
+            needed as u64,
+            named as u64,
         ),
         RecFact::State {
             number,
             required,
             found,
-        } => three(
+        } => three_values(
             "REC {} must be {}; it is {}",
             Number(number.number() as u64),
-            Word(rec_state(Some(required))),
-            Word(rec_state(found)),
+            Value::RecState(Some(required)),
+            Value::RecState(found),
         ),
     }
 }
 
 // The error for entries that are not all UNASSIGNED.
 fn free_error<S: PageStore>(host: &Host<S>, build: BuildId, ipa: u32, count: u16) -> Phrase {
-    let (first, taken) = (Number(ipa as u64), first_entry(host, build, ipa, false));
-    match taken {
+    let (first, count) = (ipa as u64, count as u64);
+    match first_entry(host, build, ipa, false) {
         _ if count == 1 => one(
             "the entry of IPA granule {} must be UNASSIGNED; it is ASSIGNED",
             first,
         ),
         Some(taken) => three(
             "the {} entries from IPA granule {} on must be UNASSIGNED; that of IPA granule {} is ASSIGNED",
-            Number(count as u64),
+            count,
             first,
-            Number(taken as u64),
+            taken as u64,
         ),
         None => two(
             "the {} entries from IPA granule {} on must be UNASSIGNED",
-            Number(count as u64),
+            count,
             first,
         ),
     }
@@ -411,30 +397,30 @@ fn of_walk<S: PageStore>(host: &Host<S>, build: BuildId, ipa: u32, fact: WalkFac
             ended,
         } => three(
             "the walk of IPA granule {} must end at level {}; it ends at level {}",
-            Number(ipa as u64),
-            Number(required as u64),
-            Number(ended as u64),
+            ipa as u64,
+            required as u64,
+            ended as u64,
         ),
         WalkFact::Entry {
             level,
             required,
             found,
-        } => four(
+        } => four_values(
             "the entry of IPA granule {} at level {} must be {}; it is {}",
             Number(ipa as u64),
             Number(level as u64),
-            Word(entry_state(Some(required))),
-            Word(entry_state(found)),
+            Value::EntryState(Some(required)),
+            Value::EntryState(found),
         ),
         WalkFact::NoTable { level, .. } => three(
             "IPA granule {} must have no table below level {} yet; its entry at level {} is TABLE",
-            Number(ipa as u64),
-            Number(level as u64),
-            Number(level as u64),
+            ipa as u64,
+            level as u64,
+            level as u64,
         ),
         WalkFact::Leads(_) => one(
             "the entry of IPA granule {} must lead to a page; it leads to none",
-            Number(ipa as u64),
+            ipa as u64,
         ),
         WalkFact::Free { ipa, count } => free_error(host, build, ipa, count),
     }

@@ -3,7 +3,6 @@ use crate::check::Check;
 use crate::error::{error_of, newest_error, push_error};
 use crate::of_build::build_there;
 use crate::of_step::step_checks;
-use crate::phrase::Value::Number;
 use crate::phrase::{Phrase, one, plain, three, two};
 use crate::readings::{newest_rec, next_rec, page_of};
 use arrayvec::ArrayVec;
@@ -22,18 +21,29 @@ pub fn event_words<S: PageStore>(
     event: &Event,
 ) -> Result<String, AllocError> {
     let mut text = String::new(alloc);
+    push_event(alloc, &mut text, host, event)?;
+    Ok(text)
+}
+
+// Appends the words of `event_words`.
+fn push_event<S: PageStore>(
+    alloc: Global,
+    text: &mut String,
+    host: &Host<S>,
+    event: &Event,
+) -> Result<(), AllocError> {
     let (build, act) = (event.build, &event.act);
     let there = build_there(host, build);
     if there.fails {
-        push_check(&mut text, host, build, &Step::Undo, &there)?;
-    } else if act.is_reverse() {
-        reverse_error(host, build).push(&mut text)?;
-    } else if let Some(granule) = foreign_granule(host, build, act) {
-        foreign_error(host, build, granule).push(&mut text)?;
-    } else {
-        push_act(alloc, &mut text, host, build, act)?;
+        return push_check(text, host, build, &Step::Undo, &there);
     }
-    Ok(text)
+    if act.is_reverse() {
+        return reverse_error(host, build).push(text);
+    }
+    match foreign_granule(host, build, act) {
+        Some(granule) => foreign_error(host, build, granule).push(text),
+        None => push_act(alloc, text, host, build, act),
+    }
 }
 
 // Appends the words for a failed check, which name granules instead of pages.
@@ -81,16 +91,25 @@ fn push_act<S: PageStore>(
     build: BuildId,
     act: &Act,
 ) -> Result<(), AllocError> {
-    if let Some(cmd) = command_of(host, build, act) {
-        let step = Step::Ask(cmd);
-        let checks = step_checks(alloc, host, build, &PlanCursor::first(), &step)?;
-        if let Some(check) = failed_check(&checks) {
-            return push_check(text, host, build, &step, check);
-        }
-    }
-    match recorded_error(host, build, act) {
-        Some(words) => words.push(text),
+    match command_of(host, build, act) {
+        Some(cmd) => push_step(alloc, text, host, build, act, &Step::Ask(cmd)),
         None => Ok(()),
+    }
+}
+
+// Appends the words for an operation that the step performs.
+fn push_step<S: PageStore>(
+    alloc: Global,
+    text: &mut String,
+    host: &Host<S>,
+    build: BuildId,
+    act: &Act,
+    step: &Step,
+) -> Result<(), AllocError> {
+    let checks = step_checks(alloc, host, build, &PlanCursor::first(), step)?;
+    match failed_check(&checks) {
+        Some(check) => push_check(text, host, build, step, check),
+        None => recorded_error(host, build, act).push(text),
     }
 }
 
@@ -133,16 +152,13 @@ fn foreign_granule<S: PageStore>(host: &Host<S>, build: BuildId, act: &Act) -> O
 
 // The error for a granule that the build does not lease, with the build that leases it, if any.
 fn foreign_error<S: PageStore>(host: &Host<S>, build: BuildId, granule: Gran) -> Phrase {
-    let (number, build) = (
-        Number(granule.number() as u64),
-        Number(build.number() as u64),
-    );
+    let (number, build) = (granule.number() as u64, build.number() as u64);
     match host.ledger().holder(granule) {
         Some(holder) => three(
             "granule {} must be leased by build {}; build {} leases it",
             number,
             build,
-            Number(holder.number() as u64),
+            holder.number() as u64,
         ),
         None => two(
             "granule {} must be leased by build {}; nobody leases it",
@@ -270,55 +286,62 @@ fn command_of<S: PageStore>(host: &Host<S>, build: BuildId, act: &Act) -> Option
     Some(cmd)
 }
 
-// The error for a block that cannot be leased, or `None` if the block can be leased.
-fn block_error<S: PageStore>(host: &Host<S>, order: Order, first: Gran) -> Option<Phrase> {
+// The error for a block that cannot be leased. The phrase is empty if the block can be leased.
+fn block_error<S: PageStore>(host: &Host<S>, order: Order, first: Gran) -> Phrase {
     let (size, first) = (order.size(), first.number());
     if first % size != 0 {
-        return Some(three(
+        return three(
             "a block of {} granules must begin at a multiple of {}; granule {} is none",
-            Number(size as u64),
-            Number(size as u64),
-            Number(first as u64),
-        ));
+            size as u64,
+            size as u64,
+            first as u64,
+        );
     }
-    let pages = host.pages();
     for number in first..first.saturating_add(size) {
-        let Some(granule) = Gran::new(number, pages) else {
-            return Some(two(
-                "a block must lie within the machine's {} granules; granule {} does not",
-                Number(pages as u64),
-                Number(number as u64),
-            ));
-        };
-        if let Some(holder) = host.ledger().holder(granule) {
-            return Some(two(
-                "granule {} must be free; build {} leases it",
-                Number(number as u64),
-                Number(holder.number() as u64),
-            ));
+        if let Some(words) = unfree_error(host, number) {
+            return words;
         }
     }
-    None
+    plain("")
 }
 
-// The error for a recorded value that no check of a command reads: a block, a VMID, a REC number, or a byte.
-fn recorded_error<S: PageStore>(host: &Host<S>, build: BuildId, act: &Act) -> Option<Phrase> {
+// The error for a granule that is not free, or `None` if it is free.
+fn unfree_error<S: PageStore>(host: &Host<S>, number: u16) -> Option<Phrase> {
+    let pages = host.pages();
+    let Some(granule) = Gran::new(number, pages) else {
+        return Some(two(
+            "a block must lie within the machine's {} granules; granule {} does not",
+            pages as u64,
+            number as u64,
+        ));
+    };
+    let holder = host.ledger().holder(granule)?;
+    Some(two(
+        "granule {} must be free; build {} leases it",
+        number as u64,
+        holder.number() as u64,
+    ))
+}
+
+// The error for a recorded value that no check of a command reads: a block, a VMID, a REC number, or a byte. The phrase
+// is empty if the operation has none.
+fn recorded_error<S: PageStore>(host: &Host<S>, build: BuildId, act: &Act) -> Phrase {
     match act {
         Act::Take { order, first } => block_error(host, *order, *first),
-        Act::Peek { offset, byte, .. } => Some(two(
+        Act::Peek { offset, byte, .. } => two(
             "byte {} of the granule must be {}; it is another",
-            Number(offset.number() as u64),
-            Number(*byte as u64),
-        )),
-        Act::Realm { vmid, .. } => Some(one(
+            offset.number() as u64,
+            *byte as u64,
+        ),
+        Act::Realm { vmid, .. } => one(
             "VMID {} must be one of the machine's and free; it is not",
-            Number(vmid.number() as u64),
-        )),
-        Act::Rec { number, .. } => Some(two(
+            vmid.number() as u64,
+        ),
+        Act::Rec { number, .. } => two(
             "the number of the REC must be {}; it is {}",
-            Number(next_rec(host, build) as u64),
-            Number(number.number() as u64),
-        )),
-        _ => None,
+            next_rec(host, build) as u64,
+            number.number() as u64,
+        ),
+        _ => plain(""),
     }
 }

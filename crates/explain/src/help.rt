@@ -3,8 +3,8 @@ use crate::check::Fact;
 use crate::help_host::{build_help, room_help, undo_help};
 use crate::help_input::input_help;
 use crate::help_realm::{realm_help, rec_help, walk_help};
-use crate::phrase::Value::Number;
-use crate::phrase::{Phrase, one, page_or, plain};
+use crate::phrase::Value::{self, Number};
+use crate::phrase::{Letter, Phrase, one, one_value, page_or, plain, two_values};
 use crate::readings::{Recs, has_rec, named_pages, next_rec, other_pages};
 use granule_addr::BuildId;
 use host_commands::Step;
@@ -31,6 +31,8 @@ enum Steps {
     Exit,
     /// A `rec` step with all the pages that a REC needs.
     Rec,
+    /// An `unknown` step with this page and this IPA granule.
+    Unknown(Value, u32),
 }
 
 impl Help {
@@ -80,6 +82,15 @@ impl Help {
             after: plain(""),
         }
     }
+
+    /// Creates help that proposes an `unknown` step.
+    pub(crate) fn unknown(before: Phrase, page: Value, ipa: u32, after: &'static str) -> Self {
+        Help {
+            before,
+            steps: Steps::Unknown(page, ipa),
+            after: plain(after),
+        }
+    }
 }
 
 fn help_of<S: PageStore>(host: &Host<S>, build: BuildId, step: &Step, fact: Fact) -> Help {
@@ -121,6 +132,9 @@ fn push_steps<S: PageStore>(
         Steps::Undo(count) => push_undos(text, host, build, count),
         Steps::Exit => push_exits(text, host, build, "`exit {}`", ", `exit {}`"),
         Steps::Rec => push_rec(text, host, build, step),
+        Steps::Unknown(page, ipa) => two_values("`unknown {} {}`", page, Number(ipa as u64)).push(
+            text,
+        ),
     }
 }
 
@@ -136,7 +150,7 @@ fn push_exits<S: PageStore>(
     let mut words = first;
     for number in 0..next_rec(host, build) {
         if has_rec(host, build, number, Recs::Running) {
-            one(words, Number(number as u64)).push(text)?;
+            one(words, number as u64).push(text)?;
             words = next;
         }
     }
@@ -154,7 +168,7 @@ fn push_undos<S: PageStore>(
     push_exits(text, host, build, "`exit {}`, then ", "`exit {}`, then ")?;
     match count {
         1 => text.push_str("`undo`"),
-        count => one("`undo` {} times", Number(count as u64)).push(text),
+        count => one("`undo` {} times", count as u64).push(text),
     }
 }
 
@@ -184,7 +198,7 @@ fn push_rec_pages(
             Some(more) => others.get(more),
             None => named.get(place),
         };
-        one(" {}", page_or(page.copied(), "P")).push(text)?;
+        one_value(" {}", page_or(page.copied(), Letter::P)).push(text)?;
     }
     text.push_str(if named.len() + others.len() < wanted {
         "`, with a DELEGATED page for each P"

@@ -2,7 +2,6 @@
 use crate::help::Help;
 use crate::host_facts::{BuildFact, RoomFact, UndoFact};
 use crate::of_block::has_block;
-use crate::phrase::Value::Number;
 use crate::phrase::{Phrase, four, one, plain, three, two};
 use crate::readings::{
     largest_free, newest_rec, order_for, other_pages, size_of_order, undos_of_realm,
@@ -22,13 +21,13 @@ pub(crate) fn take_of<S: PageStore>(host: &Host<S>, build: BuildId, count: u16) 
     let first = host.page_count(build);
     let last = first.saturating_add(order.size().saturating_sub(1));
     if first == last {
-        return Some(one("`take 0` gives page {}", Number(first as u64)));
+        return Some(one("`take 0` gives page {}", first as u64));
     }
     Some(three(
         "`take {}` gives pages {} to {}",
-        Number(order.number() as u64),
-        Number(first as u64),
-        Number(last as u64),
+        order.number() as u64,
+        first as u64,
+        last as u64,
     ))
 }
 
@@ -37,10 +36,7 @@ fn more_pages<S: PageStore>(host: &Host<S>, build: BuildId, page: u16, count: u1
     let lacking = page.saturating_sub(count).saturating_add(1);
     match take_of(host, build, lacking) {
         Some(take) => take,
-        None if count > 1 => one(
-            "its pages are 0 to {}",
-            Number(count.saturating_sub(1) as u64),
-        ),
+        None if count > 1 => one("its pages are 0 to {}", count.saturating_sub(1) as u64),
         None => plain(""),
     }
 }
@@ -49,16 +45,12 @@ fn more_pages<S: PageStore>(host: &Host<S>, build: BuildId, page: u16, count: u1
 fn realm_first<S: PageStore>(host: &Host<S>, build: BuildId, step: &Step) -> Phrase {
     let delegated = other_pages(host, build, step, GranuleState::Delegated);
     if let [rd, root, ..] = delegated.as_slice() {
-        return two(
-            "create one first: `realm {} {}`",
-            Number(*rd as u64),
-            Number(*root as u64),
-        );
+        return two("create one first: `realm {} {}`", *rd as u64, *root as u64);
     }
     let undelegated = other_pages(host, build, step, GranuleState::Undelegated);
     match undelegated.as_slice() {
         [rd, root, ..] => {
-            let (rd, root) = (Number(*rd as u64), Number(*root as u64));
+            let (rd, root) = (*rd as u64, *root as u64);
             four(
                 "create one first: `delegate {}`, `delegate {}`, then `realm {} {}`",
                 rd,
@@ -90,7 +82,7 @@ fn smaller_order<S: PageStore>(host: &Host<S>) -> Phrase {
     match largest_free(host) {
         Some(order) => one(
             "a block has at most 512 pages: `take 9`; the largest free block is `take {}`",
-            Number(order.number() as u64),
+            order.number() as u64,
         ),
         None => plain("a block has at most 512 pages: `take 9`"),
     }
@@ -125,21 +117,18 @@ fn other_block<S: PageStore>(host: &Host<S>, order: u8) -> Phrase {
     match largest {
         Some(free) if size > pages => four(
             "`take {}` asks for {} pages, the machine has {}; the largest free block is `take {}`",
-            Number(order as u64),
-            Number(size as u64),
-            Number(pages as u64),
-            Number(free.number() as u64),
+            order as u64,
+            size as u64,
+            pages as u64,
+            free.number() as u64,
         ),
         None if size > pages => three(
             "`take {}` asks for {} pages, the machine has {}",
-            Number(order as u64),
-            Number(size as u64),
-            Number(pages as u64),
+            order as u64,
+            size as u64,
+            pages as u64,
         ),
-        Some(free) => one(
-            "the largest free block is `take {}`",
-            Number(free.number() as u64),
-        ),
+        Some(free) => one("the largest free block is `take {}`", free.number() as u64),
         None => plain("`undo` of a `take` gives pages back; or set a larger `pages`"),
     }
 }
@@ -153,7 +142,7 @@ pub(crate) fn room_help<S: PageStore>(host: &Host<S>, fact: RoomFact) -> Phrase 
         ),
         RoomFact::History { .. } => one(
             "set a larger `history`: it is {} events a build, and at most 16384",
-            Number(host.capacity() as u64),
+            host.capacity() as u64,
         ),
         RoomFact::Vmid(_) => plain(
             "set a larger `vmids`, at most 255; or undo the realm of another build",
@@ -167,7 +156,7 @@ pub(crate) fn undo_help<S: PageStore>(host: &Host<S>, build: BuildId, fact: Undo
     match fact {
         UndoFact::Open(_) => Help::nothing(),
         UndoFact::NewestIsNotRunning => match newest_rec(host, build) {
-            Some(number) => Help::say(one("`exit {}` first", Number(number as u64))),
+            Some(number) => Help::say(one("`exit {}` first", number as u64)),
             None => Help::nothing(),
         },
         UndoFact::AllAreReady(_) | UndoFact::NoneRunsAboveMark => Help::exit(),

@@ -3,7 +3,7 @@ use crate::error::protected_end;
 use crate::help::Help;
 use crate::help_host::take_of;
 use crate::phrase::Value::Number;
-use crate::phrase::{Phrase, four, one, page_or, plain, two};
+use crate::phrase::{Letter, Phrase, four, four_values, one, page_or, plain, two};
 use crate::readings::{first_other, first_served, undos_of_delegation};
 use crate::rmi_facts::InputFact;
 use granule_addr::BuildId;
@@ -17,16 +17,13 @@ use realm_host::{GranuleState, Host};
 /// refused step names are left out. The phrase is empty if no page remains.
 pub(crate) fn other_page<S: PageStore>(host: &Host<S>, build: BuildId, step: &Step) -> Phrase {
     if let Some(page) = first_other(host, build, step, GranuleState::Delegated) {
-        return one(
-            "use another page: page {} is DELEGATED",
-            Number(page as u64),
-        );
+        return one("use another page: page {} is DELEGATED", page as u64);
     }
     match first_other(host, build, step, GranuleState::Undelegated) {
         Some(page) => two(
             "use another page: `delegate {}`, then page {}",
-            Number(page as u64),
-            Number(page as u64),
+            page as u64,
+            page as u64,
         ),
         None => plain(""),
     }
@@ -47,7 +44,7 @@ fn delegated_help<S: PageStore>(
 ) -> Phrase {
     match found {
         Some(GranuleState::Undelegated) if !is_source(step, page) => {
-            one("`delegate {}` first", Number(page as u64))
+            one("`delegate {}` first", page as u64)
         }
         _ => other_page(host, build, step),
     }
@@ -71,7 +68,7 @@ fn other_source<S: PageStore>(host: &Host<S>, build: BuildId, step: &Step) -> He
     if let Some(page) = first_other(host, build, step, GranuleState::Undelegated) {
         return Help::say(one(
             "take the bytes from an UNDELEGATED page: page {}",
-            Number(page as u64),
+            page as u64,
         ));
     }
     match take_of(host, build, 1) {
@@ -91,7 +88,7 @@ fn other_delegate<S: PageStore>(
         return plain("leave this step out: the page is DELEGATED already");
     }
     match first_other(host, build, step, GranuleState::Undelegated) {
-        Some(page) => one("delegate another page: `delegate {}`", Number(page as u64)),
+        Some(page) => one("delegate another page: `delegate {}`", page as u64),
         None => plain(""),
     }
 }
@@ -107,7 +104,7 @@ fn undelegated_help<S: PageStore>(
     match step {
         Step::Ask(Cmd::Delegate { .. }) => Help::say(other_delegate(host, build, step, found)),
         Step::Ask(Cmd::Fill { .. }) => {
-            let words = one("fill the page before `delegate {}`; ", Number(page as u64));
+            let words = one("fill the page before `delegate {}`; ", page as u64);
             undelegating_help(host, build, page, words)
         }
         Step::Ask(Cmd::Peek { .. }) => {
@@ -126,15 +123,15 @@ fn protected_help(ipa: u32, width: u8) -> Phrase {
     if ipa % 4096 == 0 && ((ipa / 4096) as u64) < protected_end(width) {
         return one(
             "an IPA granule is an address divided by 4096: {}",
-            Number((ipa / 4096) as u64),
+            (ipa / 4096) as u64,
         );
     }
     for wider in 40..44 {
         if wider > width && (ipa as u64) < protected_end(wider) {
             return two(
                 "a realm of IPA width {} has it: `realm RD RTT {}`",
-                Number(wider as u64),
-                Number(wider as u64),
+                wider as u64,
+                wider as u64,
             );
         }
     }
@@ -148,10 +145,10 @@ fn two_runs(ipa: u32, count: u16) -> Phrase {
     let after = (count as u64).saturating_sub(before);
     four(
         "use two steps: `ripas {} {}`, then `ripas {} {}`",
-        Number(ipa as u64),
-        Number(before),
-        Number(next),
-        Number(after),
+        ipa as u64,
+        before,
+        next,
+        after,
     )
 }
 
@@ -161,9 +158,9 @@ fn covering_table(step: &Step, ipa: u32, level: u8) -> Phrase {
         Step::Ask(Cmd::Rtt { page, .. }) => Some(*page),
         _ => None,
     };
-    four(
+    four_values(
         "`rtt {} {} {}` covers IPA granule {}",
-        page_or(page, "P"),
+        page_or(page, Letter::P),
         Number(first_served(ipa, level) as u64),
         Number(level as u64),
         Number(ipa as u64),

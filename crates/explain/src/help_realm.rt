@@ -2,8 +2,10 @@
 use crate::help::Help;
 use crate::help_host::{take_of, undoing_realm};
 use crate::help_input::other_page;
-use crate::phrase::Value::{self, Number, Word};
-use crate::phrase::{Phrase, four, one, page_or, plain, three, two};
+use crate::phrase::Value::{self, Number};
+use crate::phrase::{
+    Letter, Phrase, four, four_values, one, page_or, plain, three, two, two_values,
+};
 use crate::readings::{first_entry, first_of_tables, first_served, ipa_of, next_rec, other_pages};
 use crate::rmi_facts::{RealmFact, RecFact, WalkFact};
 use granule_addr::BuildId;
@@ -25,14 +27,14 @@ fn other_tables<S: PageStore>(host: &Host<S>, build: BuildId, rd: u16, width: u8
 // The help that proposes the `count` pages from `first` on as starting tables.
 fn tables_from(rd: u16, first: u16, count: u16, width: u8) -> Help {
     let last = first.saturating_add(count.saturating_sub(1));
-    let (rd, first) = (Number(rd as u64), Number(first as u64));
+    let (rd, first) = (rd as u64, first as u64);
     Help::both(
         two(
             "pages {} to {} are adjacent and aligned: ",
             first,
-            Number(last as u64),
+            last as u64,
         ),
-        three("`realm {} {} {}`", rd, first, Number(width as u64)),
+        three("`realm {} {} {}`", rd, first, width as u64),
     )
 }
 
@@ -54,7 +56,7 @@ fn other_width(rd: u16, root: u16, width: u8) -> Phrase {
     } else {
         "`realm {} {} 43` is the widest, with 16 starting tables"
     };
-    two(words, Number(rd as u64), Number(root as u64))
+    two(words, rd as u64, root as u64)
 }
 
 // The help for a realm that is not in the required state.
@@ -111,7 +113,7 @@ fn missing_rec<S: PageStore>(host: &Host<S>, build: BuildId, number: u16) -> Hel
     if number > next {
         return Help::say(one(
             "RECs are numbered in order of their creation: the next is REC {}",
-            Number(next as u64),
+            next as u64,
         ));
     }
     Help::rec("create it first: ")
@@ -124,7 +126,7 @@ fn rec_state_help(number: u16, required: RecState, is_new: bool) -> Phrase {
         RecState::Running if is_new => "`activate`, then `enter {}` first",
         RecState::Running => "`enter {}` first",
     };
-    one(words, Number(number as u64))
+    one(words, number as u64)
 }
 
 /// Returns the help for a failed check on a REC: on its existence, its state, or the pages of its creation.
@@ -155,9 +157,9 @@ pub(crate) fn rec_help<S: PageStore>(
 // A page of a proposed step: one of `others`, or a letter if `others` has fewer pages than needed.
 fn page_at(others: &[u16], needed: usize, place: usize) -> Value {
     let letter = match place {
-        0 => "P",
-        1 => "Q",
-        _ => "R",
+        0 => Letter::P,
+        1 => Letter::Q,
+        _ => Letter::R,
     };
     match others.get(place) {
         Some(page) if others.len() >= needed => page_or(Some(*page), letter),
@@ -191,19 +193,19 @@ fn missing_tables<S: PageStore>(
     let level_2 = Number(first_served(ipa, 2) as u64);
     let level_3 = Number(first_served(ipa, 3) as u64);
     let words = match (ended, required) {
-        (0 | 1, 0..=2) => two(
+        (0 | 1, 0..=2) => two_values(
             "create the missing table first: `rtt {} {} 2`",
             first,
             level_2,
         ),
-        (0 | 1, _) => four(
+        (0 | 1, _) => four_values(
             "create the missing tables first: `rtt {} {} 2`, then `rtt {} {} 3`",
             first,
             level_2,
             page_at(others, needed, 1),
             level_3,
         ),
-        _ => two(
+        _ => two_values(
             "create the missing table first: `rtt {} {} 3`",
             first,
             level_3,
@@ -224,20 +226,19 @@ fn mapping<S: PageStore>(host: &Host<S>, build: BuildId, step: &Step, ipa: u32, 
         0 | 1 => {
             let words = "map a page there first: `rtt {} {} 2`, then `rtt {} {} 3`, then ";
             let second = page_at(others, needed, 1);
-            let tables = four(words, first, level_2, second, level_3);
+            let tables = four_values(words, first, level_2, second, level_3);
             (tables, page_at(others, needed, 2))
         }
         2 => {
             let words = "map a page there first: `rtt {} {} 3`, then ";
-            (two(words, first, level_3), page_at(others, needed, 1))
+            (
+                two_values(words, first, level_3),
+                page_at(others, needed, 1),
+            )
         }
         _ => (plain("map a page there first: "), first),
     };
-    let more = Word(letters(others, needed));
-    Help::both(
-        tables,
-        three("`unknown {} {}`{}", page, Number(ipa as u64), more),
-    )
+    Help::unknown(tables, page, ipa, letters(others, needed))
 }
 
 // The help that proposes another IPA granule for a page, one whose entry is UNASSIGNED.
@@ -245,19 +246,19 @@ fn other_entry<S: PageStore>(host: &Host<S>, build: BuildId, step: &Step, ipa: u
     let Some(other) = first_entry(host, build, ipa, true) else {
         return plain("");
     };
-    let other = Number(other as u64);
+    let other = other as u64;
     match step {
         Step::Ask(Cmd::Data { page, source, .. }) => four(
             "IPA granule {} is UNASSIGNED: `data {} {} {}`",
             other,
-            Number(*page as u64),
+            *page as u64,
             other,
-            Number(*source as u64),
+            *source as u64,
         ),
         Step::Ask(Cmd::Unknown { page, .. }) => three(
             "IPA granule {} is UNASSIGNED: `unknown {} {}`",
             other,
-            Number(*page as u64),
+            *page as u64,
             other,
         ),
         _ => plain(""),
@@ -269,7 +270,7 @@ fn before_mapping<S: PageStore>(host: &Host<S>, build: BuildId, ipa: u32) -> Phr
     match first_entry(host, build, ipa, false) {
         Some(taken) => one(
             "put this step before the one that maps IPA granule {}",
-            Number(taken as u64),
+            taken as u64,
         ),
         None => plain(""),
     }

@@ -1,6 +1,5 @@
 //! The names of refusals, and of states of granules, realms, RECs and table entries. RMM 1.0 names the states and the
 //! RMI results.
-use crate::phrase::Value::Number;
 use crate::phrase::{Phrase, one, plain};
 use realm_host::{EntryState, GranuleState, RealmState, RecState, Refusal, Rmi};
 use realm_model::Status;
@@ -12,7 +11,7 @@ fn rmi_name(rmi: Rmi) -> Phrase {
         Status::Input => plain("RMI_ERROR_INPUT"),
         Status::Realm => plain("RMI_ERROR_REALM"),
         Status::Rec => plain("RMI_ERROR_REC"),
-        Status::Rtt => one("RMI_ERROR_RTT, index {}", Number(rmi.index as u64)),
+        Status::Rtt => one("RMI_ERROR_RTT, index {}", rmi.index as u64),
     }
 }
 

@@ -1,13 +1,11 @@
 //! The phrases that describe the passed checks of a step.
 use crate::check::Fact;
 use crate::host_facts::{BuildFact, RoomFact, UndoFact};
-use crate::names::{entry_state, rec_state};
-use crate::phrase::Value::{Number, Page, Word};
-use crate::phrase::{Phrase, many, one, pages, plain, two};
+use crate::phrase::Value::{self, Number, Page};
+use crate::phrase::{Phrase, one, one_value, plain, two, two_values};
 use crate::rmi_facts::{InputFact, RealmFact, RecFact, WalkFact};
 use crate::roles::{role_by_state, role_of};
 use host_commands::Step;
-use realm_plan::{realm_word, state_word};
 
 /// Returns the phrase that describes a passed check of a step.
 pub(crate) fn passed(step: &Step, fact: Fact) -> Phrase {
@@ -25,22 +23,22 @@ pub(crate) fn passed(step: &Step, fact: Fact) -> Phrase {
 fn of_build(step: &Step, fact: BuildFact) -> Phrase {
     match fact {
         BuildFact::There(1) => plain("the build is the only one"),
-        BuildFact::There(builds) => one("the build is one of {}", Number(builds as u64)),
+        BuildFact::There(builds) => one("the build is one of {}", builds as u64),
         BuildFact::NotAborting => plain("the build is not in abort"),
-        BuildFact::Order(order) => one("the order is {}, at most 9", Number(order as u64)),
+        BuildFact::Order(order) => one("the order is {}, at most 9", order as u64),
         BuildFact::Page {
             page,
             granule: Some(granule),
             ..
-        } => two(
+        } => two_values(
             "{} is granule {}",
             Page(role_of(step, page), page),
             Number(granule.number() as u64),
         ),
-        BuildFact::Page { page, .. } => one("page {} is there", Number(page as u64)),
+        BuildFact::Page { page, .. } => one("page {} is there", page as u64),
         BuildFact::Realm(Some(rd)) => one(
             "the build has a realm, with its RD in granule {}",
-            Number(rd.number() as u64),
+            rd.number() as u64,
         ),
         BuildFact::Realm(None) => plain("the build has a realm"),
         BuildFact::NoRealm(_) => plain("the build has no realm"),
@@ -50,26 +48,23 @@ fn of_build(step: &Step, fact: BuildFact) -> Phrase {
 fn of_room(fact: RoomFact) -> Phrase {
     match fact {
         RoomFact::Journal(open) => one(
-            "{} open, fewer than 512",
-            many(open, "operation is", "operations are"),
+            "{ operation is| operations are} open, fewer than 512",
+            open as u64,
         ),
         RoomFact::History { left, needed } => two(
-            "the history has room for {}; {} needed",
-            many(left as usize, "more event", "more events"),
-            Number(needed as u64),
+            "the history has room for { more event| more events}; {} needed",
+            left as u64,
+            needed as u64,
         ),
-        RoomFact::Vmid(Some(lowest)) => one("VMID {} is free", Number(lowest.number() as u64)),
+        RoomFact::Vmid(Some(lowest)) => one("VMID {} is free", lowest.number() as u64),
         RoomFact::Vmid(None) => plain("a VMID is free"),
-        RoomFact::Block { order, .. } => one(
-            "an aligned block of order {} is free",
-            Number(order as u64),
-        ),
+        RoomFact::Block { order, .. } => one("an aligned block of order {} is free", order as u64),
     }
 }
 
 fn of_undo(fact: UndoFact) -> Phrase {
     match fact {
-        UndoFact::Open(open) => one("{} open", many(open, "operation is", "operations are")),
+        UndoFact::Open(open) => one("{ operation is| operations are} open", open as u64),
         UndoFact::NewestIsNotRunning => plain(
             "the newest operation's REC is READY, or it created none",
         ),
@@ -81,41 +76,44 @@ fn of_undo(fact: UndoFact) -> Phrase {
 
 fn of_input(step: &Step, fact: InputFact) -> Phrase {
     match fact {
-        InputFact::Page { page, required, .. } => two(
+        InputFact::Page { page, required, .. } => two_values(
             "{} is {}",
             Page(role_by_state(step, page, required), page),
-            Word(state_word(required)),
+            Value::GranuleState(Some(required)),
         ),
         InputFact::Protected { ipa, width } => two(
             "IPA granule {} is in the protected half at IPA width {}",
-            Number(ipa as u64),
-            Number(width as u64),
+            ipa as u64,
+            width as u64,
         ),
-        InputFact::Level(level) => one("the level of the table is {}", Number(level as u64)),
+        InputFact::Level(level) => one("the level of the table is {}", level as u64),
         InputFact::Start { ipa, level } => two(
             "a table of level {} can start at IPA granule {}",
-            Number(level as u64),
-            Number(ipa as u64),
+            level as u64,
+            ipa as u64,
         ),
-        InputFact::Count(count) => one("the count of pages is {}, 1 to 512", Number(count as u64)),
+        InputFact::Count(count) => one("the count of pages is {}, 1 to 512", count as u64),
         InputFact::OneTable { ipa, count } => two(
-            "{} from IPA granule {} on: one table of level 3",
-            pages(count),
-            Number(ipa as u64),
+            "{ page| pages} from IPA granule {} on: one table of level 3",
+            count as u64,
+            ipa as u64,
         ),
     }
 }
 
 fn of_realm(fact: RealmFact) -> Phrase {
     match fact {
-        RealmFact::Width(width) => one("the IPA width is {}, 39 to 43", Number(width as u64)),
+        RealmFact::Width(width) => one("the IPA width is {}, 39 to 43", width as u64),
         RealmFact::Adjacent => plain("the starting tables are adjacent granules"),
         RealmFact::Multiple(count) => one(
-            "the first starting table is at a multiple of {}",
-            many(count, "granule", "granules"),
+            "the first starting table is at a multiple of { granule| granules}",
+            count as u64,
         ),
         RealmFact::Apart => plain("the RD page is not a starting table"),
-        RealmFact::State { required, .. } => one("the realm is {}", Word(realm_word(required))),
+        RealmFact::State { required, .. } => one_value(
+            "the realm is {}",
+            Value::RealmState(Some(required)),
+        ),
     }
 }
 
@@ -123,18 +121,18 @@ fn of_rec(fact: RecFact) -> Phrase {
     match fact {
         RecFact::Distinct => plain("no page is named twice"),
         RecFact::Auxiliaries { named, .. } => one(
-            "{} named, as many as a REC has",
-            many(named, "auxiliary page is", "auxiliary pages are"),
+            "{ auxiliary page is| auxiliary pages are} named, as many as a REC has",
+            named as u64,
         ),
-        RecFact::There(number) => one("the realm has REC {}", Number(number.number() as u64)),
+        RecFact::There(number) => one("the realm has REC {}", number.number() as u64),
         RecFact::State {
             number,
             required,
             ..
-        } => two(
+        } => two_values(
             "REC {} is {}",
             Number(number.number() as u64),
-            Word(rec_state(Some(required))),
+            Value::RecState(Some(required)),
         ),
     }
 }
@@ -143,31 +141,28 @@ fn of_walk(fact: WalkFact) -> Phrase {
     match fact {
         WalkFact::Walk { ipa, required, .. } => two(
             "the walk of IPA granule {} ends at level {}",
-            Number(ipa as u64),
-            Number(required as u64),
+            ipa as u64,
+            required as u64,
         ),
         WalkFact::Entry {
             level,
             required,
             ..
-        } => two(
+        } => two_values(
             "the entry at level {} is {}",
             Number(level as u64),
-            Word(entry_state(Some(required))),
+            Value::EntryState(Some(required)),
         ),
-        WalkFact::NoTable { level, .. } => one(
-            "the entry at level {} is not TABLE",
-            Number(level as u64),
-        ),
+        WalkFact::NoTable { level, .. } => one("the entry at level {} is not TABLE", level as u64),
         WalkFact::Leads(Some(granule)) => one(
             "the entry leads to granule {}",
-            Number(granule.number() as u64),
+            granule.number() as u64,
         ),
         WalkFact::Leads(None) => plain("the entry leads to a page"),
         WalkFact::Free { ipa, count } => two(
-            "{} from IPA granule {} on: UNASSIGNED",
-            many(count as usize, "entry", "entries"),
-            Number(ipa as u64),
+            "{ entry| entries} from IPA granule {} on: UNASSIGNED",
+            count as u64,
+            ipa as u64,
         ),
     }
 }
