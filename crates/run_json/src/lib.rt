@@ -21,7 +21,7 @@ mod world;
 
 pub use document::{Document, MachineSettings, run_document};
 pub use items::{GranuleItem, PageItem, RecItem, RecView, RowItem};
-pub use json::json_text;
+pub use json::{ObjectWriter, json_text};
 pub use kept::BuildKept;
 pub use page::page_of;
 pub use realm::RealmItem;

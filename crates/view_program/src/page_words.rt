@@ -3,16 +3,15 @@ use buddy::BuddyArena;
 use explain::explain_turns;
 use realm_plan::Plan;
 use realm_program::boot;
-use serde::Serialize;
+use run_json::ObjectWriter;
+use serde::{Described, Serialize, Serializer};
 use std::alloc::{AllocError, Global};
 
 /// A refused turn, with its error message and its help message. Turns are counted from 0, as in the document of the
 /// run. `help` is empty if there is no help.
-#[derive(Serialize)]
 pub(crate) struct RefusedTurn {
     turn: usize,
     error: String,
-    #[serde(skip_serializing_if = "String::is_empty")]
     help: String,
 }
 
@@ -23,6 +22,20 @@ impl Drop for RefusedTurn {
             error: _,
             help: _,
         } = self;
+    }
+}
+
+impl Described for RefusedTurn {}
+
+impl Serialize for RefusedTurn {
+    fn serialize<W: Serializer>(&self, out: &mut W) -> Result<(), W::Error> {
+        let mut object = ObjectWriter::begin(out, None);
+        object.member("turn", self.turn);
+        object.member("error", &self.error);
+        if !self.help.is_empty() {
+            object.member("help", &self.help);
+        }
+        object.end()
     }
 }
 

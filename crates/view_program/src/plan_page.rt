@@ -14,18 +14,16 @@ use granule_addr::BuildId;
 use realm_host::{Host, HostLedger, apply_without};
 use realm_plan::Plan;
 use realm_program::{Fault, boot};
-use run_json::{Document, WorldItem, json_text, page_of, world_item};
-use serde::Serialize;
+use run_json::{Document, ObjectWriter, WorldItem, json_text, page_of, world_item};
+use serde::{Described, Serialize, Serializer};
 use std::alloc::{AllocError, Global};
 
 /// The data of a browser page that shows a plan's run and its refused turns. For each build, the data also have the
 /// machine as it would be without that build's events. The title of the plan is empty if it has none.
-#[derive(Serialize)]
 struct PageData {
     run: Document,
     without: Vec<WorldItem>,
     refused: Vec<RefusedTurn>,
-    #[serde(skip_serializing_if = "String::is_empty")]
     title: String,
 }
 
@@ -37,6 +35,21 @@ impl Drop for PageData {
             refused: _,
             title: _,
         } = self;
+    }
+}
+
+impl Described for PageData {}
+
+impl Serialize for PageData {
+    fn serialize<W: Serializer>(&self, out: &mut W) -> Result<(), W::Error> {
+        let mut object = ObjectWriter::begin(out, None);
+        object.member("run", &self.run);
+        object.member("without", &self.without);
+        object.member("refused", &self.refused);
+        if !self.title.is_empty() {
+            object.member("title", &self.title);
+        }
+        object.end()
     }
 }
 
