@@ -49,8 +49,8 @@ pub fn order_place(alloc: Global, text: &str) -> Result<OrderPlace, AllocError>
             break;
         }
         match pair(alloc, rest) {
-            Ok((key, value, after)) if is_order(&key) => return Ok(part(text, value, after)),
-            Ok((_, _, after)) => {
+            Ok((true, value, after)) => return Ok(part(text, value, after)),
+            Ok((false, _, after)) => {
                 below = before(text, line_below(after));
                 rest = skip_blank(after, true);
             }
@@ -93,12 +93,18 @@ fn line_below(s: &str) -> &str {
     }
 }
 
-// A key, the text from its value on, and the text after the value.
-fn pair(alloc: Global, s: &str) -> Result<(Key, &str, &str), KeyReadError> {
+// Whether a key is `order`, and the text after the key.
+fn read_key(alloc: Global, s: &str) -> Result<(bool, &str), KeyReadError> {
     let (key, equals) = dotted_key(alloc, s)?;
+    Ok((is_order(&key), equals))
+}
+
+// Whether the key of a pair is `order`, the text from its value on, and the text after the value.
+fn pair(alloc: Global, s: &str) -> Result<(bool, &str, &str), KeyReadError> {
+    let (is_order, equals) = read_key(alloc, s)?;
     let value = skip_ws(after_byte(equals)?);
     let after = after_value(alloc, value)?;
-    Ok((key, value, after))
+    Ok((is_order, value, after))
 }
 
 // The text after a value.
