@@ -4,15 +4,7 @@ ghost use Rattle.realm_plan.specs.PlanView.{plan_view};
 ghost use Rattle.plan_states.specs.Exploration.{HasNoGraph};
 ghost use Rattle.plan_states.specs.Shortest.{EndsWithAnswer};
 ghost use Rattle.view_program.specs.OrderText.{with_schedule};
-ghost use Rattle.view_program.specs.ToAnswer.{
-  never_leased_line,
-  never_line,
-  never_refused_step_line,
-  never_waiting_line,
-  question_of_options,
-  IsAnswerText,
-  IsPlanTo,
-};
+ghost use Rattle.view_program.specs.ToAnswer.{never_line, question_of_options, IsAnswerText, IsPlanTo};
 
 use crate::plan_order::{own_schedule, with_order};
 use crate::same_plan::is_same_but_schedule;
@@ -79,43 +71,17 @@ fn plan_to(
     }
 }
 
-// The line that says that a step is refused in no schedule.
-fn never_refused_text(alloc: Global, build: u32, step: u32) -> Result<String, AllocError>
-    ensures { IfOk result (λ text. string_bytes text ≡ never_refused_step_line build step) }
-{
-    let mut text = String::new(alloc);
-    writeln!(text, "step {build} {step} refused in 0")?;
-    Ok(text)
-}
-
-// The line that says that in no schedule a build waits while another build holds nothing.
-fn never_waiting_text(alloc: Global, build: u32) -> Result<String, AllocError>
-    ensures { IfOk result (λ text. string_bytes text ≡ never_waiting_line build) }
-{
-    let mut text = String::new(alloc);
-    writeln!(text, "build {build} waiting in 0")?;
-    Ok(text)
-}
-
-// The line that says that no schedule leases `granules` granules at a time.
-fn never_leased_text(alloc: Global, granules: u32) -> Result<String, AllocError>
-    ensures { IfOk result (λ text. string_bytes text ≡ never_leased_line granules) }
-{
-    let mut text = String::new(alloc);
-    writeln!(text, "leased {granules} in 0")?;
-    Ok(text)
-}
-
-// The line that says that no schedule answers the question.
+// The line that says that no schedule answers the question. Each schedule accepts the step, lets the build wait only
+// while another build holds something, or leases fewer granules at a time.
 fn never_text(alloc: Global, asked: ScheduleQuestion) -> Result<String, AllocError>
     ensures { IfOk result (λ text. string_bytes text ≡ never_line asked) }
 {
     match asked {
         ScheduleQuestion::Refused(StepPlace { build, step }) => {
-            never_refused_text(alloc, build, step)
+            format!(in alloc; "step {build} {step} refused in 0\n")
         }
-        ScheduleQuestion::Waiting(build) => never_waiting_text(alloc, build),
-        ScheduleQuestion::Leased(granules) => never_leased_text(alloc, granules),
+        ScheduleQuestion::Waiting(build) => format!(in alloc; "build {build} waiting in 0\n"),
+        ScheduleQuestion::Leased(granules) => format!(in alloc; "leased {granules} in 0\n"),
     }
 }
 
