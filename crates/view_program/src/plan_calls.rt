@@ -1,11 +1,12 @@
 //! The RMM calls of a plan's run, as a trace or a C table.
 ghost use Rattle.std.specs.Prelude.{◌≡◌, ◌<◌, ◌≤◌, ◌++◌, false, true, length, slice_get, None, Some, IfOk, IfSome, OnOk, string_bytes, vec_len};
 ghost use Rattle.std.specs.Bool.{OnTrue};
+ghost use Rattle.std.specs.List.{flat_map};
 ghost use Rattle.command_line.specs.declared.realmview.CallsForm.TheVariants.{Trace};
 ghost use Rattle.history_calls.specs.Lines.{action_line, platform_line};
 ghost use Rattle.realm_plan.specs.PlanView.{plan_view};
 ghost use Rattle.realm_program.specs.Replay.{IsWithoutText};
-ghost use Rattle.view_program.specs.Calls.{action_lines, comment_start, is_poke, is_refusal_of_rmm, AppendsCallsOfEvent, AppendsTurnAndCalls, AppendsCallsOfTurn, IsCallsText};
+ghost use Rattle.view_program.specs.Calls.{comment_start, is_poke, is_refusal_of_rmm, AppendsCallsOfEvent, AppendsTurnAndCalls, AppendsCallsOfTurn, IsCallsText};
 
 use crate::call_rows::{push_action_rows, push_platform_row};
 use crate::plan_text::ViewText;
@@ -83,16 +84,17 @@ fn push_in_form(
     }
 }
 
-// Appends actions with their answers. None of them is refused.
+// Appends actions with their answers. The calls among them are refused if there is a refusal.
 fn push_actions(
     text: &mut String,
     form: CallsForm,
     actions: &[HostAction],
+    refusal: Option<Rmi>,
 ) -> Result<(), AllocError>
-    ensures { OnOk result (form ≡ Trace → string_bytes text.new ≡ string_bytes text.old ++ action_lines actions.now) }
+    ensures { OnOk result (form ≡ Trace → string_bytes text.new ≡ string_bytes text.old ++ flat_map (λ action. action_line action refusal) actions.now) }
 {
     for action in actions {
-        push_in_form(text, form, action, None)?;
+        push_in_form(text, form, action, refusal)?;
     }
     Ok(())
 }
@@ -117,7 +119,7 @@ fn push_recorded(
     let subject = host.ledger().place(event.build, &event.act);
     let run = runs.page_for(subject.rec, &event.act);
     let actions = actions_of(frame, subject, run, &event.act);
-    push_actions(text, form, actions.as_slice())
+    push_actions(text, form, actions.as_slice(), None)
 }
 
 /// A text under construction that lists the RMM calls of a plan's run. `runs` has the run pages for RMI_REC_ENTER, with
@@ -140,14 +142,13 @@ impl CallsText {
         cmd: &Cmd,
         rmi: Rmi,
     ) -> Result<(), AllocError> {
-        let Some(actions) = refused_calls(self.frame, host, build, cmd, rmi) else {
-            begin_comment(below, self.form)?;
-            return below.push_str(OTHERWISE);
-        };
-        for action in actions.as_slice() {
-            push_in_form(below, self.form, action, Some(rmi))?;
+        match refused_calls(self.frame, host, build, cmd, rmi) {
+            Some(actions) => push_actions(below, self.form, actions.as_slice(), Some(rmi)),
+            None => {
+                begin_comment(below, self.form)?;
+                below.push_str(OTHERWISE)
+            }
         }
-        Ok(())
     }
 
     // Appends to `below` the call of a step, if the RMM has refused it.
