@@ -98,12 +98,11 @@ impl Totals {
         ensures { OnOk result ((visits : List Visit) → AreTotals builds visits self.old
             → AreTotals builds (visits ++ record { choices = choices.now; ends = ends.now; map = map } ∷ []) self.new) }
     {
+        count(alloc, &mut self.maps, map, choices)?;
+        self.steps.schedule_count.add_one()?;
         let steps = &mut self.steps;
         count(alloc, &mut steps.by_refusal, has_refusal(ends), choices)?;
         count_ends(alloc, &mut steps.ends, choices, ends)?;
-        count_never_refused(alloc, &mut steps.never_refused, builds, choices, ends)?;
-        count(alloc, &mut self.maps, map, choices)?;
-        self.steps.schedule_count.add_one()?;
-        Ok(())
+        count_never_refused(alloc, &mut steps.never_refused, builds, choices, ends)
     }
 }
