@@ -1,7 +1,9 @@
--- A proof that each event in a legal history belongs to a build of the machine.
-use Rattle.std.proofs.Common.{◌≡◌, ℕ, zero, suc, ◌<◌, true, List, [], ◌∷◌, length, get_or, Option, Some, None, refl, subst}
-use Rattle.std.specs.Prelude.{is_some, slice_get}
-use Rattle.std.proofs.lemmas.Option.{same_Some, option_and_then_some, slice_get_read}
+-- Proofs that each event in a legal history belongs to a build of the machine, and of what there is at a place of a
+-- history.
+use Rattle.std.proofs.Common.{◌≡◌, ℕ, zero, suc, ◌<◌, ◌≤◌, true, false, ltb, List, [], ◌∷◌, length, get_or, Option, Some, None, refl, sym, ap, subst, arith}
+use Rattle.std.specs.Prelude.{is_some, slice_get, IfSome}
+use Rattle.std.proofs.lemmas.Bool.Decides.{nat_tests}
+use Rattle.std.proofs.lemmas.Option.{same_Some, option_and_then_some, slice_get_read, slice_get_past}
 use Rattle.realm_model.specs.declared.act.Event.{Event}
 use Rattle.realm_model.specs.Machine.{Limits}
 use Rattle.realm_model.specs.World.{World, opening}
@@ -29,3 +31,25 @@ event_of_build limits history seen place event legal same inside is = of_world (
     of_world : (o : Option World) → replay limits history ≡ o → is_some o ≡ true → event.build < limits.builds
     of_world None ends some = cc
     of_world (Some v) ends some = event_after limits history place event (opening limits) v found ends
+
+-- ---- a place of a history, which is read as `seen`
+
+-- a fact of the event at the place
+pub at_event : (P : Event → Type 0) (history seen : List Event) (place : ℕ) (event : Event) → seen ≡ history → place < length seen
+    → event ≡ get_or seen place event → P event → IfSome (slice_get history place) P
+at_event P history seen place event same inside is holds =
+    subst (λ (them : List Event). IfSome (slice_get them place) P) same
+    (subst (λ (it : Option Event). IfSome it P) (sym (slice_get_read seen (length seen) place event refl inside is)) holds)
+
+-- a place that has an event is not past the end
+pub has_event : {P : Type 0} (history seen : List Event) (place : ℕ) → seen ≡ history → place < length seen → length history ≤ place → P
+has_event history seen place same inside few = let long : length seen ≡ length history = ap length same in absurd (omega arith)
+
+few_events : (history seen : List Event) (place : ℕ) → seen ≡ history → false ≡ ltb place (length seen) → length history ≤ place
+few_events history seen place same past = let long : length seen ≡ length history = ap length same in grind (arith, nat_tests)
+
+-- past the end every fact of the event holds, since there is none
+pub at_no_event : (P : Event → Type 0) (history seen : List Event) (place : ℕ) → seen ≡ history → false ≡ ltb place (length seen)
+    → IfSome (slice_get history place) P
+at_no_event P history seen place same past =
+    subst (λ (it : Option Event). IfSome it P) (sym (slice_get_past history place (few_events history seen place same past))) tt
