@@ -33,29 +33,21 @@ fn painting(asked: ViewSubcommand) -> Option<TextKind> {
     }
 }
 
-/// Performs a subcommand on a file, or on standard input if there is no file.
-fn perform(
-    rt: &HostRuntime,
-    asked: ViewSubcommand,
-    file: Option<&str>,
-) -> Result<Ended<ViewOutcome>, Stop<ViewError>> {
-    let mut input = Told::new(Input::open(rt, "realmview", file, awaited(asked))?);
-    let mut output = Told::new(Output::open(rt, painting(asked)));
-    let meter = Meter::new(rt);
-    let source = file.unwrap_or("plan");
-    let outcome = run(rt.alloc(), asked, source, &mut input, &mut output, &meter);
-    meter.end();
-    Ended::of_run(outcome, output.is_closed())
-}
-
 /// Parses the command line, and carries out its request.
 fn show(rt: &HostRuntime) -> Result<Ended<ViewOutcome>, Stop<ViewError>> {
     let alloc = rt.alloc();
     let words = arguments::<_, ViewError>(rt)?;
-    match ViewSubcommand::of(alloc, &words) {
-        Ok(line) => perform(rt, line.asked, line.file),
-        Err(error) => Ended::shown(alloc, error, &mut Told::new(rt.stdout())),
-    }
+    let line = match ViewSubcommand::of(alloc, &words) {
+        Ok(line) => line,
+        Err(error) => return Ended::shown(alloc, error, &mut Told::new(rt.stdout())),
+    };
+    let mut input = Told::new(Input::open(rt, "realmview", line.file, awaited(line.asked))?);
+    let mut output = Told::new(Output::open(rt, painting(line.asked)));
+    let meter = Meter::new(rt);
+    let source = line.file.unwrap_or("plan");
+    let outcome = run(alloc, line.asked, source, &mut input, &mut output, &meter);
+    meter.end();
+    Ended::of_run(outcome, output.is_closed())
 }
 
 /// Returns the program's exit status for the outcome of its run. If the program stops, standard error has the reason.
