@@ -12,7 +12,7 @@ use page_arena::PageStore;
 use realm_host::{EntryState, GranuleState, Host, RealmState, RecState};
 use std::alloc::AllocError;
 
-/// A letter that stands for a page which a build lacks.
+/// A letter in place of a page that a build lacks.
 #[derive(Clone, Copy)]
 pub(crate) enum Letter {
     P,
