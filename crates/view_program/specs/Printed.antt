@@ -88,9 +88,9 @@ IsPlanEnd texts without source unread input old new (Err Device) = IsEndOfDevice
 IsPlanEnd texts without source unread input old new (Err fault) = ⊥
 
 -- the outcome of a request other than `check`, by the end of its work
-abbrev pub done_after : Result (Unit {0}) ViewError → Result ViewOutcome ViewError
-done_after (Ok done) = Ok Done
-done_after (Err fault) = Err fault
+abbrev pub outcome_after : Result (Unit {0}) ViewError → Result ViewOutcome ViewError
+outcome_after (Ok done) = Ok Done
+outcome_after (Err fault) = Err fault
 
 -- the end of a request other than `check`: its verdict is never `HasErrors`
 abbrev pub EndsAs : (Result (Unit {0}) ViewError → Type 0) → Result ViewOutcome ViewError → Type 0

@@ -1,7 +1,7 @@
 //! The function that performs the requested subcommand of `realmview`.
 ghost use Rattle.std.specs.Prelude.{◌≡◌, ◌+◌, ◌≤◌, ◌↔◌, ◌⊎◌, false, true, Err};
 ghost use Rattle.realm_program.specs.Whole.{ReadsOnce};
-ghost use Rattle.view_program.specs.Printed.{done_after, AreFewReads, EndsAs, IsPlanEnd, IsRunEnd, ReadsOnceFor};
+ghost use Rattle.view_program.specs.Printed.{outcome_after, AreFewReads, EndsAs, IsPlanEnd, IsRunEnd, ReadsOnceFor};
 ghost use Rattle.view_program.specs.declared.fault.ViewError.TheVariants.{Device};
 
 use crate::printing::print;
@@ -15,8 +15,8 @@ use std::alloc::Global;
 use std::io::{Read, Write};
 
 // The outcome of a subcommand other than `check`, by the end of its work.
-fn done_after(ended: Result<(), ViewError>) -> Result<ViewOutcome, ViewError>
-    ensures { result ≡ done_after ended }
+fn outcome_after(ended: Result<(), ViewError>) -> Result<ViewOutcome, ViewError>
+    ensures { result ≡ outcome_after ended }
 {
     match ended {
         Ok(()) => Ok(ViewOutcome::Done),
@@ -40,7 +40,7 @@ fn print_text<T: ViewText, R: Read, W: Write>(
     ensures asked { input.new.reads ≤ input.old.reads + 1048578 }
     ensures once { ReadsOnce (R.remaining input.old.device) input.old.reads input.new.reads }
 {
-    done_after(print(asked, alloc, source, input, output))
+    outcome_after(print(asked, alloc, source, input, output))
 }
 
 /// Performs the requested subcommand of `realmview`. The input is any reader, and the output is any writer. Findings on
@@ -64,7 +64,7 @@ pub fn run<R: Read, W: Write, P: Progress>(
         ViewSubcommand::History(erase) => {
             print_text(&Histories { erase }, alloc, source, input, output)
         }
-        ViewSubcommand::Apply(erase) => done_after(apply(alloc, input, output, erase)),
+        ViewSubcommand::Apply(erase) => outcome_after(apply(alloc, input, output, erase)),
         ViewSubcommand::Json => print_text(&Documents, alloc, source, input, output),
         ViewSubcommand::Page => print_text(&Pages, alloc, source, input, output),
         ViewSubcommand::Check => check(alloc, source, input, output),
@@ -76,7 +76,7 @@ pub fn run<R: Read, W: Write, P: Progress>(
             };
             print_text(&exploring, alloc, source, input, output)
         }
-        ViewSubcommand::Order(turns) => done_after(reorder(alloc, source, input, output, turns)),
+        ViewSubcommand::Order(turns) => outcome_after(reorder(alloc, source, input, output, turns)),
         ViewSubcommand::Calls(base, form) => {
             print_text(&Calls { base, form }, alloc, source, input, output)
         }
