@@ -1,6 +1,6 @@
 -- Proofs that the log of the turns run along a state graph is correct at boot, and stays correct with each logged turn.
 use Rattle.std.proofs.Common.{◌≡◌, ℕ, zero, suc, ◌<◌, ◌≤◌, List, [], ◌∷◌, ◌++◌, length, get_or, All, Some, None, inl, inr, refl, sym, ap, ◌∙◌, subst}
-use Rattle.std.specs.Prelude.{slice_get, Result, Ok, Err, IfOk}
+use Rattle.std.specs.Prelude.{slice_get}
 use Rattle.std.specs.declared.alloc.Global.{Global}
 use Rattle.std.specs.declared.string.String.{String}
 use Rattle.std.proofs.lemmas.List.Elements.{All-nil, All-push}
@@ -106,17 +106,11 @@ no_turn : (plan : Plan) (at : Position) (turns : List Turn) → AreTurns plan []
 no_turn plan at [] are = are
 no_turn plan at (turn ∷ turns) are = absurd are
 
-at_boot : (plan : Plan) (snapshot : Snapshot) (at : Position)
+pub at_boot : (plan : Plan) (snapshot : Snapshot) (at : Position)
     → IsReached plan [] at → IsOfHost at → AreBuildsAt at 8 snapshot.builds.items → IsSnapshotOfRun plan snapshot (start (opening_host plan))
 at_boot plan snapshot at reached of_host builds =
     subst (IsSnapshotOfRun plan snapshot) (no_turn plan at reached.turns reached.are_turns)
     (record { schedule = []; reached = reached; of_host = of_host; builds = builds })
-
-pub boot_shown : {E : Type 0} (plan : Plan) (at : Position) (taken : Result Snapshot E)
-    → IsReached plan [] at → IfOk taken (λ it. AreBuildsAt at 8 it.builds.items) → IfOk taken (λ _. IsOfHost at)
-    → IfOk taken (λ it. IsSnapshotOfRun plan it (start (opening_host plan)))
-boot_shown plan at (Ok snapshot) reached builds of_host = at_boot plan snapshot at reached of_host builds
-boot_shown plan at (Err error) reached builds of_host = of_host
 
 pub booted_log : (plan : Plan) (ends : List EndOfStep) (held : List (List ℕ)) (maps : List (String Global)) (log : RunLog) (snapshot : Snapshot)
     → IsSnapshotOfRun plan snapshot (start (opening_host plan)) → log.snapshots.items ≡ snapshot ∷ [] → log.turns.items ≡ [] → IsLog plan ends held maps log

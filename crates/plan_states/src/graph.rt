@@ -237,9 +237,8 @@ fn map_after(alloc: Global, plan: &Plan, schedule: &[usize]) -> Result<String, F
 }
 
 // Finds or adds a map, and returns its index.
-fn number_of_map(maps: &mut Vec<String>, map: String) -> Result<usize, Fault>
-    ensures ok { OnOk result (AreWith maps.old.items (Some map) maps.new.items) }
-    ensures err { IfErr result HasNoGraph }
+fn number_of_map(maps: &mut Vec<String>, map: String) -> Result<usize, AllocError>
+    ensures { OnOk result (AreWith maps.old.items (Some map) maps.new.items) }
 {
     for number in 0..maps.len() {
         if maps[number].as_str() == map.as_str() {
@@ -272,7 +271,7 @@ impl Explorer {
         ensures err { IfErr result HasNoGraph }
     {
         let map = map_after(alloc, plan, schedule)?;
-        number_of_map(&mut self.maps, map)
+        Ok(number_of_map(&mut self.maps, map)?)
     }
 
     // Finds or runs the turn of a build in a state of the last layer, and returns the turn's outcome.

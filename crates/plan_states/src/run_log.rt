@@ -138,7 +138,7 @@ fn boot_snapshot(alloc: Global, plan: &Plan) -> Result<Snapshot, Fault>
     ensures err { IfErr result HasNoGraph }
 {
     let running = run_to(alloc, plan, &[])?;
-    snapshot_of(alloc, &running.host, &running.places)
+    Ok(snapshot_of(alloc, &running.host, &running.places)?)
 }
 
 impl RunLog {

@@ -1,9 +1,8 @@
 //! Snapshots of the state of a plan's run, and their comparison. A snapshot has all that decides further turns, and
 //! nothing of the schedule.
-ghost use Rattle.std.specs.Prelude.{◌≡◌, ◌<◌, IfErr, IfOk};
+ghost use Rattle.std.specs.Prelude.{◌≡◌, ◌<◌, IfOk};
 ghost use Rattle.std.specs.Bool.{OnTrue};
 ghost use Rattle.realm_model.specs.History.{events_of};
-ghost use Rattle.plan_states.specs.Exploration.{HasNoGraph};
 ghost use Rattle.plan_states.specs.Snapshots.{is_kept_mark, length_of, point_at, shown_build, AreBuildsAt, AreSameBuilds, IsOfHost};
 
 use crate::graph::push;
@@ -12,7 +11,6 @@ use page_arena::PageStore;
 use plan_replay::PlanCursor;
 use realm_host::{Host, Mark};
 use realm_model::Event;
-use realm_program::Fault;
 use std::alloc::{AllocError, Global};
 
 /// A build's cursor, marks and abort flag at one point of a run. `mark` is the cursor's mark and `kept` the host's,
@@ -99,15 +97,14 @@ fn events_of(alloc: Global, history: &[Event], build: usize) -> Result<Vec<Event
     Ok(events)
 }
 
-/// Takes a snapshot of a run, given its host and the builds' cursors. The one error is that allocation failed.
+/// Takes a snapshot of a run, given its host and the builds' cursors.
 pub(crate) fn snapshot_of<S: PageStore>(
     alloc: Global,
     host: &Host<S>,
     places: &[PlanCursor; 8],
-) -> Result<Snapshot, Fault>
+) -> Result<Snapshot, AllocError>
     ensures builds { IfOk result (λ it. AreBuildsAt (record { host = host.now; places = places.now }) 8 it.builds.items) }
     ensures of_host { IfOk result (λ _. IsOfHost (record { host = host.now; places = places.now })) }
-    ensures err { IfErr result HasNoGraph }
 {
     let history = host.history();
     let mut builds = Vec::new(alloc);

@@ -138,9 +138,8 @@ pub fn push_outcomes(
 }
 
 // The text of the outcomes of a plan's graph.
-fn graph_text(alloc: Global, plan: &Plan, graph: &Graph) -> Result<String, Fault>
-    ensures ok { IfOk result (λ text. IsGraphText (plan_view plan.now) graph.now (string_bytes text)) }
-    ensures err { IfErr result HasNoGraph }
+fn graph_text(alloc: Global, plan: &Plan, graph: &Graph) -> Result<String, AllocError>
+    ensures { IfOk result (λ text. IsGraphText (plan_view plan.now) graph.now (string_bytes text)) }
 {
     let mut text = String::new(alloc);
     let outcomes = outcomes_of(alloc, plan.builds.len(), graph)?;
@@ -169,7 +168,7 @@ pub fn states_text(alloc: Global, plan: &Plan, most: usize) -> Result<String, Fa
     ensures err { IfErr result HasNoGraph }
 {
     match explore(alloc, plan, most)? {
-        Exploration::All(graph) => graph_text(alloc, plan, &graph),
+        Exploration::All(graph) => Ok(graph_text(alloc, plan, &graph)?),
         Exploration::TooMany => Ok(too_many_text(alloc, most)?),
     }
 }

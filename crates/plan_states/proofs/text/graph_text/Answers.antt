@@ -5,8 +5,8 @@ use Rattle.plan_states.specs.Tallies.{AreOutcomes}
 use Rattle.plan_states.proofs.Builds.{builds_are}
 use Rattle.plan_states.proofs.text.graph_text.Goals as goal
 
-pub returns-clause-ok : goal.returns-clause-ok
-returns-clause-ok c =
+pub returns : goal.returns
+returns c =
     let plan = plan_view c.args.plan.now in
     let outcomes = c.in_ok-outcomes.outcomes in
     record {
