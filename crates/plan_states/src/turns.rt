@@ -97,8 +97,8 @@ fn lowest_vmid(plan: &Plan, state: &State) -> usize {
     0
 }
 
-// The state of the shared resources that a step needs: the blocks' index, or the lowest VMID that no realm has. 0 if the
-// step needs neither.
+// The state of the shared resources that a step needs: the blocks' index, or the lowest VMID that no realm has. 0 if
+// the step needs neither.
 fn shared_by(plan: &Plan, state: &State, step: &PlanStep) -> usize {
     match step {
         PlanStep::Whole(Step::Ask(Cmd::Take { .. })) => state.blocks,
