@@ -1,14 +1,6 @@
 -- Proofs that an excerpt written part by part is a line of text, followed by a line of spaces and carets.
 use Rattle.std.proofs.Common.{◌≡◌, ℕ, List, [], ◌∷◌, ◌++◌, ap, ◌∙◌, append_assoc}
 
--- a line of spaces and carets, which is added to a text
-pub carets_by_parts : (old one two new spaces carets : List ℕ)
-    → one ≡ old ++ spaces → two ≡ one ++ carets → new ≡ two ++ 10 ∷ []
-    → new ≡ old ++ (spaces ++ (carets ++ 10 ∷ []))
-carets_by_parts old one two new spaces carets first second last =
-    last ∙ ap (λ (t : List ℕ). t ++ 10 ∷ []) (second ∙ ap (λ (t : List ℕ). t ++ carets) first)
-    ∙ append_assoc (old ++ spaces) carets (10 ∷ []) ∙ append_assoc old spaces (carets ++ 10 ∷ [])
-
 -- the front of a line, its rest with a line feed, and a line of carets, which make up a text
 pub excerpt_by_parts : (one two new front back carets : List ℕ)
     → one ≡ front → two ≡ one ++ (back ++ 10 ∷ []) → new ≡ two ++ carets
