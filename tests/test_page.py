@@ -6,8 +6,8 @@ order, and its history is that of `realmview history` with the lines of the refu
 granules, the realms and the sums of the pages make the map of `realmhost replay` of the plan cut off there; with a
 build left out, those of the second grid make the map of `realmhost replay --erase B`, and the page says that there is
 a difference exactly if the build has something open. (Of long plans some of the turns.) Of one plan: links, keys,
-folded tables, words of refusals, roles; of machines of three sizes: room, contrast, speed. The colours of builds can be
-distinguished by the colour-blind. If there is no browser, all but the colours is skipped.
+folded tables, words of refusals, roles; of machines of three sizes: room, contrast (of the largest by -m ""), speed. The
+colours of builds can be distinguished by the colour-blind. If there is no browser, all but the colours is skipped.
 """
 import functools
 import itertools
