@@ -37,7 +37,7 @@ Z = heap.the_row
 abbrev pub al : Al
 al = record { row = Z; laws = heap_laws.the_row_laws; g = ghosts; d = impl [] tnil dnil; drops = impl [] tnil dnil }
 
--- the parts of a box on the heap, of what has the row R
+-- the type of the parts of a box on the C library's heap, where R is the type of the box's value
 abbrev pub HeapParts : RattleType → RattleType
 HeapParts R = parts.the_row R Z ghosts
 

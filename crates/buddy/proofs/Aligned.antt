@@ -62,7 +62,7 @@ module _ (x order : ℕ) where
 abbrev pub Apart : ℕ → ℕ → ℕ → ℕ → Type 0
 Apart k g j h = (g + 2 ^ k ≤ h) ⊎ (h + 2 ^ j ≤ g)
 
--- of two blocks that share a granule, the lower order's lies in the other
+-- if two aligned blocks share a granule, the one of lower or equal order lies within the other
 pub nested : (k g j h : ℕ) → k ≤ j → g % 2 ^ k ≡ 0 → h % 2 ^ j ≡ 0 → h < g + 2 ^ k → g < h + 2 ^ j → LiesWithin k g j h
 nested k g j h le whole_g whole_h first last =
     let low : h % 2 ^ k ≡ 0 = mod_lower h j k le whole_h in
@@ -89,7 +89,7 @@ nested_or_apart k g j h whole_g whole_h =
           ]
     ]
 
--- a granule of one is none of the other
+-- if two blocks share no granule, a granule of the second is outside of the first
 pub outside_of : (k g j h x : ℕ) → Apart k g j h → LiesIn x j h → (x < g) ⊎ (g + 2 ^ k ≤ x)
 outside_of k g j h x (inl l) inside = inr (omega arith)
 outside_of k g j h x (inr l) inside = inl (omega arith)

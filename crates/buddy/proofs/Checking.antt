@@ -21,7 +21,7 @@ module _ (heads : List ℕ) (flags : List Bool) (granule order : ℕ) where
   abbrev other : ℕ
   other = buddy_at start order
 
-  -- the found block is split, and the half without the granule is put back
+  -- the invariant holds after the found block is split, and the half without the granule is put back
   pub check_split : HasChecked heads flags granule (order + 1) true → (head_at heads other ≡ 0) × (other < length heads) × HasChecked (set heads other (order + 1)) flags granule order true
   check_split checked =
       let hand = checked.in_hand refl in
@@ -32,13 +32,13 @@ module _ (heads : List ℕ) (flags : List Bool) (granule order : ℕ) where
       )
 
   module _ (checked : HasChecked heads flags granule (order + 1) false) where
-    -- the block of this order is in its free list: it is found
+    -- the invariant holds after the block of this order is found in its free list, and taken out of it
     pub check_taken : order < 10 → head_at heads start ≡ order + 1 → HasChecked (set heads start 0) flags granule order true
     check_taken low head =
         let before = checked.not_yet refl in
         record { in_hand = λ _. (omega arith, come_to_hand heads flags order start before.0 head); not_yet = λ is. absurd (true≢false is) }
 
-    -- the block of this order is in no free list: none is found yet
+    -- the invariant holds if the block of this order is in no free list: none is found yet
     pub check_on : head_at heads start ≢ order + 1 → HasChecked heads flags granule order false
     check_on none =
         let before = checked.not_yet refl in

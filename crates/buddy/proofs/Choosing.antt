@@ -37,7 +37,7 @@ module _ (lists : ListsView) (order : ℕ) where
       let less : k < 10 - order = omega (arith, length-range_with_len order (10 - order)) in
       ap (has_head lists.heads) (get_or-range_with_len order (10 - order) k 0 less) ∙ no_block lists.heads (order + k) none
 
-  -- no list has a block
+  -- if no list from the given order on has a block, `first_block` is None
   pub none_chosen : ((k : ℕ) → order ≤ k → k < 10 → ¬ (HasHead lists.heads k)) → first_block lists order ≡ None
   unfolding first_block
   none_chosen none =
@@ -45,7 +45,7 @@ module _ (lists : ListsView) (order : ℕ) where
       let less : k < 10 - order = omega (arith, length-range_with_len order (10 - order)) in
       none_at k inside (none (order + k) (omega arith) (omega arith))))
 
-  -- a list has a block, and no list before it has one
+  -- `first_block` is the first block of the first nonempty list, from the given order's list on
   pub chosen : (found first : ℕ) → order ≤ found → found < 10 → head_at lists.heads first ≡ found + 1 → first ≡ at lists.firsts found
       → ((k : ℕ) → order ≤ k → k < found → ¬ (HasHead lists.heads k)) → first_block lists order ≡ Some first
   unfolding first_block

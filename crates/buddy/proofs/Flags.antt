@@ -34,11 +34,11 @@ one_page flags x free =
     }
 
 module _ (flag : Bool) (flags : List Bool) where
-  -- the first granule of a block
+  -- the first granule of a block has the block's flag
   pub first_flag : (order first : ℕ) → IsBlock flag flags order first → is_free flags first ≡ flag
   first_flag order first block = let some = pow_pos order in block.run.each first (omega arith) (omega arith)
 
-  -- a block that lies in another
+  -- if all granules of a block have the flag, so do those of an aligned block that lies within it
   pub sub_block : (k g j h : ℕ) → g % 2 ^ k ≡ 0 → LiesWithin k g j h → IsBlock flag flags j h → IsBlock flag flags k g
   sub_block k g j h aligned within block =
       let fits = block.inside in
@@ -123,7 +123,7 @@ module _ (flags : List Bool) (k g : ℕ) (block : IsFreeBlock flags k g) where
         run = record { each = λ x low high. free_before x (free.run.each x low high) };
       }
 
-  -- a free block beside the taken one stays free
+  -- a free block that shares no granule with the taken one stays free
   pub block_beside : (j h : ℕ) → Apart k g j h → IsFreeBlock flags j h → IsFreeBlock rest j h
   block_beside j h apart free =
       let len = length-with_taken flags k g block in

@@ -11,7 +11,7 @@ use Rattle.buddy.specs.MaximalBlock.{LiesWithin}
 use Rattle.buddy.specs.InHand.{LiesIn}
 use Rattle.buddy.proofs.Aligned.{double, mod_lower, mod_plus, Apart, nested, start_aligned}
 
--- the halves of an aligned block, the lower one named first
+-- the halves of an aligned block begin at its first granule and 2^order granules later
 pub lower_first : (order base : ℕ) → base % 2 ^ (order + 1) ≡ 0 → AreHalves order base base (base + 2 ^ order)
 lower_first order base aligned = record { aligned = aligned; sides = inl (refl, refl) }
 

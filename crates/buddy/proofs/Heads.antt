@@ -13,7 +13,7 @@ use Rattle.buddy.proofs.Flags.{clash, first_flag}
 use Rattle.buddy.proofs.Maximal.{holder, same_order, maximal_beside, maximal_before}
 
 module _ (heads : List ℕ) (flags : List Bool) (lists : AreMaximal heads flags) where
-  -- a head is that of a maximal block
+  -- each block that the heads give is maximal
   pub of_head : (order first : ℕ) → head_at heads first ≡ order + 1 → IsMaximalBlock flags order first
   of_head order first head = (lists.each order first).0 head
 
@@ -73,7 +73,7 @@ module _ (flags : List Bool) (k g : ℕ) (block : IsMaximalBlock flags k g) wher
           let before = maximal_before flags k g block order first maximal in
           get_or-set_other heads g first 0 0 before.1 ∙ head_of heads flags lists order first before.0
 
-  -- a maximal block is put back
+  -- once the head of a taken maximal block is put back, the heads give exactly the maximal free blocks again
   pub put_step : (heads : List ℕ) → AreMaximal heads rest → AreMaximal (set heads g (k + 1)) flags
   put_step heads lists = record {
     sized = length-set heads g (k + 1) ∙ lists.sized ∙ length-with_taken flags k g block.free;

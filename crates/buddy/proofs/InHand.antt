@@ -13,13 +13,13 @@ use Rattle.buddy.proofs.Flags.{half_block, whole_block, block_before, block_besi
 use Rattle.buddy.proofs.Maximal.{alone_maximal}
 use Rattle.buddy.proofs.Heads.{of_head, head_of, no_head, take_step, put_step}
 
--- a maximal block is taken out of its free list
+-- a maximal block that is taken out of its free list is free and in no list (`InHand`)
 pub come_to_hand : (heads : List ℕ) (flags : List Bool) (order first : ℕ) → AreMaximal heads flags → head_at heads first ≡ order + 1 → InHand (set heads first 0) flags order first
 come_to_hand heads flags order first lists head =
     let maximal = of_head heads flags lists order first head in
     record { free = maximal.free; others = take_step flags order first maximal heads lists }
 
--- a taken block is given back, and is in no free list yet
+-- a taken block that is given back is free, and in no list yet (`InHand`)
 pub given_to_hand : (heads : List ℕ) (flags : List Bool) (order first : ℕ) → AreMaximal heads flags → IsTakenBlock flags order first → InHand heads (with_given flags order first) order first
 given_to_hand heads flags order first lists block =
     let back : with_taken (with_given flags order first) order first ≡ flags =
@@ -27,11 +27,12 @@ given_to_hand heads flags order first lists block =
     record { free = given_block flags order first block; others = subst (AreMaximal heads) (sym back) lists }
 
 module _ (heads : List ℕ) (flags : List Bool) (order first : ℕ) (hand : InHand heads flags order first) where
-  -- without the block's granules no free block begins at its first one
+  -- once the block's granules are taken, the block is not free
   gone : ¬ (IsFreeBlock (with_taken flags order first) order first)
   gone = let some = pow_pos order in none_inside flags order first hand.free order first (omega arith, omega arith)
 
-  -- the block is put back into its list, if its buddy is not in that list or the order is 9
+  -- the heads give exactly the maximal free blocks once the block is in its list, if the order is 9 or the buddy is not
+  -- in that list
   pub put_back : order ≤ 9 → (base other : ℕ) → AreHalves order base first other → (order < 9 → head_at heads other ≢ order + 1)
       → (head_at heads first ≡ 0) × (first < length heads) × AreMaximal (set heads first (order + 1)) flags
   put_back low base other halves differs =
@@ -49,7 +50,7 @@ module _ (heads : List ℕ) (flags : List Bool) (order first : ℕ) (hand : InHa
       )
 
 module _ (heads : List ℕ) (flags : List Bool) (order base one other : ℕ) (halves : AreHalves order base one other) where
-  -- the block is split, and its other half is put back into a list
+  -- if the block is split and one half (`other`) is put into its list, the half `one` is free and in no list (`InHand`)
   pub split : InHand heads flags (order + 1) base → order < 9 → (head_at heads other ≡ 0) × (other < length heads) × InHand (set heads other (order + 1)) flags order one
   split hand low =
       let less = with_taken flags order one in
@@ -70,7 +71,8 @@ module _ (heads : List ℕ) (flags : List Bool) (order base one other : ℕ) (ha
         },
       )
 
-  -- the block is merged with its buddy, which is taken out of its list
+  -- if the block is merged with its buddy, which is taken out of its list, the merged block is free and in no list
+  -- (`InHand`)
   pub merge : InHand heads flags order one → head_at heads other ≡ order + 1 → InHand (set heads other 0) flags (order + 1) base
   merge hand head =
       let less = with_taken flags order one in

@@ -175,7 +175,7 @@ module _ (count : ℕ) (heads next prev firsts : List ℕ) (L : IsLinked count h
           ];
     }
 
-  -- the list was empty, or it was not
+  -- the two cases of an insertion: the list was empty, or it had a first block
   module _ (g k : ℕ) (lt : g < count) (low : k < 10) (vacant : head_at heads g ≡ 0) where
     abbrev ended : List ℕ
     ended = set prev g 4096
@@ -234,10 +234,11 @@ module _ (count : ℕ) (heads next prev firsts : List ℕ) (L : IsLinked count h
     one_order : (y j i : ℕ) → head_at heads y ≡ j + 1 → head_at heads y ≡ i + 1 → j ≡ i
     one_order y j i a b = omega arith
 
-    -- the neighbours are other granules
+    -- a granule is not its own previous one in a list
     p_not_g : p < count → p ≢ g
     p_not_g inside same = let up = (L.back g k head inside).2 in let r : at L.ranks p ≡ at L.ranks g = ap (at L.ranks) same in omega arith
 
+    -- a granule is not its own next one in a list
     n_not_g : n < count → n ≢ g
     n_not_g inside same =
         let o = (L.on g k head inside).1 in
@@ -260,7 +261,8 @@ module _ (count : ℕ) (heads next prev firsts : List ℕ) (L : IsLinked count h
         let q = other_prevs (at firsts j) not_next in
         (has (at firsts j) j differs f.0, omega arith)
 
-    -- the first of its own list
+    -- after the removal, the list that the block was in is empty, or begins with a granule of its order that has no
+    -- previous one
     first_own : k < 10 → at fronts k < count → First' k (at fronts k)
     first_own low inside =
         elim (cases_lt p count) [
@@ -383,7 +385,7 @@ module _ (count : ℕ) (heads next prev firsts : List ℕ) (L : IsLinked count h
       on = on_new;
     }
 
-  -- the four cases: by which neighbours the granule has
+  -- the four cases of a removal: the granule has both neighbours, only a previous one, only a next one, or none
   module _ (g k p n : ℕ) (head : head_at heads g ≡ k + 1) (p_is : p ≡ at prev g) (n_is : n ≡ at next g) where
     abbrev gone_from : List ℕ → List ℕ → List ℕ → Type 0
     gone_from nexts prevs fronts = IsLinked count (set heads g 0) nexts prevs fronts

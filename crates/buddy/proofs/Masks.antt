@@ -11,7 +11,7 @@ use Rattle.std.proofs.lemmas.Nat.Bits.{bit_at-zero, bit_at-trailing_zeros, bit_a
 use Rattle.buddy.specs.Heads.{head_at}
 use Rattle.buddy.specs.Links.{HasHead, IsMask}
 
--- a bit of a shifted mask
+-- bit k of a mask is bit k - order of the mask shifted right by order
 shifted : (mask order k : ℕ) → order ≤ k → bit_at mask k ≡ bit_at (mask / 2 ^ order) (k - order)
 shifted mask order k le =
     let sum : order + (k - order) ≡ k = omega arith in
@@ -96,7 +96,7 @@ module _ (mask : ℕ) (heads : List ℕ) (m : IsMask mask heads) (g order : ℕ)
   bit_is : bit ≡ 2 ^ order
   bit_is = one_shl order 16 (omega arith)
 
-  -- a block is inserted
+  -- after a block is inserted, the mask with the bit of the block's order set is the mask of the lists
   pub mask_put : head_at heads g ≡ 0 → IsMask (bit_or mask bit) (set heads g (order + 1))
   mask_put vacant = record {
     ten =
@@ -117,7 +117,7 @@ module _ (mask : ℕ) (heads : List ℕ) (m : IsMask mask heads) (g order : ℕ)
   }
 
   module _ (head : head_at heads g ≡ order + 1) where
-    -- a block is removed, and its list has another one
+    -- if the list of a removed block has another one, the mask stays the mask of the lists
     pub mask_kept : HasHead (set heads g 0) order → IsMask mask (set heads g 0)
     mask_kept some = record {
       ten = m.ten;
@@ -130,7 +130,8 @@ module _ (mask : ℕ) (heads : List ℕ) (m : IsMask mask heads) (g order : ℕ)
           ];
     }
 
-    -- a block is removed, and its list is empty after it
+    -- if the list of a removed block is empty after it, the mask with the bit of the block's order cleared is the mask
+    -- of the lists
     pub mask_cleared : ¬ (HasHead (set heads g 0) order) → IsMask (bit_and mask (bit_not w16 bit)) (set heads g 0)
     mask_cleared none = record {
       ten = let less = and_le_l mask (bit_not w16 bit) in let ten = m.ten in omega arith;

@@ -88,7 +88,7 @@ module _ (flags : List Bool) (k g : ℕ) (one : IsMaximalBlock flags k g) where
   abbrev rest : List Bool
   rest = with_taken flags k g
 
-  -- another maximal block stays maximal
+  -- every other maximal block stays maximal
   pub maximal_beside : (j h : ℕ) → IsMaximalBlock flags j h → h ≢ g → IsMaximalBlock rest j h
   maximal_beside j h other differs = record {
     low = other.low;
@@ -96,7 +96,7 @@ module _ (flags : List Bool) (k g : ℕ) (one : IsMaximalBlock flags k g) where
     widest = λ larger start above low wide within. other.widest larger start above low (block_before flags k g one.free larger start wide) within;
   }
 
-  -- no block becomes maximal
+  -- a block that is maximal after the take was maximal before, and does not begin where the taken one does
   pub maximal_before : (j h : ℕ) → IsMaximalBlock rest j h → IsMaximalBlock flags j h × (h ≢ g)
   maximal_before j h other =
       let some = pow_pos k in (

@@ -36,7 +36,7 @@ module _ (heads : List ℕ) (flags : List Bool) (lists : AreMaximal heads flags)
   pub inside : first < length heads
   inside = let within = whole.free.inside in let sized = lists.sized in let some = pow_pos found in omega arith
 
-  -- no larger maximal block holds the granule
+  -- no maximal block of a higher order holds the block's first granule
   pub alone_above : AllBelow flags first (found + 1)
   alone_above larger start maximal holds =
       elim (cases_eq start first) [

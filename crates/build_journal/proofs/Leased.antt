@@ -8,7 +8,7 @@ use Rattle.std.specs.List.{range_with_len}
 use Rattle.realm_model.specs.StepLaw.{set_each}
 use borrow.Rule.Slice.PartMut.{put_mid}
 
--- a run of one lease pasted over the leases
+-- pasting a run of one lease over the table sets the lease of each granule of the run
 pub paste-set_each : (leases : List (Option ℕ)) (lease : Option ℕ) (first count : ℕ) → first + count ≤ length leases
     → paste leases first (replicate count lease) count ≡ set_each lease (range_with_len first count) leases
 unfolding set_each
@@ -26,7 +26,7 @@ paste-set_each leases lease first (suc count) fits =
     ∙ ap (λ (xs : List (Option ℕ)). take (first + 1) once ++ run ++ xs) tail
     ∙ paste-set_each once lease (first + 1) count (omega arith)
 
--- the leases after a write of a part of them, as the check sees them
+-- a write of one lease over a part of the table, as the goals state it, sets the lease of each granule of the part
 pub written-set_each : (leases seen run : List (Option ℕ)) (lease : Option ℕ) (len first count many : ℕ)
     → seen ≡ leases → len ≡ length leases → many ≡ count → run ≡ replicate (length (take many (drop first seen))) lease → first + count ≤ length leases
     → take len (put_mid first many seen run ++ drop (length (put_mid first many seen run)) leases) ≡ set_each lease (range_with_len first count) leases

@@ -9,7 +9,7 @@ use Rattle.std.specs.List.{range_with_len}
 use Rattle.build_journal.specs.Stacks.{contents, IsRoomy, IsKept}
 use Rattle.granule_addr.proofs.Runs.{range_with_len_more}
 
--- one more granule of the block, in its place
+-- if the pages and k granules of a block are written, writing the block's next granule makes them k + 1
 pub written_on : (pages before : List ℕ) (start first k granule : ℕ) → start + k < length before → granule ≡ first + k
     → take (start + k) before ≡ pages ++ range_with_len first k
     → take (start + (k + 1)) (set before (start + k) granule) ≡ pages ++ range_with_len first (k + 1)
@@ -31,14 +31,14 @@ module _ (stacks : List (Vec ℕ)) (at build : ℕ) (old new : Vec ℕ) (same : 
       ∙ get_or-map (λ stack. stack.items) stacks at old [] inside
       ∙ ap (λ (stack : Vec ℕ). stack.items) (sym read)
 
-  -- a stack that is written by a function of its pages
+  -- if a function maps a build's old pages to its new ones, the write applies the function to that build's pages
   pub contents_written : (f : List ℕ → List ℕ) → new.items ≡ f old.items → contents (set stacks at new) ≡ set (contents stacks) build (f (get_or (contents stacks) build []))
   contents_written f is =
       map-set (λ stack. stack.items) stacks at new
       ∙ ap (λ (k : ℕ). set (contents stacks) k new.items) same
       ∙ ap (λ (pages : List ℕ). set (contents stacks) build pages) (is ∙ ap f (sym old_contents))
 
-  -- a stack that keeps its memory and fits
+  -- the invariant of the stacks (`IsKept`) holds after a write of a stack with no less memory and at most `room` pages
   pub IsKept-written : (room : ℕ) → IsKept room stacks → vec_capacity old ≤ vec_capacity new → vec_len new ≤ room → IsKept room (set stacks at new)
   IsKept-written room kept memory fits =
       let was : IsRoomy room old = subst (IsRoomy room) (sym read) (kept.roomy at old inside) in

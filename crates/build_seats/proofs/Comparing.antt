@@ -17,7 +17,8 @@ all_used at trail inside none =
     let nothing = ap length none in
     omega (arith, left, nothing)
 
--- at the end of the history, the two are the same exactly if the trail is at its end too
+-- if trail and history agree up to the end of the history, the trail is the build's part of it exactly if the trail is
+-- at its end too
 pub same_at_end : (build at i : ℕ) (history trail : List Event) → at ≤ length trail → length history ≤ i
     → (drop at trail ≡ events_of build (drop i history)) ↔ (trail ≡ events_of build history) → IsTrue (nat_eq at (length trail)) ↔ (trail ≡ events_of build history)
 same_at_end build at i history trail inside done rest =
@@ -26,7 +27,7 @@ same_at_end build at i history trail inside done rest =
       (λ e. eq-eqb at (length trail) (all_used at trail inside (rest.1 e ∙ none))),
     )
 
--- if the seats of each build fit, each seat fits
+-- if for each build the trails of its seats are its part of the history, each seat's trail is its build's part
 pub each_fits : (history : List Event) (books : List ℕ) (seats : List SeatView) → FitsAll history seats → All (λ (seat : SeatView). (seat.build < 8) × (get_or books seat.build 0 ≡ seat.count)) seats
     → All (λ (seat : SeatView). seat.trail ≡ events_of seat.build history) seats
 unfolding FitsAll

@@ -24,7 +24,7 @@ use Rattle.build_seats.specs.declared.ask.Ending.{Ending}
 use Rattle.build_seats.specs.declared.ask.Ending.TheVariants as ending
 use Rattle.build_seats.proofs.Questions.{Questions}
 
--- The accepted lines among these match the events of these exchanges, one by one.
+-- The accepted lines among `lines` match the events among `exchanges` one by one, in sequence.
 record Fit (steps : List Step) (lines : List ReportLine) (exchanges : List Exchange) : Type 0 where
   one_by_one : AllZip (IsLineOf steps) (filter is_accepted lines) (filter is_event exchanges)
 
@@ -78,7 +78,7 @@ Fit-one steps at exchange lines exchanges asks rest = record {
 
 -- ---- questions
 
--- Each question is the one that its line asks.
+-- Each question of a list is the one that its report line answers.
 abbrev AreAt : List Step → Questions → Type 0
 AreAt steps [] = ⊤
 AreAt steps (one ∷ more) = (Some one.1 ≡ question_at steps one.0) × AreAt steps more

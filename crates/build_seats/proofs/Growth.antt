@@ -112,8 +112,8 @@ closed standing closes (accepted {exchange = exchange} of_question is all_put) =
 
 -- ---- steps
 
--- At most one more is left to clear, or two with the lines that were added, and no more after a refusal; there is at
--- most one exchange more than there are lines.
+-- A step adds at most one to the questions that clear the build, and none if it is refused. Together with the step's
+-- lines, they are at most two more than before. There is at most one exchange more than lines.
 pub record IsGrowth (standing : StandingView) (exchanges : List Exchange) (lines : List ReportLine) (end : Ending) : Type 0 where
   pub left : left_to_clear (standing_after exchanges standing) ≤ left_to_clear standing + 1
   pub with_lines : length lines + left_to_clear (standing_after exchanges standing) ≤ left_to_clear standing + 2

@@ -34,7 +34,7 @@ LeadsOn-next place standing start step rest steps exchanges more lines its leads
       (leads.on (more ++ after) (its ++ after_lines) ended (accepted more after its after_lines taken report refl refl));
 }
 
--- the next step is accepted
+-- an accepted next step preserves the invariant
 pub steps_next : {before between after : List Exchange → Type 0} {passes stops : ℕ → Type 0} {old mid new : StandingView} {old_lines mid_lines new_lines : List ReportLine}
     (place : ℕ) (step : Step) (from rest steps : List Step)
     → from ≡ step ∷ rest
@@ -46,7 +46,7 @@ steps_next {old = old} {mid = mid} place step from rest steps is so_far taken =
     subst (λ s. LeadsOn (place + 1) s rest old steps (exchanges ++ more) (lines ++ its)) (sym counts)
     (LeadsOn-next place mid old step rest steps exchanges more lines its (subst (λ xs. LeadsOn place mid xs old steps exchanges lines) is leads) one))
 
--- the rest is reported
+-- a report of the steps so far, and then one of the remaining steps, is a report of all steps
 reported : {before between after : List Exchange → Type 0} {passes stops : ℕ → Type 0} {old mid new : StandingView} {old_lines mid_lines new_lines : List ReportLine} {end : Ending}
     (place : ℕ) (from steps : List Step) (ended : Bool)
     → IsStretch before between passes stops old mid old_lines mid_lines ending.Done (LeadsOn place mid from old steps)
@@ -55,7 +55,7 @@ reported : {before between after : List Exchange → Type 0} {passes stops : ℕ
 reported place from steps ended so_far rest =
     IsStretch-append so_far rest (λ exchanges lines more its _ _ leads report. leads.on more its ended report)
 
--- the next step is refused, and the build is cleared
+-- a refused step, and then the questions that clear the build, complete the report of all steps
 pub steps_cleared : {before between further after : List Exchange → Type 0} {passes stops : ℕ → Type 0} {old mid later new : StandingView}
     {old_lines mid_lines later_lines new_lines : List ReportLine} {end : Ending} (place : ℕ) (step : Step) (from rest steps : List Step)
     → from ≡ step ∷ rest
@@ -69,7 +69,7 @@ steps_cleared {mid = mid} {end = end} place step from rest steps is so_far taken
     subst (λ xs. IsWorkerReport place mid xs (exchanges ++ more) (lines ++ its) (is_over end)) (sym is)
     (refused exchanges more lines its one (subst (λ s. ArePut (clearing s) more its end) counts cleared) refl refl)))
 
--- the next step waits for a turn that the gate withholds
+-- if the gate withholds a turn that a step needs, the report of all steps ends there, and the worker has not ended
 pub steps_cut : {before between after : List Exchange → Type 0} {passes stops : ℕ → Type 0} {old mid new : StandingView} {old_lines mid_lines new_lines : List ReportLine}
     (place : ℕ) (step : Step) (from rest steps : List Step)
     → from ≡ step ∷ rest
@@ -80,7 +80,7 @@ steps_cut {mid = mid} place step from rest steps is so_far taken =
     reported place from steps false so_far
     (IsStretch-so taken (λ exchanges lines _ one. subst (λ xs. IsWorkerReport place mid xs exchanges lines false) (sym is) (cut_short one)))
 
--- no step is left
+-- when no step is left, the report of the steps so far is a report of all steps
 pub steps_done : {before after : List Exchange → Type 0} {passes stops : ℕ → Type 0} {old new : StandingView} {old_lines new_lines : List ReportLine} (place : ℕ) (from steps : List Step)
     → from ≡ []
     → IsStretch before after passes stops old new old_lines new_lines ending.Done (LeadsOn place new from old steps)
@@ -102,8 +102,8 @@ drop-none steps place end = drop_of_length-le steps end
 
 -- ---- what a step adds
 
--- A step adds at most one to what is left to clear, and two with its lines; it takes at most one turn more than it adds
--- lines.
+-- A step adds at most one to the questions that clear the build. Together with its lines, they are at most two more
+-- than before. It takes at most one turn more than it adds lines.
 pub grown_step : {before after : List Exchange → Type 0} {passes stops : ℕ → Type 0} {old new : StandingView} {old_lines new_lines : List ReportLine} {end : Ending} (place : ℕ) (step : Step)
     → IsStretch before after passes stops old new old_lines new_lines end (λ exchanges lines. IsStepReported place old step exchanges lines end)
     → (left_to_clear new ≤ left_to_clear old + 1) × (length new_lines + left_to_clear new ≤ length old_lines + left_to_clear old + 2) × (new.turn + length old_lines ≤ old.turn + length new_lines + 1)
@@ -134,7 +134,7 @@ cut_if_not_over ending.Done is = cc
 cut_if_not_over ending.Refused is = cc
 cut_if_not_over ending.Cut is = refl
 
--- A report that was empty when the worker began is its work.
+-- If a worker has asked nothing and its report is empty, the run that follows is its work (`IsWork`).
 pub IsWork-stretch : {before after : List Exchange → Type 0} {passes stops : ℕ → Type 0} {old new : StandingView} {old_lines new_lines : List ReportLine} {end : Ending} (steps : List Step) (ended : Bool)
     → old ≡ first_standing
     → old_lines ≡ []

@@ -26,7 +26,7 @@ Leads-none all = record { on = λ more its end put. put }
 both_along : (P : List Exchange → List ReportLine → Type 0) {es es' : List Exchange} {ls ls' : List ReportLine} → es ≡ es' → ls ≡ ls' → P es ls → P es' ls'
 both_along P {es} {es'} {ls} {ls'} e l h = subst (P es') l (subst (λ x. P x ls) e h)
 
--- the first question of the rest is accepted
+-- after the first remaining question is accepted, the questions after it remain
 pub Leads-next : {question : Asked × Question} {rest all : Questions} {exchanges more : List Exchange} {lines its : List ReportLine} → Leads (question ∷ rest) all exchanges lines
     → ArePut (question ∷ []) more its ending.Done → Leads rest all (exchanges ++ more) (lines ++ its)
 Leads-next {all = all} {exchanges = exchanges} {lines = lines} leads (accepted {exchange = exchange} of_question is all_put) = record {
@@ -35,7 +35,7 @@ Leads-next {all = all} {exchanges = exchanges} {lines = lines} leads (accepted {
       (leads.on (exchange ∷ after) (line _ (told exchange) ∷ after_lines) end (accepted of_question is put));
 }
 
--- nothing of the rest is left
+-- if no question remains, the whole list has been put and accepted
 pub Leads-whole : {all : Questions} {exchanges : List Exchange} {lines : List ReportLine} → Leads [] all exchanges lines → ArePut all exchanges lines ending.Done
 Leads-whole {all} {exchanges} {lines} leads = both_along (λ es ls. ArePut all es ls ending.Done) (append-nil exchanges) (append-nil lines) (leads.on [] [] ending.Done all_put)
 
@@ -45,12 +45,12 @@ stops_there goes cut_short = cut_short
 stops_there goes (refused of_question is) = refused of_question is
 stops_there goes (accepted of_question is all_put) = absurd (goes refl)
 
--- the first question of the rest ends it
+-- if the first remaining question is refused or gets no turn, the whole list ends with it
 pub Leads-stop : {question : Asked × Question} {rest all : Questions} {exchanges more : List Exchange} {lines its : List ReportLine} {end : Ending}
     → (end ≡ ending.Done → ⊥) → Leads (question ∷ rest) all exchanges lines → ArePut (question ∷ []) more its end → ArePut all (exchanges ++ more) (lines ++ its) end
 Leads-stop {more = more} {its = its} {end = end} goes leads put = leads.on more its end (stops_there goes put)
 
--- Questions that are all accepted, and then others.
+-- If all questions of one list are accepted and then another list is put, both are put as one list.
 pub ArePut-append : {first more : Questions} {exchanges later : List Exchange} {lines its : List ReportLine} {end : Ending} → ArePut first exchanges lines ending.Done
     → ArePut more later its end → ArePut (first ++ more) (exchanges ++ later) (lines ++ its) end
 ArePut-append all_put rest = rest
@@ -63,7 +63,7 @@ ArePut-append_stop more goes cut_short = cut_short
 ArePut-append_stop more goes (refused of_question is) = refused of_question is
 ArePut-append_stop more goes (accepted of_question is put) = accepted of_question is (ArePut-append_stop more goes put)
 
--- each exchange has its line, and there are no more than questions
+-- each exchange has one report line, and there are no more exchanges than questions
 pub length-ArePut : {questions : Questions} {exchanges : List Exchange} {lines : List ReportLine} {end : Ending} → ArePut questions exchanges lines end
     → (length lines ≡ length exchanges) × (length exchanges ≤ length questions)
 length-ArePut all_put = (refl, omega arith)

@@ -25,11 +25,11 @@ the_first : (r : Option PassView) (s t : IntoIter PassView 8) (pass : PassView) 
 the_first r s t pass is steps = subst (λ (o : Option PassView). array_steps s o t) is steps
 
 module _ (k : ℕ) (below : k < 8) (s t : IntoIter PassView 8) (r : Option PassView) (left : array_into_iter_items s ≡ map unused (range_with_len k (8 - k))) (steps : array_steps s r t) where
-  -- of eight passes one is left for a build below 8
+  -- if k is below 8, a pass is left
   pub some_pass : IsSome r
   some_pass = some_first r s t steps (let long = ap length left ∙ length-map-range_with_len unused k (8 - k) in omega arith)
 
-  -- it is that of the next build, and those of the builds after it are left
+  -- the pass is that of build k, and those of the builds after it are left
   module _ (pass : PassView) (is : r ≡ Some pass) where
     both : (pass ≡ unused k) × (array_into_iter_items t ≡ map unused (range_with_len (k + 1) (8 - (k + 1))))
     both = heads _ _ _ _ (sym (the_first r s t pass is steps) ∙ left ∙ first_left k below)

@@ -51,16 +51,16 @@ pub cut_at : (is : Bool) → cond is ending.Refused ending.Done ≡ ending.Cut �
 cut_at true is = cc
 cut_at false is = cc
 
--- no answer ends a stretch as a withheld turn does
+-- no answer has the outcome of a withheld turn (`Cut`)
 pub not_cut : (answer : Answer) → ending_of answer ≡ ending.Cut → ⊥
 not_cut answer is = cut_at (is_refused answer) is
 
--- the answer of a result, which is a reply or a refusal
+-- an answer that is a result's value, or its refusal as an answer, is the answer of the result (`answer_of`)
 pub answered : (result : Result Answer Refusal) (answer : Answer) → MatchResult result (λ said. answer ≡ said) (λ refusal. answer ≡ Refused refusal) → answer ≡ answer_of result
 answered (Ok said) answer is = is
 answered (Err refusal) answer is = is
 
--- An exchange has the question, and was reported and counted.
+-- An exchange with the question and the answer meets `IsExchange` if it was recorded and counted.
 pub IsExchange-of : {before after : List Exchange → Type 0} {question : Question} {old new : StandingView} {answer : Answer} (exchange : Exchange)
     → question_of exchange ≡ Some question
     → ((earlier : List Exchange) → before earlier → after (earlier ++ exchange ∷ []))
@@ -75,7 +75,7 @@ IsExchange-of exchange of_question tells counts is = record {
   answer_is = is;
 }
 
--- One exchange after its turn had passed, and these lines are added.
+-- One exchange, in a turn that the gate gave, is a stretch with the lines that were added.
 pub IsStretch-exchange : {before after : List Exchange → Type 0} {passes stops : ℕ → Type 0} {old new : StandingView} {end : Ending} {old_lines new_lines : List ReportLine}
     {AreThose : List Exchange → List ReportLine → Type 0} {turn : ℕ} (exchange : Exchange) (its : List ReportLine)
     → turn ≡ old.turn
@@ -99,7 +99,7 @@ IsStretch-exchange {passes = passes} {old = old} {new = new} {turn = turn} excha
       are_those = those;
     }
 
--- A question that was put after its turn had passed, with its line.
+-- A question that was asked in a turn that the gate gave, with its report line, is a stretch.
 pub IsStretch-one : {before after : List Exchange → Type 0} {passes stops : ℕ → Type 0} {question : Question} {old new : StandingView} {answer said : Answer}
     {asked : Asked} {end : Ending} {old_lines new_lines : List ReportLine} {turn : ℕ}
     → turn ≡ old.turn
@@ -116,7 +116,7 @@ IsStretch-one {question = question} {answer = answer} {asked = asked} {end = end
     (subst (λ e. ArePut ((asked, question) ∷ []) (put.exchange ∷ []) its e) (ap (λ a. ending_of a) (sym tells) ∙ sym is)
     (put_alone asked question put.exchange (is_refused (told put.exchange)) put.of_question refl))
 
--- The gate withholds the next turn.
+-- A turn that the gate withholds, with nothing asked and no line added, is a stretch.
 pub IsStretch-cut : {before : List Exchange → Type 0} {passes stops : ℕ → Type 0} {standing : StandingView} {lines : List ReportLine} {AreThose : List Exchange → List ReportLine → Type 0} {turn : ℕ}
     → turn ≡ standing.turn
     → stops turn
@@ -133,7 +133,7 @@ IsStretch-cut {before} {passes} {stops} {standing} {lines} {AreThose} {turn} at 
   are_those = those;
 }
 
--- Nothing is asked, and a line is added.
+-- A report line that is added without a question is a stretch.
 pub IsStretch-told : {before : List Exchange → Type 0} {passes stops : ℕ → Type 0} {standing : StandingView} {old_lines new_lines : List ReportLine} {end : Ending}
     {AreThose : List Exchange → List ReportLine → Type 0} (asked : Asked) (answer : Answer)
     → end ≡ ending_of answer
@@ -151,7 +151,7 @@ IsStretch-told {before = before} asked answer is adds those = record {
   are_those = those;
 }
 
--- Nothing is asked yet, and no line added.
+-- To ask nothing and add no line is a stretch.
 pub IsStretch-none : {before : List Exchange → Type 0} {passes stops : ℕ → Type 0} {standing : StandingView} {lines : List ReportLine} {AreThose : List Exchange → List ReportLine → Type 0}
     → AreThose [] []
     → IsStretch before before passes stops standing standing lines lines ending.Done AreThose
@@ -166,7 +166,7 @@ IsStretch-none {before = before} {lines = lines} those = record {
   are_those = those;
 }
 
--- Two stretches, one after the other.
+-- Two stretches, one after the other, are a stretch.
 pub IsStretch-append : {before between after : List Exchange → Type 0} {passes stops : ℕ → Type 0} {old mid new : StandingView} {old_lines mid_lines new_lines : List ReportLine}
     {one end : Ending} {First Second Whole : List Exchange → List ReportLine → Type 0}
     → IsStretch before between passes stops old mid old_lines mid_lines one First
@@ -188,7 +188,7 @@ IsStretch-append {before} {between} {after} {passes} {stops} {old} {mid} {new} {
   are_those = whole first.exchanges first.lines second.exchanges second.lines first.counted second.counted first.are_those second.are_those;
 }
 
--- The same stretch, said otherwise.
+-- If the property of a stretch implies another one, it is a stretch with that other property.
 pub IsStretch-so : {before after : List Exchange → Type 0} {passes stops : ℕ → Type 0} {old new : StandingView} {old_lines new_lines : List ReportLine}
     {end : Ending} {First Whole : List Exchange → List ReportLine → Type 0}
     → IsStretch before after passes stops old new old_lines new_lines end First
@@ -205,7 +205,7 @@ IsStretch-so stretch so = record {
   are_those = so stretch.exchanges stretch.lines stretch.counted stretch.are_those;
 }
 
--- the gate is asked for the same build
+-- if two build numbers are equal, a stretch with the turns of the first build is one with the turns of the second
 pub IsStretch-build : {before after : List Exchange → Type 0} {old new : StandingView} {old_lines new_lines : List ReportLine} {end : Ending} {AreThose : List Exchange
     → List ReportLine → Type 0} (passes stops : ℕ → ℕ → Type 0) {other build : ℕ}
     → other ≡ build

@@ -22,7 +22,7 @@ use Rattle.build_seats.proofs.Stretches.{IsStretch-told, IsStretch-exchange, IsS
 told_alone : (place : ℕ) (answer : Answer) (end : Ending) → end ≡ ending_of answer → IsAnswerReported place answer [] (line (asked.Step place) answer ∷ []) end
 told_alone place answer end is = record { nothing_asked = refl; line_is = refl; end_is = is }
 
--- a step has nothing to undo
+-- a step with nothing to undo is reported by one line that says so
 pub AreUndone-none : {before : List Exchange → Type 0} {passes stops : ℕ → Type 0} {standing : StandingView} {old_lines new_lines : List ReportLine} {end : Ending} (place count : ℕ)
     → count ≡ 0
     → end ≡ ending_of Nothing
@@ -36,7 +36,7 @@ running_refuses : (place journal : ℕ) (running : List ℕ) (exchanges : List E
 running_refuses place journal [] exchanges lines end some tells = absurd (omega arith)
 running_refuses place journal (number ∷ numbers) exchanges lines end some tells = tells
 
--- an abort while a REC runs
+-- an abort while a REC runs is reported by one line, with the refusal RecRunning
 pub IsAbort-running : {before : List Exchange → Type 0} {passes stops : ℕ → Type 0} {standing : StandingView} {old_lines new_lines : List ReportLine} {end : Ending} (place journal : ℕ) (running : List ℕ)
     → 0 < length running
     → end ≡ ending_of (Refused RecRunning)
@@ -46,7 +46,7 @@ IsAbort-running {end = end} place journal running some is adds =
     IsStretch-told (asked.Step place) (Refused RecRunning) is adds (running_refuses place journal running [] (line (asked.Step place) (Refused RecRunning) ∷ []) end some
     (told_alone place (Refused RecRunning) end is))
 
--- a step back without a mark
+-- a `back` step without a mark is reported by one line, with the refusal NothingToUndo
 pub IsStepBack-none : {before : List Exchange → Type 0} {passes stops : ℕ → Type 0} {standing : StandingView} {old_lines new_lines : List ReportLine} {end : Ending} (place journal : ℕ) (mark : Option Mark)
     → mark ≡ None
     → end ≡ ending_of (Refused NothingToUndo)
@@ -56,7 +56,7 @@ IsStepBack-none {end = end} place journal mark none is adds =
     IsStretch-told (asked.Step place) (Refused NothingToUndo) is adds (subst (λ m. IsStepBack place m journal [] (line (asked.Step place) (Refused NothingToUndo) ∷ []) end)
     (sym none) (told_alone place (Refused NothingToUndo) end is))
 
--- a way back that is refused
+-- a `back` step to a mark that the host refuses is reported by one line, with the host's refusal
 pub IsWayBack-refused : {before after : List Exchange → Type 0} {passes stops : ℕ → Type 0} {old new : StandingView} {old_lines new_lines : List ReportLine}
     {end : Ending} {turn : ℕ} (place : ℕ) (mark : Mark) (journal : ℕ) (refusal : Refusal)
     → turn ≡ old.turn
@@ -71,7 +71,7 @@ IsWayBack-refused {end = end} place mark journal refusal at pass tells counts is
     IsStretch-exchange (CheckedBack mark (Err refusal)) its at pass tells counts (λ cut. cut_at true (sym is ∙ cut)) adds
     (subst (λ e. IsWayBack place mark journal (CheckedBack mark (Err refusal) ∷ []) its e) (sym is) (refused refusal))
 
--- The exchange that opens a way back.
+-- The exchange in which the host accepts a rollback to a mark and gives the number of undos. It has no report line.
 record IsOpening (mark : Mark) (count : ℕ) (exchanges : List Exchange) (lines : List ReportLine) : Type 0 where
   looked : exchanges ≡ CheckedBack mark (Ok count) ∷ []
   no_line : lines ≡ []
@@ -83,7 +83,7 @@ go_opened place mark journal count undos exchanges lines more its end least open
     (subst (λ ls. IsWayBack place mark journal (CheckedBack mark (Ok count) ∷ more) (ls ++ its) end) (sym opening.no_line)
     (opened count (subst (λ n. AreUndone place n more its end) least undone)))
 
--- a way back that is open
+-- once the host has accepted a rollback to a mark, the undos that follow complete the report of the `back` step
 pub IsWayBack-opened : {before between after : List Exchange → Type 0} {passes stops : ℕ → Type 0} {old mid new : StandingView} {old_lines new_lines : List ReportLine}
     {end : Ending} {turn : ℕ} (place : ℕ) (mark : Mark) (journal count undos : ℕ)
     → turn ≡ old.turn

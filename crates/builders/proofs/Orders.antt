@@ -19,7 +19,7 @@ use Rattle.build_seats.specs.Close.{seats_of, AreSeatsWhole, IsHostGivenBack, Is
 use Rattle.builders.specs.Order.{IsWorldOfSeats}
 use Rattle.build_seats.specs.Seats.{SeatView}
 
--- a property of all seats holds of some seat of a build that has one
+-- if all seats have a property and a build has a seat, some seat of the build has the property
 of_seat : (b : ℕ) (P : SeatView → Type 0) (seats : List SeatView) → 0 < seats_of b seats → All P seats → (seat : SeatView) × (seat.build ≡ b) × P seat
 of_seat b P [] some all = absurd (omega (arith, some))
 of_seat b P (seat ∷ seats) some all =
@@ -55,7 +55,7 @@ pub world_of_seats : (host : HostView) (seats : List SeatView) → IsLegal host.
 world_of_seats host seats legal closed history too trails =
     sym (schedule_does_not_matter host.limits host.history history legal too (same_by_seats host.limits host.history history legal too seats closed.whole closed.trails trails)) ∙ world_is host legal
 
--- two hosts that the same seats close
+-- two hosts that began alike and are closed with the same seats have the same events of each build
 pub did_the_same : (opened host twin : HostView) (seats : List SeatView) → IsHostGivenBack opened host seats → IsClosed host seats → IsHostGivenBack opened twin seats
     → IsClosed twin seats → DidTheSame host twin
 did_the_same opened host twin seats given closed again too =

@@ -17,15 +17,15 @@ HasEnded worker = worker.ended ≡ true
 abbrev WaitsAt : ℕ → WorkerView → Type 0
 WaitsAt build worker = (worker.ended ≡ false) × (worker.seat.build ≡ build)
 
--- if it waits, its build is no lower
+-- if the worker has not ended, its build is at least `least`
 abbrev IsAbove : ℕ → WorkerView → Type 0
 IsAbove least worker = worker.ended ≡ false → least ≤ worker.seat.build
 
--- the builds that wait
+-- the builds whose workers have not ended
 abbrev waiting : List WorkerView → List ℕ
 waiting workers = map (λ worker. worker.seat.build) (filter (λ worker. not worker.ended) workers)
 
--- the same of a worker, which has ended or not, before others
+-- the builds whose workers have not ended, in a list with the worker `x` first; `ended` says whether `x` has ended
 abbrev waiting_at : Bool → WorkerView → List WorkerView → List ℕ
 waiting_at ended x xs = map (λ worker. worker.seat.build) (cond (not ended) (x ∷ filter (λ worker. not worker.ended) xs) (filter (λ worker. not worker.ended) xs))
 
@@ -83,6 +83,6 @@ told : (workers : List WorkerView) → IsTold workers (reduce min (waiting worke
 told [] = λ k d lt. absurd (omega arith)
 told (x ∷ xs) = told_cons x xs (told xs) x.ended refl
 
--- what `min` gives of the builds that wait
+-- the minimum of the builds whose workers have not ended is the lowest such build, or None if all workers have ended
 pub least_is_told : (workers : List WorkerView) (found : Option ℕ) → option_map (λ build. build) found ≡ reduce min (waiting workers) → IsTold workers found
 least_is_told workers found is = subst (IsTold workers) (sym is ∙ option_map_id found) (told workers)

@@ -43,7 +43,7 @@ is_run opened old new passes stops steps lines answered ended is counts empty co
       stopped = λ not_ended. work.stopped (sym is ∙ not_ended);
     }
 
--- of any worker with this seat and these steps
+-- a run of a worker that has no lines yet is also a run of any worker with the same seat and steps
 pub of_worker : (opened : HostView) (passes stops : ℕ → Type 0) (old new : WorkerView)
     → IsWorkerRun opened passes stops (record { seat = old.seat; steps = old.steps; lines = []; ended = false }) new → IsWorkerRun opened passes stops old new
 of_worker opened passes stops old new run = record { steps_are = run.steps_are; build_is = run.build_is; worked = run.worked; passed = run.passed; stopped = run.stopped }

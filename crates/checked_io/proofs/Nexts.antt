@@ -52,14 +52,14 @@ pub at_end : (known : Option (List ℕ)) → IsAtEnd known → IsAtEnd (prepend_
 at_end None end = tt
 at_end (Some xs) end = end
 
--- nothing was taken between
+-- if nothing is consumed between `b` and `c`, the bytes consumed up to `b` are those consumed up to `c`
 pub consumes_same : (a b c : Option (List ℕ)) (front : List ℕ) → Consumes a b front → Consumes b c [] → Consumes a c front
 consumes_same None b c front h k = tt
 consumes_same (Some xs) None c front h k = absurd h
 consumes_same (Some xs) (Some ys) None front h k = absurd k
 consumes_same (Some xs) (Some ys) (Some zs) front h k = h ∙ ap (λ t. front ++ t) k
 
--- the first byte of a part of the buffer
+-- a nonempty part of the buffer is the byte at its first index, followed by the part after that byte
 pub first_of_part : (buffer : List ℕ) (from to : ℕ) (part : List ℕ) → drop from (take to buffer) ≡ part → 0 < length part → part ≡ get_or buffer from 0 ∷ drop (from + 1) (take to buffer)
 first_of_part buffer from to part is some =
     let within : from < length (take to buffer) = omega (arith, length-drop from (take to buffer), ap length is) in

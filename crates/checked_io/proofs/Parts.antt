@@ -19,7 +19,7 @@ no_feed_more (c ∷ bytes) b h other =
     let parts = and_parts (not (c == 10)) (list_all (λ d. not (d == 10)) bytes) h in
     rw (parts.0) (no_feed_more bytes b parts.1 other)
 
--- before a line feed
+-- the bytes before the first line feed are the first part, and the bytes after it give the other parts
 parts_feed : (line ys : List ℕ) → HasNoFeed line → parts_of (line ++ 10 ∷ ys) ≡ line ∷ parts_of ys
 parts_feed [] ys h = refl
 parts_feed (b ∷ line) ys h =
@@ -35,7 +35,7 @@ lines_feed line ys h =
     ap without_empty_last (parts_feed line ys h)
     ∙ not_last line (parts_of ys) (omega (arith, length-slice_split (λ b. b == 10) ys))
 
--- at the end of the input
+-- bytes without a line feed are a single part
 parts_last : (line : List ℕ) → HasNoFeed line → parts_of line ≡ line ∷ []
 parts_last [] h = refl
 parts_last (b ∷ line) h =
@@ -49,7 +49,7 @@ some_last (b ∷ line) some = refl
 pub lines_last : (line : List ℕ) → HasNoFeed line → 0 < length line → lines_in line ≡ line ∷ []
 lines_last line h some = ap without_empty_last (parts_last line h) ∙ some_last line some
 
--- a line that goes on
+-- the first part of `bytes` is longer than `line`
 pub record GoesOn (line bytes : List ℕ) : Type 0 where
   pub whole : List ℕ
   pub more : List (List ℕ)

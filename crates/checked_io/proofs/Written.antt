@@ -5,7 +5,7 @@ use mathlib.Core.List.{append_assoc, append-nil}
 use Rattle.std.proofs.lemmas.List.{take-append-drop}
 use Rattle.std.specs.Io.KnownBytes.{Appends, Keeps}
 
--- known bytes have grown by a prefix of the text, and this is left of it
+-- `rest` is the text without a prefix; if the bytes of the output are known, they have grown by that prefix
 pub record Wrote (old new : Option (List ℕ)) (text rest : List ℕ) : Type 0 where
   pub front : List ℕ
   pub split : text ≡ front ++ rest

@@ -51,11 +51,11 @@ gives_values action.SetFalse = true
 gives_values action.Append = true
 gives_values _ = false
 
--- another rule, with values of its own
+-- the rule has another id than the rule `a`, and an action that gives its argument values
 abbrev pub IsOtherSet : Rule → Rule → Type 0
 IsOtherSet a x = (bytes_eq x.id a.id ≡ false) × (gives_values (action_of x) ≡ true)
 
--- the rule, or one that asks for help or for the version, or another with values of its own
+-- the rule is the rule `a`, or asks for help or the version and has no defaults, or is another with values of its own
 abbrev pub IsOrAsks : Rule → Rule → Type 0
 IsOrAsks a x = (x ≡ a) ⊎ (((is_request (action_of x) ≡ true) × (x.defaults ≡ [])) ⊎ IsOtherSet a x)
 
@@ -63,7 +63,7 @@ abbrev pub AreOrAsk : Rule → List Rule → Type 0
 AreOrAsk a [] = Unit {0}
 AreOrAsk a (x ∷ xs) = IsOrAsks a x × AreOrAsk a xs
 
--- the same of a rule with another id, as a test
+-- the test that a rule asks for help or the version and has no defaults, or has another id and values of its own
 abbrev pub is_apart : Text → Rule → Bool
 is_apart id x = is_request (action_of x) && is_empty x.defaults || not (bytes_eq x.id id) && gives_values (action_of x)
 
@@ -120,7 +120,7 @@ values_added a id s values rows pass h =
     (λ r here p. ((λ own. (no_values_fault a r.values values (p own).0 pass, (p own).1)), tt))
     ((λ own. (pass, refl)), tt) h
 
--- a row of an argument is none of another's
+-- a row with the id of one argument does not have the id of another
 other_row : (a x : Text) (r : Row) → bytes_eq x a ≡ false → bytes_eq r.id x ≡ true → bytes_eq r.id a ≡ true → ⊥
 other_row a x r apart here own = false≢true (sym apart ∙ subst (λ t. bytes_eq t a ≡ true) ((bytes_eq-Decides r.id x).0 here) own)
 
@@ -219,7 +219,7 @@ module _ (a : Rule) (set : action_of a ≡ action.Set) (s : Shape) (fits : AreOr
       flag None none = reacted_passed x [] h (is x refl) none p
       flag (Some w) none = p
 
-  -- what the flags after this one keep
+  -- if `fault` finds no fault and the rows have passed, the rows after `goes` have passed too
   abbrev Goes : (Held → Kinds) → (Held → Held × Outcome) → Type 0
   Goes fault goes = (h : Held) → fault h ≡ [] → Passed h.rows → Passed (goes h).0.rows
 
@@ -390,7 +390,7 @@ module _ (a : Rule) (set : action_of a ≡ action.Set) (s : Shape) (fits : AreOr
       let both = none_of_both (default_fault rows x) (defaults_fault (with_default rows x) xs) e in
       defaults_passed xs (with_default rows x) all.1 both.1 (default_passed x rows all.0 both.0 p)
 
-  -- the rows of words that have no fault
+  -- the rows of words that have no fault at a level have passed the rule's parser
   pub level_passed : (names : Names) (words : List Text) (has : Bool) (below : Kinds) → level_fault s names nothing_held words has below ≡ []
       → Passed (rows_after s.rules names words)
   level_passed names words has below e =
@@ -422,7 +422,7 @@ found_passed a set p (s ∷ ss) words r fits e is = elim (cases_Bool (p s)) [
   | inr there ↦ found_passed a set p ss words r fits.1 (rw there at e) (rw there at is)
 ]
 
--- the rows of the subcommand that is entered
+-- if the words have no fault, the rows of the subcommand that they enter have passed the rule's parser
 pub entered_passed : (a : Rule) → action_of a ≡ action.Set → (app : App) (stop : Option (Text × List Text)) (r : Text × List Row) → AllAreOrAsk a app.subs
     → entered_fault app stop ≡ [] → entered app stop ≡ Some r → Each (IsPassed a) r.1
 entered_passed a set app None r fits e is = absurd (cc)
@@ -434,7 +434,7 @@ first_passed a [] text e is = absurd (cc)
 first_passed a (v ∷ vs) text e is =
     (v, sym (same_Some _ _ is), (none_of_both (value_kinds a.ignore_case (parser_of_value a.parser) v) (values_fault a vs) e).0)
 
--- the text that is read of such rows
+-- the text that passed rows give for an argument is read from a text in which the parser finds no fault
 pub text_passed : (a : Rule) (rows : List Row) (text : Text) → Each (IsPassed a) rows → one_of a.id rows ≡ Some text
     → (t : Text) × (text ≡ read_as (reading_by a) t) × (value_kinds a.ignore_case (parser_of_value a.parser) t ≡ [])
 text_passed a [] text h is = absurd (cc)

@@ -16,7 +16,7 @@ text_both (p ∷ ps) qs = ap (λ s. p.1 ++ s) (text_both ps qs) ∙ sym (append_
 pub nothing_added : (old : List ℕ) → AddsPainted old [] old
 nothing_added old = record { pieces = []; whole = refl; added = sym (append-nil old) }
 
--- one piece
+-- to append one piece, in its colour if it has one, is to append a coloured copy of its bytes
 pub piece_added : (old new : List ℕ) (colour : Option Colour) (bytes : List ℕ) → new ≡ old ++ shown_by colour bytes → AddsPainted old bytes new
 piece_added old new colour bytes is = record {
   pieces = (colour, bytes) ∷ [];
@@ -24,7 +24,7 @@ piece_added old new colour bytes is = record {
   added = is ∙ ap (λ s. old ++ s) (sym (append-nil (shown_by colour bytes)));
 }
 
--- one text after another
+-- to append coloured copies of two texts, one after another, is to append a coloured copy of the concatenated text
 pub both_added : (old mid new s t : List ℕ) → AddsPainted old s mid → AddsPainted mid t new → AddsPainted old (s ++ t) new
 both_added old mid new s t first then = record {
   pieces = first.pieces ++ then.pieces;

@@ -19,7 +19,7 @@ use Rattle.command_line.proofs.Passed.{AllAreOrAsk, none_of_both, entered_passed
 
 -- ---- a level that has no fault
 
--- the level below it has none, and none of its own checks fails
+-- if a level has no fault, the level below it has none, and none of its own checks fails
 level_nil : (s : Shape) (names : Names) (h : Held) (words : List Text) (has : Bool) (below : Kinds) → level_fault s names h words has below ≡ []
     → (below ≡ []) × (check_fault s (finished s.rules (walk s.rules names h words).held) has ≡ [])
 level_nil s names h words has below e =
@@ -41,7 +41,7 @@ has_from : (has required : Bool) → required ≡ true → (not has && required)
 has_from true required wanted absent = refl
 has_from false required wanted absent = absurd (false≢true (sym absent ∙ wanted))
 
--- the text is one of these
+-- the text is in the list
 abbrev IsOneOf : Text → List Text → Type 0
 IsOneOf t [] = ⊥
 IsOneOf t (n ∷ ns) = (t ≡ n) ⊎ IsOneOf t ns
@@ -70,7 +70,7 @@ module _ (a : App) (words : List Text) (well : fault_of a words ≡ []) where
       × (check_fault (built a).top (finished (built a).top.rules (walk (built a).top.rules (names_of (built a)) nothing_held (argument_words a words)).held) (is_some (entered (built a) stop)) ≡ [])
   level = level_nil (built a).top (names_of (built a)) nothing_held (argument_words a words) (is_some (entered (built a) stop)) (entered_fault (built a) stop) well
 
-  -- they name a subcommand, if one is required
+  -- if the words have no fault and the program requires a subcommand, the words name a subcommand
   is_entered : (built a).top.subcommand_required ≡ true → is_some (subcommand_of a words) ≡ true
   is_entered required = has_from (is_some (entered (built a) stop)) (built a).top.subcommand_required required (required_there _ _ _ level.1)
 
@@ -100,7 +100,7 @@ rows_name (Some b) = refl
 pub name_of_rows : (m : ArgMatches) (sub : Option (Text × List Row)) → subcommand_rows_of m ≡ sub → subcommand_name_of m ≡ name_in sub
 name_of_rows m sub is = rows_name (out-ArgMatches m).subcommand ∙ ap name_in is
 
--- the subcommand of which a name and the rows are known
+-- a subcommand is determined by its name and its rows
 pub is_named : (sub : Option (Text × List Row)) (name : Text) (rows : List Row)
     → name_in sub ≡ Some name → option_map (λ p. p.1) sub ≡ Some rows → sub ≡ Some (name, rows)
 is_named None name rows named found = absurd (cc)
@@ -113,19 +113,19 @@ by_name P name of_row (Some r) is = of_row r (same_Some _ _ is)
 
 -- ---- a program
 
--- What is known of a program's words: how they are read, that a subcommand is required, and that words without a fault
--- name one of these.
+-- The facts about a program that the proofs use: it is simple (`is_simple_and_free`) and requires a subcommand. If
+-- words have no fault, the name of their subcommand is in `names`.
 pub record IsKnown (a : App) (names : List Text) : Type 0 where
   pub is_free : is_simple_and_free a ≡ true
   pub required : (built a).top.subcommand_required ≡ true
   pub named : (words : List Text) → fault_of a words ≡ [] → (r : Text × List Row) → subcommand_of a words ≡ Some r → IsOneOf r.0 names
 
--- the names of the subcommands
+-- if the words have no fault, the name of their subcommand is among the names of the program's subcommands
 pub named_by : (a : App) (names : List Text) → names_of_all (built a).subs ≡ names → (words : List Text) → fault_of a words ≡ []
     → (r : Text × List Row) → subcommand_of a words ≡ Some r → IsOneOf r.0 names
 named_by a names named words e r is = subst (IsOneOf r.0) named (is_one a words r is)
 
--- the name is none of these
+-- the name, if there is one, is not in the list
 abbrev IsNoneOf : Option Text → List Text → Type 0
 IsNoneOf name [] = Unit {0}
 IsNoneOf name (n ∷ ns) = ¬ (name ≡ Some n) × IsNoneOf name ns

@@ -14,16 +14,17 @@ no_space_cons b bs h = (
   λ i within. h (suc i) (omega arith),
 )
 
--- if there is no space
+-- if a text has no space, `before_space` is the whole text
 pub before_space_none : (bs : List ℕ) → HasNoSpace bs → before_space bs ≡ bs
 before_space_none [] h = refl
 before_space_none (b ∷ bs) h = let (apart, more) = no_space_cons b bs h in rw (apart, before_space_none bs more)
 
+-- if a text has no space, `from_space` is empty
 pub from_space_none : (bs : List ℕ) → HasNoSpace bs → from_space bs ≡ []
 from_space_none [] h = refl
 from_space_none (b ∷ bs) h = let (apart, more) = no_space_cons b bs h in rw (apart, from_space_none bs more)
 
--- if the first space is at k
+-- if the first space is at index k, `before_space` is the first k bytes
 pub before_space_at : (bs : List ℕ) (k : ℕ) → k < length bs → get_or bs k 0 ≡ 32 → ((i : ℕ) → i < k → get_or bs i 0 ≢ 32) → take k bs ≡ before_space bs
 before_space_at [] k within here before = absurd (omega arith)
 before_space_at (b ∷ bs) zero within here before = rw here
@@ -32,6 +33,7 @@ before_space_at (b ∷ bs) (suc k) within here before =
     let test : (b == 32) ≡ false = grind (arith, nat_tests, apart) in
     rw (test, before_space_at bs k (omega arith) here (λ i low. before (suc i) (omega arith)))
 
+-- if the first space is at index k, `from_space` is the text from there on
 pub from_space_at : (bs : List ℕ) (k : ℕ) → k < length bs → get_or bs k 0 ≡ 32 → ((i : ℕ) → i < k → get_or bs i 0 ≢ 32) → drop k bs ≡ from_space bs
 from_space_at [] k within here before = absurd (omega arith)
 from_space_at (b ∷ bs) zero within here before = rw here
@@ -40,7 +42,7 @@ from_space_at (b ∷ bs) (suc k) within here before =
     let test : (b == 32) ≡ false = grind (arith, nat_tests, apart) in
     rw (test, from_space_at bs k (omega arith) here (λ i low. before (suc i) (omega arith)))
 
--- both parts are the whole
+-- a text is its part before the first space, followed by its part from there on
 pub cut_joins : (bs : List ℕ) → bs ≡ before_space bs ++ from_space bs
 cut_joins [] = refl
 cut_joins (b ∷ bs) = elim (b == 32) as (λ t. (b ∷ bs) ≡ cond t [] (b ∷ before_space bs) ++ cond t (b ∷ bs) (from_space bs)) [
@@ -55,12 +57,13 @@ length-from_space-le (b ∷ bs) = elim (b == 32) as (λ t. length (cond t (b ∷
   | false ↦ omega (arith, length-from_space-le bs)
 ]
 
--- numbers after a text with no space in it
+-- if spelled numbers follow a text without spaces, `before_space` is that text
 pub before_space-spelled : (w ns : List ℕ) → HasNoSpace w → before_space (w ++ spelled_numbers ns) ≡ w
 before_space-spelled [] [] h = refl
 before_space-spelled [] (n ∷ ns) h = refl
 before_space-spelled (b ∷ w) ns h = let (apart, more) = no_space_cons b w h in rw (apart, before_space-spelled w ns more)
 
+-- if spelled numbers follow a text without spaces, `from_space` is the spelled numbers
 pub from_space-spelled : (w ns : List ℕ) → HasNoSpace w → from_space (w ++ spelled_numbers ns) ≡ spelled_numbers ns
 from_space-spelled [] [] h = refl
 from_space-spelled [] (n ∷ ns) h = refl

@@ -17,7 +17,7 @@ no_space_decimal n small = not_in_digits ascii_numerals (decimal n) 32 (digits_d
 abbrev pub GoesOn : List ℕ → List ℕ → List ℕ → Type 0
 GoesOn found ns rest = (ms : List ℕ) × (ns ≡ found ++ ms) × (rest ≡ spelled_numbers ms)
 
--- the next of them, if the text goes on with a space
+-- the next number after those found, and the numbers after it, where `fields` is the text after a space
 pub record Next (found ns fields : List ℕ) : Type 0 where
   pub number : ℕ
   pub more : List ℕ
@@ -49,11 +49,11 @@ next_of found ns fields (m ∷ ms) all same spelled =
 pub next_field : (most : ℕ) (found ns fields rest : List ℕ) → AreNumbers most ns → rest ≡ 32 ∷ fields → GoesOn found ns rest → Next found ns fields
 next_field most found ns fields rest are begins on = next_of found ns fields on.0 are.1 on.1 (sym begins ∙ on.2)
 
--- there is none if as many were found as there may be
+-- no number follows if `most` numbers are found
 pub full_has_no_next : (most : ℕ) (found ns fields : List ℕ) → AreNumbers most ns → length found ≡ most → Next found ns fields → ⊥
 full_has_no_next most found ns fields are full next = omega (arith, are.0, simp length-append at (ap length next.split))
 
--- the numbers found and one more
+-- after one more number is found, the rest of the text spells the numbers after it
 pub goes_on_more : (found ns fields : List ℕ) (n : ℕ) → n < 2 ^ 32 → before_space fields ≡ decimal n → Next found ns fields → GoesOn (found ++ n ∷ []) ns (from_space fields)
 goes_on_more found ns fields n small is next =
     let wide : n < 2 ^ 64 = omega arith in
@@ -66,7 +66,7 @@ one_more [] n rest = ap (λ t. 32 ∷ t) (sym (append_assoc (decimal n) [] rest)
 one_more (m ∷ found) n rest = ap (λ t. 32 ∷ t) (append_assoc (decimal m) (spelled_numbers found) (32 ∷ (decimal n ++ rest)) ∙ ap (λ t. decimal m ++ t) (one_more found n rest)
     ∙ sym (append_assoc (decimal m) (spelled_numbers (found ++ n ∷ [])) rest))
 
--- what is found spells the text up to here
+-- with one more number found, the numbers found still spell the text that was read
 pub spelled_more : (text found fields rest : List ℕ) (n : ℕ) → text ≡ spelled_numbers found ++ rest → rest ≡ 32 ∷ fields → before_space fields ≡ decimal n
     → text ≡ spelled_numbers (found ++ n ∷ []) ++ from_space fields
 spelled_more text found fields rest n so_far begins is =

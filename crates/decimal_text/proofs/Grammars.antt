@@ -18,13 +18,14 @@ use Rattle.decimal_text.proofs.Decimals.{ascii_numerals}
 use Rattle.decimal_text.proofs.Fields.{no_space_decimal}
 use Rattle.decimal_text.proofs.Spelled.{spelled_injective}
 
--- the value has this word and these numbers, and they are in its ranges
+-- the value has this word and these numbers, and is in range
 pub record Spells {A : Type 0} (word_of numbers_of : A → List ℕ) (IsInRange : A → Type 0) (word ns : List ℕ) (value : A) : Type 0 where
   pub word_is : word ≡ word_of value
   pub numbers_are : ns ≡ numbers_of value
   pub in_range : IsInRange value
 
--- a value in its ranges is what its word and numbers mean, and they mean no other
+-- a value in range is the meaning of its own word and numbers alone; the word has no space, and there are at most
+-- `most` numbers, each below 2^32
 pub record IsGrammar {A : Type 0} (word_of numbers_of : A → List ℕ) (IsInRange : A → Type 0) (meaning : List ℕ → List ℕ → Option A) (most : ℕ) : Type 0 where
   pub means : (value : A) → IsInRange value → meaning (word_of value) (numbers_of value) ≡ Some value
   pub spells : (word ns : List ℕ) (value : A) → meaning word ns ≡ Some value → Spells word_of numbers_of IsInRange word ns value
@@ -111,7 +112,7 @@ module _ {A : Type 0} {word_of numbers_of : A → List ℕ} {IsInRange : A → T
       → (text ≡ spelled (word_of value) (numbers_of value)) × IsInRange value
   spelled_from_meaning grammar text value e = spelled_from_fields grammar text (slice_split (λ b. b == 32) text) value (join_with_byte-slice_split 32 text) e
 
-  -- from the word before the first space, and the numbers that the rest spells
+  -- a text means what the word before its first space means with the numbers that the rest spells
   pub meaning_from_parts : IsGrammar word_of numbers_of IsInRange meaning most → (text ns : List ℕ) (r : Option A) → AllByRecursion (λ n. n < 2 ^ 32) ns → from_space text ≡ spelled_numbers ns
       → r ≡ meaning (before_space text) ns → r ≡ meaning_of_text meaning text
   meaning_from_parts grammar text ns (Some value) small rest is =

@@ -97,7 +97,7 @@ module _ {A B : Type 0} (f : A → B) where
   four_mapped a b c d make (k ∷ l ∷ m ∷ n ∷ []) found e = rw e (map_test (leb k a && leb l b && leb m c && leb n d) (make k l m n))
   four_mapped a b c d make (k ∷ l ∷ m ∷ n ∷ o ∷ ns) found e = rw e refl
 
--- if the operands themselves were found
+-- to find the operands and then make a value of them is to make the value from the numbers
 module _ {B : Type 0} where
   pub one_made : (a : ℕ) (make : ℕ → B) (ns : List ℕ) (found : Option ℕ) → found ≡ one a (λ k. k) ns → option_map make found ≡ one a make ns
   one_made a make ns found e = one_mapped make a (λ k. k) ns found e
@@ -127,12 +127,12 @@ module _ {A : Type 0} (P : List ℕ → List ℕ → A → Type 0) (word ns : Li
         | inr test ↦ go_on (rw test at e)
       ]
 
-  -- one group of words, or the next
+  -- a value found in one of two groups of words has the property, if the values of each group have it
   pub either : (first other : Option A) → (first ≡ Some value → P word ns value) → (other ≡ Some value → P word ns value) → option_or first other ≡ Some value → P word ns value
   either None other here go_on e = go_on e
   either (Some made) other here go_on e = here e
 
-  -- one of five groups of words
+  -- a value found in one of five groups of words has the property, if the values of each group have it
   pub among_five : (a b c d e : Option A) → (a ≡ Some value → P word ns value) → (b ≡ Some value → P word ns value) → (c ≡ Some value → P word ns value)
       → (d ≡ Some value → P word ns value) → (e ≡ Some value → P word ns value) → option_or a (option_or b (option_or c (option_or d e))) ≡ Some value → P word ns value
   among_five a b c d e in_a in_b in_c in_d in_e =

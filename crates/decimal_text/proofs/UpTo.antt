@@ -27,7 +27,7 @@ test-from_at_most (n ∷ ns) m h = rw (le-leb n m h.0, test-from_at_most ns m h.
 pub up_to-items : (most m : ℕ) (it : ArrayVec ℕ) → length it.items ≤ most → AreAtMost it.items (replicate (length it.items) m) → up_to most m it.items ≡ Some it
 up_to-items most m it few small = rw (le-leb (length it.items) most few, test-from_at_most it.items m small) refl
 
--- the numbers are these, no more than `most`, each at most `m`
+-- the array has the given numbers, of which there are at most `most`, each at most `m`
 pub record AreUpTo (most m : ℕ) (ns : List ℕ) (it : ArrayVec ℕ) : Type 0 where
   pub few : length ns ≤ most
   pub small : AreAtMost ns (replicate (length ns) m)
@@ -41,21 +41,21 @@ up_to-some most m ns it e =
 
 -- ---- what a loop over the numbers finds
 
--- there are more than `most`
+-- `up_to` is None if there are more than `most` numbers
 pub up_to-long : (most m : ℕ) (ns : List ℕ) → most < length ns → None ≡ up_to most m ns
 up_to-long most m ns long = rw (lt-leb (length ns) most long) refl
 
--- one is above the maximum
+-- `up_to` is None if a number is above the maximum
 pub up_to-above : (most m : ℕ) (ns : List ℕ) (i d : ℕ) → i < length ns → m < get_or ns i d → None ≡ up_to most m ns
 up_to-above most m ns i d within above =
     rw (list_all_at (λ n. leb n m) ns i d within (lt-leb (get_or ns i d) m above), and-false (leb (length ns) most)) refl
 
--- one more is at most the maximum
+-- if the first i numbers and the next one are at most the maximum, so are the first i + 1
 pub small_more : (m : ℕ) (ns : List ℕ) (i d : ℕ) → i < length ns → list_all (λ n. leb n m) (take i ns) ≡ true → get_or ns i d ≤ m
     → list_all (λ n. leb n m) (take (i + 1) ns) ≡ true
 small_more m ns i d within small low = rw (list_all_more (λ n. leb n m) ns i d within, small, le-leb (get_or ns i d) m low) refl
 
--- all are
+-- `up_to` is the array of all numbers if there are at most `most`, each at most the maximum
 pub up_to-found : (most m : ℕ) (ns : List ℕ) (it : ArrayVec ℕ) (i : ℕ) → length ns ≤ most → length ns ≤ i → it.items ≡ take i ns
     → list_all (λ n. leb n m) (take i ns) ≡ true → Some it ≡ up_to most m ns
 up_to-found most m ns it i few past same small =
@@ -71,7 +71,8 @@ all_below (m ∷ ms) h =
     let parts = and_parts (ltb m (2 ^ 32)) (list_all (λ k. ltb k (2 ^ 32)) ms) h in
     (ltb-true m (2 ^ 32) parts.0, all_below ms parts.1)
 
--- at maxima that are written out the test computes
+-- if there are at most `most` maxima, each below 2^32, the same holds of the numbers; for maxima that are written out,
+-- the test computes
 pub few_from_test : (most : ℕ) (ns ms : List ℕ) → AreAtMost ns ms → leb (length ms) most && list_all (λ m. ltb m (2 ^ 32)) ms ≡ true → AreNumbers most ns
 few_from_test most ns ms h test =
     let parts = and_parts (leb (length ms) most) (list_all (λ m. ltb m (2 ^ 32)) ms) test in

@@ -18,15 +18,15 @@ pub few_more : (old : List ℕ) (found : Option ℕ) (new : List ℕ) (n : ℕ) 
 few_more old None new n is few = let long = ap (λ xs. length xs) is in let both = length-append old [] in omega (arith, long, both, few)
 few_more old (Some g) new n is few = let long = ap (λ xs. length xs) is in let both = length-append old (g ∷ []) in omega (arith, long, both, few)
 
--- a list to which elements were added, and then others
+-- to append some elements and then others is to append both lists together
 pub before : {X : Type 0} (old some rest mid new : List X) → mid ≡ old ++ some → new ≡ mid ++ rest → new ≡ old ++ (some ++ rest)
 before old some rest mid new one two = two ∙ ap (λ xs. xs ++ rest) one ∙ append_assoc old some rest
 
--- the elements that were added are the expected ones
+-- if the appended elements equal the expected ones, the expected ones were appended
 pub added : {X : Type 0} (old some meant new : List X) → new ≡ old ++ some → some ≡ meant → new ≡ old ++ meant
 added old some meant new is same = is ∙ ap (λ xs. old ++ xs) same
 
--- the values of some elements, and of one more
+-- to append the value of the next element to those of the first i is to append the values of the first i + 1
 pub mapped_more : {Y : Type 0} (f : ℕ → Y) (xs : List ℕ) (i d : ℕ) (old mid new : List Y) → i < length xs
     → mid ≡ old ++ map f (take i xs) → (y : Y) → y ≡ f (get_or xs i d) → new ≡ mid ++ y ∷ [] → new ≡ old ++ map f (take (i + 1) xs)
 mapped_more f xs i d old mid new inside so_far y is more =

@@ -8,7 +8,7 @@ use Rattle.plan_replay.specs.declared.place.PlanCursor.{PlanCursor}
 use Rattle.plan_replay.specs.Run.{Position, Turn, start, place_of, step_after, IsTurn}
 use Rattle.explain.specs.Explained.{TurnReport, Explained, idle_report, report_at, IsExplainedStep, IsExplainedTurn, AreExplained}
 
--- a turn without a step
+-- a turn of a build without a step left, reported as idle, is an explained turn
 pub idle_turn :
     (plan : Plan) (at : Position) (id build : ℕ) (report : TurnReport)
     → id ≡ build
@@ -22,7 +22,7 @@ idle_turn plan at id build report is_id no_step is_report = record {
   reported = is_report ∙ ap idle_report is_id;
 }
 
--- a turn with a step, its answer and its reason
+-- a turn that takes the build's next step, with the answer and the reason reported, is an explained turn
 pub step_turn :
     (plan : Plan) (from : Position) (id build : ℕ) (step : PlanStep) (host : HostView) (moved : PlanCursor) (report : TurnReport)
     → id ≡ build
@@ -39,7 +39,7 @@ step_turn plan from id build step host moved report is_id is_step made =
       reported = same.reported;
     }
 
--- a run and one more turn
+-- an explained run and one more turn at its end are an explained run
 pub AreExplained-more :
     (plan : Plan) (order : List ℕ) (from : Position) (turns : List Explained) (at : Position) (build : ℕ) (turn : Turn) (to : Position)
     → AreExplained plan order from turns at
@@ -55,14 +55,14 @@ AreExplained-more plan (b ∷ order) from (t ∷ turns) at build turn to run of_
 
 -- ---- the front of an order
 
--- The turns of these builds lead here, and these are their reports.
+-- Explained turns of the builds in `order` lead from the start to the position `to`, and `reports` are their reports.
 pub record IsFront (plan : Plan) (from : HostView) (order : List ℕ) (to : Position) (reports : List TurnReport) : Type 0 where
   pub turns : List Explained
   pub is_run : AreExplained plan order (start from) turns to
   pub reported : reports ≡ map report_at turns
 
 module _ (plan : Plan) (from : HostView) (order : List ℕ) (i : ℕ) where
-  -- one more turn, of the build that is next
+  -- the first i turns and one more turn, of the next build in the order, are the first i + 1 turns
   pub front_more :
       (items : List ℕ) (build turn_build : ℕ) (at to : Position) (report : TurnReport) (between new : List TurnReport)
       → items ≡ order
@@ -84,7 +84,7 @@ module _ (plan : Plan) (from : HostView) (order : List ℕ) (i : ℕ) where
         reported = appended ∙ (λ k. front.reported k ++ turn.reported k ∷ []) ∙ sym (map-append report_at front.turns (e ∷ []));
       }
 
-  -- all turns
+  -- when all builds in the order have had their turn, the front is that of the whole order
   pub front_whole : (items : List ℕ) (to : Position) (new : List TurnReport) → items ≡ order → length items ≤ i
       → IsFront plan from (take i order) to new → IsFront plan from order to new
   front_whole items to new same done =

@@ -75,7 +75,7 @@ start_checks rd tables =
     ∷ input_check (fact.Realm (realm_fact.Multiple (length tables))) (not (begins_right tables))
     ∷ apart_check rd tables ∷ []
 
--- The checks of RMI_REALM_CREATE. All have one answer, so their order is this profile's own.
+-- The checks of RMI_REALM_CREATE. A failure of any gives RMI_ERROR_INPUT, so their order is this profile's own.
 unfoldable pub realm_create_checks : HostView → ℕ → ℕ → List ℕ → List ℕ → List Check
 realm_create_checks host build width pages [] = []
 realm_create_checks host build width pages (rd ∷ tables) = width_check width ∷ (start_checks rd tables ++ map (page_delegated host build) pages)

@@ -36,7 +36,8 @@ pub(crate) enum Value {
     Number(u64),
     /// A letter in place of a page.
     Letter(Letter),
-    /// The state of a granule, or `None` if the granule is missing. The other states are likewise.
+    /// The state of a granule, or `None` if the granule is missing. The next three kinds of value are the same for the
+    /// state of a realm, a REC and a table entry.
     GranuleState(Option<GranuleState>),
     RealmState(Option<RealmState>),
     RecState(Option<RecState>),
@@ -74,7 +75,8 @@ pub(crate) fn one_value(words: &'static str, a: Value) -> Phrase {
     two_values(words, a, Value::Number(0))
 }
 
-/// Returns a phrase whose values are four numbers. The next functions are likewise.
+/// Returns a phrase whose values are four numbers. The next functions take three, two, one or no numbers, and the other
+/// values are 0.
 pub(crate) fn four(words: &'static str, a: u64, b: u64, c: u64, d: u64) -> Phrase {
     Phrase {
         words,

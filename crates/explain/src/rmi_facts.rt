@@ -56,8 +56,8 @@ pub enum RealmFact {
 pub enum RecFact {
     /// Requires that the granules named by the command are distinct.
     Distinct,
-    /// Requires that the command names as many auxiliary granules as a REC needs. The fields are the named and the
-    /// needed number.
+    /// Requires that the command names as many auxiliary granules as a REC needs. The fields are the number that is
+    /// named and the number that is needed.
     Auxiliaries {
         named: usize,
         needed: u8,

@@ -1,5 +1,5 @@
-//! The messages that explain a refused step, as lines. The layout of the lines is proved. Their sentences are tested,
-//! and are those of `error`, `help` and `passed`.
+//! The messages that explain a refused step, as lines. The layout of the lines is proved. Their sentences come from the
+//! modules `error`, `help` and `passed`, and are tested.
 ghost use Rattle.std.specs.Prelude.{◌≡◌, ℕ, List, ◌++◌, length, string_bytes, IfOk, OnOk};
 ghost use Rattle.explain.specs.Words.{message_line, count_line, passed_line, earlier_checks, AppendsPassed, AreReasonLines};
 

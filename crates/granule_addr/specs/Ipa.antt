@@ -26,7 +26,7 @@ is_protected_at ipa width = nat_lt ipa (2 ^ (width - 13))
 abbrev pub covered_count : ℕ → ℕ
 covered_count level = if level == 1 then 2 ^ 18 else (if level == 2 then 2 ^ 9 else 1)
 
--- the first IPA granule that an entry covers: the entry of the given level that covers the given IPA granule
+-- the first IPA granule covered by the entry that covers the given IPA granule at the given level
 abbrev pub first_covered : ℕ → ℕ → ℕ
 first_covered level ipa = ipa / covered_count level * covered_count level
 

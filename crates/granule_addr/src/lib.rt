@@ -2,7 +2,7 @@
 //! VMIDs, RECs and builds.
 //!
 //! Each type keeps its range: each value of it is in range. Granules, IPA granules and pages are counted in units of 4
-//! KiB; contracts see each number as it is.
+//! KiB. In contracts, a value of a number type is its number.
 #![tactic(auto)]
 
 mod block;

@@ -58,11 +58,11 @@ access_decided _ updates actions = refl
 
 -- ---- RECs
 
--- a REC's own attributes
+-- the attributes of a REC, given its number
 abbrev own_attributes : ℕ → RecRow → RecAttributes
 own_attributes number rec = record { number = number; state = rec.state; auxiliaries = rec.auxiliaries }
 
--- the REC of a number among those of a realm
+-- the granule and the attributes of the realm's REC with the given number, if there is one
 abbrev rec_in : Option RealmRow → ℕ → Option (ℕ × RecAttributes)
 rec_in realm number =
     option_map (λ (rec : RecRow). (rec.granule, own_attributes number rec)) (option_and_then (λ (row : RealmRow). get row.recs number) realm)
@@ -70,7 +70,7 @@ rec_in realm number =
 abbrev row_in : Option Seen → Option RealmRow
 row_in realm = option_and_then (λ (rd : Seen). rd.cell.descriptor) realm
 
--- the refusal of an exit, by the REC and its state
+-- the refusal of a REC exit that is found before any RMM call, if any, is that of the exit's outcome
 rec_exit_decided : (rec : Option RecRow) (number : ℕ) (after : RecRow → List Update) (actions : ArrayVec HostAction)
     → error_in (unless_refused (exit_refusal (option_map (λ (rec : RecRow). (rec.granule, own_attributes number rec)) rec)) (Ok actions))
     ≡ decision (elim rec [ Some rec ↦ check (not (is_ready rec.state)) error_rec (Ok (after rec)) | None ↦ Err error_input ])
@@ -83,7 +83,7 @@ rec_exit_decided (Some rec) number after actions = at rec.state
     at Ready = refl
     at Running = refl
 
--- with the realm of an RD, if it has one
+-- the outcome that a function gives for a realm, or an input error if there is no realm
 abbrev on_row : Option RealmRow → (RealmRow → Outcome) → Outcome
 on_row row f = elim row [ Some realm ↦ f realm | None ↦ Err error_input ]
 
@@ -124,7 +124,7 @@ entry_or_input (Some rec) = refl
 -- ---- commands
 
 module _ (place : Place) (host : HostView) (build run : ℕ) where
-  -- the model's refusal before the call
+  -- the refusal, if any, that is found before any RMM call for a command that has passed the host's own checks
   abbrev refusal_before : Cmd → Option Refusal
   refusal_before cmd = error_in (actions_or_refusal place host build run cmd (act_before host build cmd))
 
@@ -180,7 +180,7 @@ module _ (place : Place) (host : HostView) (build run : ℕ) where
       at true e = entry_decided (realm_of build (world_of host)) number _ _ refusal e
       at false e = sym (entry_or_input (rec_in (row_in (realm_of build (world_of host))) number)) ∙ e
 
-  -- a command without an operation is an input error, and any other has operations
+  -- if a command other than a Take is refused because it has no operation, its outcome is the same refusal
   others_decided : (cmd : Cmd) (act : Option Act) (granules : List ℕ) → without_act cmd ≡ Err (Rmi error_input) → (refusal : Refusal)
       → error_in (actions_of_act place host build run cmd act) ≡ Some refusal → decision (outcome act granules) ≡ Some refusal
   others_decided cmd (Some act) granules is refusal e = cc
@@ -197,7 +197,7 @@ module _ (place : Place) (host : HostView) (build run : ℕ) where
   decided cmd refusal e = others_decided cmd (act_before host build cmd) (granules_named host build cmd) refl refusal e
 
   module _ (cmd : Cmd) where
-    -- the refusal of a command that is prepared, if the host's own checks give this one
+    -- the refusal of a prepared command, if any, given the refusal by the host's own checks, if any
     prepared_by : Option Refusal → Option Refusal
     prepared_by first = error_in (unless_refused first (actions_or_refusal place host build run cmd (act_before host build cmd)))
 
@@ -211,7 +211,8 @@ module _ (place : Place) (host : HostView) (build run : ℕ) where
         at None is =
             first_passes (checks_of (summary_of host) build cmd) (last_checks host build cmd) is ∙ decided cmd refusal (sym (ap prepared_by is) ∙ ap error_in e)
 
-    -- if the model decides before the call, and as the host does
+    -- if the refusal found before any RMM call is that of the host's last checks, the prepared command is refused
+    -- exactly as the host refuses it
     alike : refusal_before cmd ≡ last_refusal cmd → error_in (actions_asked place host build run cmd) ≡ refusal_of host build (Ask cmd)
     unfolding refusal_of prepared_by
     alike last = at (first_that_holds (checks_of (summary_of host) build cmd)) refl

@@ -17,7 +17,7 @@ use Rattle.realm_host.specs.Refusals.{is_free_block, no_block}
 
 -- ---- leases
 
--- each granule of the machine has a lease
+-- the list of leases has one entry for each granule of the machine
 pub leases_long : (host : HostView) → length (world_of host).leases ≡ host.limits.pages
 unfolding world_of
 leases_long host = at (replay host.limits host.history) refl
@@ -26,7 +26,7 @@ leases_long host = at (replay host.limits host.history) refl
     at (Some world) is = (sized_reached host.limits host.history world is).leases
     at None is = length-replicate host.limits.pages None
 
--- nobody leases the granule; the default of the lookup does not matter
+-- for a granule of the machine, the lookup of its lease gives `None` exactly if no build leases it
 pub free_read : (leases : List (Option ℕ)) (g : ℕ) → g < length leases → is_none (slice_index_or leases g None) ≡ is_leased_to None leases g
 free_read [] g inside = absurd (omega arith)
 free_read (None ∷ leases) zero inside = refl
@@ -39,7 +39,7 @@ none_from None false e = cc
 none_from (Some build) true e = cc
 none_from (Some build) false e = refl
 
--- the lease of a granule of the machine, as the ledger of the host reads it
+-- for a granule of the machine, the lease read from the host's ledger is `None` exactly if no build leases it
 pub leased_read : (ledger host : HostView) (g number : ℕ) (read : Option ℕ) → ledger ≡ host → g ≡ number → number < host.limits.pages
     → read ≡ slice_index_or (world_of ledger).leases g None → is_none read ≡ is_leased_to None (world_of host).leases number
 leased_read ledger host g number read same is below e =
@@ -47,7 +47,7 @@ leased_read ledger host g number read same is below e =
     ap is_none e ∙ ap (λ (h : HostView). is_none (slice_index_or (world_of h).leases g None)) same
     ∙ ap (λ n. is_none (slice_index_or (world_of host).leases n None)) is ∙ free_read (world_of host).leases number (omega (arith, long, below))
 
--- a machine has no granule past its end
+-- a granule past the end of the machine does not count as free
 pub none_past : (leases : List (Option ℕ)) (g : ℕ) → length leases ≤ g → is_leased_to None leases g ≡ false
 none_past leases g past = ap (λ o. option_eq same_lease o (Some None)) (slice_get_past leases g past)
 

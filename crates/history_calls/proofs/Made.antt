@@ -14,12 +14,12 @@ use Rattle.realm_model.proofs.RealmOf.{IsAt, IsAt-realm_of}
 use Rattle.realm_model.proofs.StepSays.{step_is}
 use Rattle.history_calls.specs.Made.{machine_if_done, machine_after_calls, machine_after_events, LeadsToItsMachine}
 
--- what a command sees at the RD of a realm is the realm
+-- if a realm's RD is in the machine, looking up its number there gives that RD again
 seen_at_rd : (machine : Machine) (realm : Option Seen) → IsAt machine realm → option_map (seen machine) (option_map (λ (rd : Seen). rd.number) realm) ≡ realm
 seen_at_rd machine None there = refl
 seen_at_rd machine (Some rd) there = λ i. Some (record { number = rd.number; cell = there i })
 
--- the calls of an event make the step of its world
+-- if an event leads from `world` to `next`, its operation leads the machine of `world` to the machine of `next`
 made : (limits : Limits) (world next : World) (event : Event) → step limits world event ≡ Some next
     → machine_after_calls limits (rd_of event.build world) event.act world.machine ≡ Some next.machine
 made limits world next event stepped =

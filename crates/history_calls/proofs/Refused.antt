@@ -110,7 +110,8 @@ module _ (rows : Rows) (ipa : ℕ) where
       at None = refl
       at (Some end) = by end (end.level == above) refl (not (is_table end.row))
 
-  -- the entries that a command requires, if the walk ends at level 3
+  -- `run_refusal` is the refusal of an outcome that tests the entry where a walk ends at level 3, if `free` is the
+  -- result of that test
   run : (free : Bool) (test : Row → Bool) (f : Row → List Update)
       → ((end : Walk) → walk rows ipa 3 ≡ Some end → (end.level == 3) ≡ true → free ≡ test end.row)
       → run_refusal free (option_map (row_view ipa) (walk rows ipa 3)) ≡ refusal_in (with_row rows ipa 3 (λ row. check (test row) (error_rtt 3) (Ok (f row))))
@@ -153,7 +154,7 @@ module _ (rows : Rows) (ipa : ℕ) where
       at None = refl
       at (Some end) = by end.level (is_assigned end.row) end.row.granule
 
-  -- the entry of level 3, if there is one, is where the walk ends
+  -- whether there is an entry, and it is UNASSIGNED
   abbrev passes : Option Row → Bool
   passes o = elim o [ Some row ↦ is_unassigned row | None ↦ false ]
 
@@ -191,7 +192,8 @@ all_of test (y ∷ xs) x = ap (λ t. test y && t) (all_of test xs x) ∙ swapped
     swapped false true c = refl
     swapped false false c = refl
 
--- the entries of a run, one by one
+-- if a test agrees with `passes` at each IPA granule of a run, it holds for all of them exactly if each has an
+-- UNASSIGNED entry of level 3
 runs : (rows : Rows) (test : ℕ → Bool) (ipa n : ℕ) → ((k : ℕ) → k < n → test (ipa + k) ≡ passes rows ipa (get rows (3, ipa + k)))
     → list_all test (range_with_len ipa n) ≡ all_rows is_unassigned rows 3 ipa n
 unfolding all_rows
@@ -203,7 +205,7 @@ runs rows test ipa (suc n) each =
     ∙ all_of test (range_with_len ipa n) (ipa + n)
     ∙ (λ i. (each n (omega arith) ∙ ap (λ k. passes rows ipa (get rows (3, ipa + k))) (sym (mul-one n))) i && runs rows test ipa n (λ k less. each k (omega arith)) i)
 
--- an IPA granule of a run of protected ones is in the address space
+-- each IPA granule of a page run that begins in the protected half is in the address space
 run_inside : (ipa count width k : ℕ) → is_width width ≡ true → (is_page_run ipa count && is_protected_at ipa width) ≡ true → k < count → is_in_space (ipa + k) width ≡ true
 run_inside ipa count width k wide is less =
     let both = and_parts (is_page_run ipa count) _ is in
@@ -232,7 +234,7 @@ else_none : (o : Option Refusal) → else o None ≡ o
 else_none None = refl
 else_none (Some refusal) = refl
 
--- the VMID that a realm would get is free, if there is one
+-- an element that a search finds passes the test of the search
 found : (test : ℕ → Bool) (xs : List ℕ) (x : ℕ) → find test xs ≡ Some x → test x ≡ true
 found test [] x e = cc
 found test (y ∷ ys) x e = by (test y) refl (found test ys x) e
@@ -438,7 +440,7 @@ module _ (host : HostView) (build : ℕ) where
   abbrev outcome : Option Act → List ℕ → Outcome
   outcome act granules = outcome_of_act host.limits (used_vmids machine) act realm (map (seen machine) granules)
 
-  -- the model's refusal, if nothing is refused before
+  -- the refusal, if any, that the model's checks give to a command with the given operation and granules
   abbrev by_act : List ℕ → Bool → Cmd → Option Act → Option Refusal
   by_act granules ready cmd act = option_map refusal.Rmi (refusal_of_act host (row_in realm) granules ready cmd act)
 
@@ -552,12 +554,13 @@ module _ (host : HostView) (build : ℕ) where
       at (Some rd) is = (reachable_worlds host.limits host.history (world_of host) (world_is host legal)).width rd.number row (sym (row_at_rd (world_of host) build rd.number (ap (option_map (λ (s : Seen). s.number)) is)) ∙ there)
 
   module _ (cmd : Cmd) where
-    -- a refusal of the host's own
+    -- if one of the host's own checks fails, the refusal of the first that fails is the host's refusal of the command
     pub own : (refusal : Refusal) → first_that_holds (checks_of (summary_of host) build cmd) ≡ Some refusal → Some refusal ≡ refusal_of host build (Ask cmd)
     unfolding refusal_of
     own refusal is = sym (first_stops (checks_of (summary_of host) build cmd) (last_checks host build cmd) refusal is)
 
-    -- a refusal of the model
+    -- if none of the host's own checks fails, and the history is legal, the model's refusal is the host's refusal of
+    -- the command
     pub of_model : IsLegal host.limits host.history → (granules : List ℕ) (act : Option Act) (result : Option Refusal)
         → first_that_holds (checks_of (summary_of host) build cmd) ≡ None → AreFound (summary_of host) build cmd granules
         → act ≡ act_of cmd granules (allocated_before host build) → result ≡ model_refusal host build granules cmd act → result ≡ refusal_of host build (Ask cmd)

@@ -37,8 +37,8 @@ plain_call call = host.Call call None
 abbrev pub with_x1 : Call → ℕ → HostAction
 with_x1 call x1 = host.Call call (Some x1)
 
--- The actions of the host and the guest for an event about a REC that runs or is to run. A byte is written between two
--- entries.
+-- The actions of the host and the guest for an event about a REC that runs or is to run. For a Poke, the REC is
+-- interrupted and entered again, and then the guest writes the byte.
 abbrev pub on_rec : ℕ → ℕ → Act → List HostAction
 on_rec rec run (Enter number) = host.Spin rec ∷ host.Enter rec run ∷ []
 on_rec rec run (Exit number) = host.Interrupt rec ∷ []
@@ -80,7 +80,7 @@ on_granules place (UnRealm rd root vmid) = plain_call (RealmDestroy (address pla
 on_granules place _ = []
 
 -- The host's actions for an event, given the realm and the REC that the event is about. The exits of the REC's run go
--- to the run page with the given number. An event is of one of the four kinds; a take has no actions.
+-- to the run page with the given number. At most one of the four lists has actions, and for a take none has.
 abbrev pub actions_of : Place → RealmAndRec → ℕ → Act → List HostAction
 actions_of place subject run act =
     on_granules place act

@@ -31,7 +31,8 @@ machine_after_calls limits rd act machine =
     machine_if_done (outcome_of limits.vmids limits.aux (used_vmids machine) act (option_map (seen machine) rd) (map (seen machine) (named act))) machine
 
 -- The machine after the operations of a list of events, in sequence; `None` if one is refused. The given world is the
--- one before the first event: it says which realm is a build's, and the machine is that of the RMM alone.
+-- one before the first event. The world before each event gives the RD of the event's realm. Apart from that, the
+-- machine is computed from the operations.
 abbrev pub machine_after_events : Limits → World → List Event → Machine → Option Machine
 machine_after_events limits world [] machine = Some machine
 machine_after_events limits world (event ∷ events) machine =

@@ -45,7 +45,8 @@ actions_for place host build run act = record { items = actions_of place (subjec
 -- ---- a command
 
 -- The values that the host would allocate for a command: the lowest free VMID, and the number of the next REC of the
--- build's realm. If there is none, the VMID is 1, and the number 0. The byte of a Peek is not known yet.
+-- build's realm. The VMID is 1 if none is free, and the number is 0 if there is no realm. The byte of a Peek is not
+-- known yet.
 abbrev pub allocated_before : HostView → ℕ → Allocated
 allocated_before host build = record {
   vmid = unwrap_or (lowest_vmid host) 1;

@@ -9,8 +9,8 @@ ghost use Rattle.history_calls.specs.Made.{LeadsToItsMachine};
 ghost use Rattle.history_calls.specs.Prepared.{IsPreparedAsAsked, IsRefusedAsAsked, IsDecidedBefore, IsUndoPrepared};
 
 /// Proves that the operations of a legal history, performed one by one on a fresh machine, lead to the machine of the
-/// history's world. Each operation is accepted. The operations are those of the project's profile: no theorem says this
-/// of the calls by registers that are made of them.
+/// history's world. Each operation is accepted. The operations are those of the project's profile. No theorem says this
+/// of the calls, with arguments in registers, that are derived from the operations.
 pub fn calls_lead_to_the_machine()
     ensures { (limits : Limits) (history : List Event) → LeadsToItsMachine limits history }
 {}

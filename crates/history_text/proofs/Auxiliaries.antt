@@ -9,7 +9,7 @@ pub few_with_auxiliaries : (granule number : ℕ) (ns : List ℕ) → length ns 
 few_with_auxiliaries granule number ns few h =
     (omega arith, small_from_maxima (granule ∷ number ∷ ns) (4095 ∷ 65535 ∷ replicate (length ns) 4095) h (omega arith, (omega arith, replicated_below (length ns) 4095 (omega arith))))
 
--- one number more below the same maximum
+-- if all numbers of a list and one more number are at most `m`, so are all numbers of the list with that one at its end
 pub at_most_more : (ns : List ℕ) (k n m : ℕ) → AreAtMost ns (replicate k m) → n ≤ m → AreAtMost (ns ++ n ∷ []) (replicate (suc k) m)
 at_most_more [] zero n m h low = (low, tt)
 at_most_more [] (suc k) n m h low = absurd h

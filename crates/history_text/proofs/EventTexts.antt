@@ -11,14 +11,14 @@ use Rattle.history_text.specs.Written.{act_text}
 use Rattle.history_text.specs.Events.{event_text, IsEventText}
 use Rattle.history_text.proofs.ActTexts.{text_from_act, act_from_text}
 
--- the digit of the build, a space, and the act
+-- the number of a build, which is below 8, is one digit in decimal
 pub digit_first : (build : ℕ) → build < 8 → decimal build ≡ (48 + build) ∷ []
 digit_first build below = decimal_digit build (omega arith)
 
 pub event_text-digit : (event : Event) → event.build < 8 → event_text event ≡ (48 + event.build) ∷ 32 ∷ act_text event.act
 event_text-digit event below = ap (λ t. t ++ 32 ∷ act_text event.act) (digit_first event.build below)
 
--- an event's text begins with the digit of a build and a space
+-- the text of an event is not empty
 pub not_empty : (text : List ℕ) (event : Event) → IsEventText text event → 0 < length text
 not_empty text event is =
     let whole : length text ≡ length ((48 + event.build) ∷ 32 ∷ act_text event.act) = ap length (is.is_written ∙ event_text-digit event is.build) in
@@ -29,7 +29,7 @@ space_next digit rest event is =
     let same : digit ∷ rest ≡ (48 + event.build) ∷ 32 ∷ act_text event.act = is.is_written ∙ event_text-digit event is.build in
     cc
 
--- so of such a text the digit and the act are known
+-- `digit` is the number of an event's build in decimal, and `act` is the text of its operation
 pub record Parts (digit : ℕ) (act : List ℕ) (event : Event) : Type 0 where
   pub begins : decimal event.build ≡ digit ∷ []
   pub act_is : act ≡ act_text event.act

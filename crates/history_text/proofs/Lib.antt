@@ -4,7 +4,7 @@ pub mod ActMeans
 pub mod RowsMake
 pub mod ActSpells
 pub mod ActTexts
--- lines
+-- the lines of a history
 pub mod EventTexts
 pub mod OpeningTexts
 pub mod Short

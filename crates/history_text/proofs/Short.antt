@@ -27,7 +27,7 @@ length-spelled (n ∷ ns) h =
     let joined : length (decimal n ++ spelled_numbers ns) ≡ length (decimal n) + length (spelled_numbers ns) = length-append (decimal n) (spelled_numbers ns) in
     omega (arith, field, more, joined)
 
--- at a word that is written out the test computes
+-- the word of an operation has at most 10 bytes
 short_word : (a : Act) → leb (length (written_act a).word) 10 ≡ true
 short_word (Rec g auxiliaries number) = refl
 short_word _ = refl

@@ -15,20 +15,22 @@ use Rattle.history_text.specs.Written.{order, granule, offset, ipa, width, level
 -- ---- rows with more than maxima
 
 module _ {A : Type 0} where
-  -- a realm: its RD, its starting tables, and a VMID
+  -- the value that `make` gives for the numbers of a realm, if they are in range: its RD, first starting table, IPA
+  -- width and VMID
   abbrev pub realm_row : (ℕ → Root → ℕ → A) → List ℕ → Option A
   realm_row make (rd ∷ first ∷ w ∷ vmid ∷ []) =
       if nat_le rd granule && nat_le first granule && nat_le w width && nat_le vmid u8
       then (if nat_le 39 w && nat_le 1 vmid then Some (make rd (record { first = first; width = w }) vmid) else None) else None
   realm_row make _ = None
 
-  -- a table: its granule, an IPA granule, and its level
+  -- the value that `make` gives for the numbers of a table, if they are in range: its granule, IPA granule and level
   abbrev pub table_row : (ℕ → ℕ → ℕ → A) → List ℕ → Option A
   table_row make (g ∷ i ∷ l ∷ []) =
       if nat_le g granule && nat_le i ipa && nat_le l level then (if nat_le 1 l then Some (make g i l) else None) else None
   table_row make _ = None
 
-  -- a REC: its granule, its number, and up to 16 auxiliary granules
+  -- the value that `make` gives for the numbers of a REC, if they are in range: its granule, its number, and up to 16
+  -- auxiliary granules
   abbrev pub rec_row : (ℕ → ArrayVec ℕ → ℕ → A) → List ℕ → Option A
   rec_row make (g ∷ number ∷ more) =
       if nat_le g granule && nat_le number u16 then option_map (λ auxiliaries. make g auxiliaries number) (up_to 16 granule more) else None

@@ -1,6 +1,6 @@
 -- The spelling of an operation: a word, and numbers in their ranges. Granules and IPA granules are spelled as their
--- numbers, and the starting tables of a realm as the first of them and its IPA width. A value that was allocated or
--- answered is last, but for the auxiliary granules of a REC, which are after its number.
+-- numbers, and the starting tables of a realm as the first of them and its IPA width. A value that the host allocated
+-- or read is last; only the number of a REC is followed by its auxiliary granules.
 use Rattle.std.specs.Prelude.{ℕ, ◌≤◌, List, [], ◌∷◌, codes, replicate}
 use Rattle.arrayvec.specs.ArrayVec.{array_vec_len}
 use Rattle.decimal_text.specs.Grammar.{spelled}

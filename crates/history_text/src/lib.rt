@@ -2,7 +2,7 @@
 //!
 //! A line is an event exactly when it is the event's own text (`specs/Events.antt`): the build, a word and its numbers,
 //! with nothing before or after. No two events have the same text, and the text of an event is read as the event.
-//! Whether a history is legal is for a host to say. Memory is taken for a written text alone.
+//! Whether a history is legal is for a host to say. Memory is taken only to write a text.
 #![tactic(auto)]
 
 mod act;

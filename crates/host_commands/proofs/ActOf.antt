@@ -30,7 +30,7 @@ pub none_left : (gs : List ℕ) → length gs ≡ 0 → gs ≡ []
 none_left [] e = refl
 none_left (g ∷ gs) e = absurd (omega arith)
 
--- starting tables that are found are those of their root
+-- if a test yields a root, the test holds, and the root is the given one
 pub root_at : (t : Bool) (root r : Root) → cond t (Some root) None ≡ Some r → (t ≡ true) × (root ≡ r)
 root_at true root r e = (refl, same_Some root r e)
 root_at false root r e = cc
@@ -60,12 +60,12 @@ no_granule _ [] allocated some none = refl
 
 -- ---- of the command
 
--- If an operation is of its command, so is any operation that equals it.
+-- if `IsOfCommand` holds for an operation, it holds for each operation equal to that one
 of_equal : (cmd : Cmd) (gs : List ℕ) (a act : Act) → a ≡ act → IsOfCommand cmd gs a → IsOfCommand cmd gs act
 of_equal cmd gs a act same is = subst (IsOfCommand cmd gs) same is
 
 module _ (allocated : Allocated) where
-  -- commands on one page
+  -- `IsOfCommand` holds for the operation of a Fill; the next lemmas say so of each other command that names one page
   fill : (page value : ℕ) (gs : List ℕ) (act : Act) → length gs ≡ 1 → act_of (Fill page value) gs allocated ≡ Some act → IsOfCommand (Fill page value) gs act
   unfolding act_of named is_reverse reverse_of room_taken needs_of
   fill page value [] act long e = cc
@@ -104,7 +104,7 @@ module _ (allocated : Allocated) where
       (record { command = refl; forward = refl; names = refl; paired = refl; room = refl })
   unknown page ipa (g ∷ h ∷ gs) act long e = absurd (omega arith)
 
-  -- commands on none
+  -- `IsOfCommand` holds for the operation of a Ripas; the next lemmas say so of each other command that names no page
   ripas : (ipa count : ℕ) (gs : List ℕ) (act : Act) → length gs ≡ 0 → act_of (Ripas ipa count) gs allocated ≡ Some act → IsOfCommand (Ripas ipa count) gs act
   unfolding act_of named is_reverse reverse_of room_taken needs_of
   ripas ipa count gs act long e =
@@ -132,7 +132,7 @@ module _ (allocated : Allocated) where
       of_equal (Poke number ipa offset value) gs (acts.Poke number ipa offset value) act (act_in_range (is_ipa ipa) (acts.Poke number ipa offset value) act e)
       (record { command = refl; forward = refl; names = sym (none_left gs long); paired = refl; room = refl })
 
-  -- commands on more
+  -- `IsOfCommand` holds for the operation of a Data; the next two lemmas say so of a Realm and a Rec
   data_of : (page ipa source : ℕ) (gs : List ℕ) (act : Act) → length gs ≡ 2 → act_of (Data page ipa source) gs allocated ≡ Some act → IsOfCommand (Data page ipa source) gs act
   unfolding act_of named is_reverse reverse_of room_taken needs_of
   data_of page ipa source [] act long e = cc

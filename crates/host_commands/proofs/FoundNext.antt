@@ -42,7 +42,8 @@ module _ (view : BuildsSummary) (build : ℕ) where
       ∙ checks_append (before ++ ps) qs
       ∙ first_stops (page_checks view build (before ++ ps)) (page_checks view build qs) refusal (one before had)
 
-  -- a page of a list is missing, and those before it are there
+  -- if the lookup finds the pages before an index and is refused at the page there, the lookup of the whole list is
+  -- refused likewise
   pub missing_at : (pages : List ℕ) (i page d : ℕ) (refusal : Refusal) (a b c : List ℕ) → i < length pages → page ≡ get_or pages i d
       → AreFoundNext view build (take i pages) a (Ok tt) b → AreFoundNext view build (page ∷ []) b (Err refusal) c → AreFoundNext view build pages a (Err refusal) c
   missing_at pages i page d refusal a b c within at one two =
@@ -51,7 +52,7 @@ module _ (view : BuildsSummary) (build : ℕ) where
       let two_missing : AreFoundNext view build (take i pages ++ page ∷ []) a (Err refusal) c = next_after (take i pages) (page ∷ []) a b c c (Err refusal) one two refl in
       subst (λ (ps : List ℕ). AreFoundNext view build ps a (Err refusal) c) whole (first_missing (take i pages ++ page ∷ []) (drop (i + 1) pages) refusal a c c two_missing)
 
-  -- all are there
+  -- if a lookup that begins with no granules succeeds, its result is the granules of all the pages
   pub all_found : (pages : List ℕ) (new : List ℕ) → AreFoundNext view build pages [] (Ok tt) new → AreGranulesOf view build pages new
   all_found pages new next = next.1 [] refl
 

@@ -74,7 +74,7 @@ no_place ipa level bad = by_both (level == 2) refl (level == 3) refl
 -- ---- commands
 
 module _ (allocated : Allocated) (rd : Seen) (wide : HasWidth rd) where
-  -- an IPA that is not protected, as the last input check
+  -- an input check that requires a protected IPA granule fails if the widest address space does not have that granule
   ipa_fails : (ipa : ℕ) (others : RealmRow → Bool) (rest : RealmRow → Outcome) → is_ipa ipa ≡ false
       → with_realm rd (λ realm. check (others realm && is_protected realm ipa) error_input (rest realm)) ≡ Err error_input
   ipa_fails ipa others rest bad = realm_fails rd (λ realm. check (others realm && is_protected realm ipa) error_input (rest realm)) (λ realm row.

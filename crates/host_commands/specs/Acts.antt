@@ -39,10 +39,10 @@ root_of width (first ∷ rest) =
 -- The operation, if any, that a command asks for, given the granules of its pages and the values that were allocated
 -- for it.
 --
--- There is no operation if a number of the command can be in none. That is an IPA granule outside the widest address
--- space, a level that no table has, a width that no realm has, or starting tables that are not adjacent. Each of these
--- fails an input check of the command. Input checks come before all others and have one answer, so the command is
--- refused with RMI_ERROR_INPUT, whatever else is wrong. RMM 1.0, RMI command conditions.
+-- A command with a number that no operation can have has no operation. That is an IPA granule outside the widest
+-- address space, a level that no table has, a width that no realm has, or starting tables that are not adjacent. Each
+-- of these fails an input check of the command. Input checks come before all others and have one answer, so the command
+-- is refused with RMI_ERROR_INPUT, whatever else is wrong. RMM 1.0, RMI command conditions.
 --
 -- A Take has no operation either: it is not a command of the RMM, and the store chooses its block.
 unfoldable pub act_of : Cmd → List ℕ → Allocated → Option Act

@@ -66,8 +66,8 @@ OutcomeIsOfAnyAllocation limits used cmd granules one other realm cells =
 abbrev pub HasWidth : Seen → Type 0
 HasWidth rd = (realm : RealmRow) → rd.cell.descriptor ≡ Some realm → is_width realm.root.width ≡ true
 
--- The command names no IPA granule, or the RMM refuses it with RMI_ERROR_INPUT, given this RD and these granules. Its
--- numbers are taken as they are written.
+-- The command names no IPA granule, or the RMM refuses it with RMI_ERROR_INPUT, given this RD and these granules. The
+-- command's numbers need not be in range.
 abbrev pub IsInputError : Cmd → Seen → List Seen → Type 0
 IsInputError (Rtt page ipa level) rd cells = on_one cells (λ g. rtt_create rd g ipa level) ≡ Err error_input
 IsInputError (Ripas ipa count) rd cells = rtt_init_ripas rd ipa count ≡ Err error_input

@@ -14,7 +14,8 @@ use Rattle.host_commands.specs.declared.needs.RealmRequirement.TheVariants.{Eith
 abbrev pub tables_named : ℕ → ℕ
 tables_named width = if is_width width then start_count width else 1
 
--- The pages that a command names, in the sequence in which they are written. Starting tables are named by the first.
+-- The pages that a command names, in the sequence in which they are written. A `realm` command names its starting
+-- tables by the first of them.
 unfoldable pub operands : Cmd → List ℕ
 operands (Take order) = []
 operands (Fill page value) = page ∷ []

@@ -6,7 +6,8 @@ use Rattle.host_commands.specs.declared.reply.Reply.{Reply}
 use Rattle.host_commands.specs.declared.reply.Reply.TheVariants.{Done, FirstPage, Byte, Vmid, Number}
 
 -- The reply to an operation of a build that had `pages` pages before the operation. To a Take it is the number of the
--- first new page, to a Peek the byte, to a Realm its VMID, and to a Rec its number. To any other it is that it is done.
+-- first new page, to a Peek the byte, to a Realm its VMID, and to a Rec its number. To any other operation it is
+-- `Done`.
 abbrev pub reply_of : ℕ → Act → Reply
 reply_of pages (Take order first) = FirstPage pages
 reply_of pages (Peek granule offset byte) = Byte byte

@@ -48,7 +48,8 @@ use Rattle.host_ledger.proofs.Totals.{length-le_rooms}
 use Rattle.host_ledger.proofs.VmidsFollow.{can_follow_vmids, vmids_are_after, same_range}
 use Rattle.host_ledger.proofs.Worlds.{world_is, world_of-replay}
 
--- a stack grows by no operation but one that has a reverse, so it still fits
+-- after an operation, a stack of at most 512 open operations still has at most 512, if it had fewer in case the
+-- operation has a reverse
 entries_fit_after : (stack : List Act) (act : Act) → length stack ≤ 512 → (is_paired act ≡ true → length stack < 512) → length (pushed stack act) ≤ 512
 unfolding pushed
 entries_fit_after stack act few room = at (is_paired act) room (is_reverse act)
@@ -62,7 +63,7 @@ rec_paired : (granule : ℕ) (aux : _) (number : ℕ) → is_paired (Rec granule
 unfolding reverse_of
 rec_paired granule aux number = refl
 
--- an operation that takes no room fits too
+-- an operation keeps the used room within the capacity, if it does so whenever it takes room
 room_fits : (used taken capacity : ℕ) → used ≤ capacity → (0 < taken → used + taken ≤ capacity) → used + taken ≤ capacity
 room_fits used zero capacity fits room = omega arith
 room_fits used (suc taken) capacity fits room = room (omega arith)

@@ -42,7 +42,7 @@ module _ (limits : Limits) (world next : World) (build : ℕ) (act : Act) (stepp
       subst (λ (leases : List (Option ℕ)). CanFollowHolders leases act) (sym same)
       (granules_inside build act world.leases (step_is limits world next (by build act) stepped).granules)
 
-  -- and the holders after it are the leases of the world after it
+  -- if the ledger's holders are the leases before the operation, their update gives the leases after the operation
   pub leases_follow : (holders : List (Option ℕ)) → holders ≡ world.leases → leases_after build act holders ≡ next.leases
   leases_follow holders same =
       ap (leases_after build act) same

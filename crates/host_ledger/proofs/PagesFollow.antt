@@ -19,7 +19,7 @@ use Rattle.std.proofs.lemmas.List.Elements.{All-tail}
 length-block : (order first : ℕ) → length (block order first) ≡ 2 ^ order
 length-block order first = length-range_with_len first (2 ^ order)
 
--- the pages that are left if a block is removed from the end
+-- if a list of pages ends with a block, the pages before the block are the list without its last 2^order pages
 untaken : (pages left : List ℕ) (order first : ℕ) → pages ≡ left ++ block order first → left ≡ take (length pages - 2 ^ order) pages
 untaken pages left order first e =
     let long : length pages ≡ length left + 2 ^ order = ap length e ∙ length-append left (block order first) ∙ ap (λ n. length left + n) (length-block order first) in
@@ -33,14 +33,14 @@ pages_follow build history (UnTake order first) turn =
     untaken (pages_of build history) _ order first (pages_of-untake build history order first turn)
 pages_follow build history act turn = pages_of-same build history act refl turn
 
--- a block whose pages lie below a number ends there at most
+-- a block whose pages are all below a number ends at or below that number
 block_below : (order first most : ℕ) → All (λ page. page < most) (block order first) → first + 2 ^ order ≤ most
 block_below order first most all =
     let some : 0 < 2 ^ order = pow_pos order in
     let last = of_all_range (λ page. page < most) first (2 ^ order) all (first + 2 ^ order - 1) (omega arith) (omega arith) in
     omega arith
 
--- what holds of each page of two lists holds of the second
+-- if all pages of two joined lists are below a number, so are those of the second list
 later_pages : (most : ℕ) (xs ys : List ℕ) → All (λ page. page < most) (xs ++ ys) → All (λ page. page < most) ys
 later_pages most [] ys all = all
 later_pages most (x ∷ xs) ys all = later_pages most xs ys (All-tail (λ page. page < most) x (xs ++ ys) all)

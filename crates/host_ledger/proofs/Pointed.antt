@@ -36,14 +36,15 @@ module _ (builds : List Build) (leases : Stacks) (holders : List (Option ℕ)) (
   mark_there : build < length host.marks
   mark_there = subst (λ n. build < n) (sym (length-map builds (λ (b : Build). b.mark))) there
 
-  -- the flag that an abort sets, and the mark that is kept, are the ones read
+  -- after an abort begins, the flag of its build is set exactly if the build has anything open
   pub flag_begun : is_aborting (begun now build) build ≡ nat_lt 0 (length (open_of now build))
   flag_begun = get_or-set_same now.aborting build (nat_lt 0 (length (open_of now build))) false (subst (λ (h : HostView). build < length h.aborting) view_is abort_there)
 
+  -- a mark that is kept for the build is the one that is read back
   pub mark_told : (mark : Mark) → mark_of (with_mark now build mark) build ≡ Some mark
   mark_told mark = get_or-set_same now.marks build (Some mark) None (subst (λ (h : HostView). build < length h.marks) view_is mark_there)
 
-  -- the place of a mark in the history is small
+  -- the history has at most 131,072 events
   pub place_fits : length events.items ≤ 131072
   place_fits =
       let total = length-le_rooms (length builds) capacity events.items kept.of_builds
@@ -59,10 +60,11 @@ module _ (builds : List Build) (leases : Stacks) (holders : List (Option ℕ)) (
     stands : slice_get builds build ≡ Some old
     stands = slice_get-get_or builds build old there ∙ ap Some (ap (λ n. get_or builds n old) (sym number_is) ∙ sym read)
 
-    -- the flag and the mark of the build before
+    -- the record of the build has the abort flag that the host has for the build
     aborting_was : old.aborting ≡ is_aborting host build
     aborting_was = said_of (λ (b : Build). b.aborting) builds build old false stands
 
+    -- the record of the build has the mark that the host has for the build
     mark_was : old.mark ≡ mark_of host build
     mark_was = said_of (λ (b : Build). b.mark) builds build old None stands
 
@@ -79,7 +81,7 @@ module _ (builds : List Build) (leases : Stacks) (holders : List (Option ℕ)) (
             ap length (kept.builds_are build old stands).journal ∙ ap (λ (h : HostView). length (open_of h build)) view_is in
             absurd (omega (arith, none, some, same))
 
-    -- no fewer acts are open than at its mark
+    -- the build's mark is kept, since no fewer operations are open than at the mark
     pub low : mark_while (length old.journal) (mark_of now build) ≡ mark_of now build
     low = at (mark_of now build) refl
       where

@@ -22,7 +22,7 @@ pub few_now : (build : ℕ) (history : List Event) → ((n : ℕ) → length (op
 few_now build history few =
     subst (λ (es : List Event). length (open_entries build es) ≤ 512) (take_all (length history) history (omega arith)) (few (length history))
 
--- and at any time up to one more event, if so many are open after that event
+-- if at most 512 operations were open at any time, and after one more event, that holds at any time up to that event
 pub few_later : (build : ℕ) (history : List Event) (event : Event) → ((n : ℕ) → length (open_entries build (take n history)) ≤ 512)
     → length (open_entries build (history ++ event ∷ [])) ≤ 512 → (n : ℕ) → length (open_entries build (take n (history ++ event ∷ []))) ≤ 512
 few_later build history event few last n = at (nat_lt (length history) n) refl
@@ -38,7 +38,7 @@ few_later build history event few last n = at (nat_lt (length history) n) refl
 
 -- ---- marks
 
--- a mark that is still kept was kept before, and no fewer acts are open than at it
+-- a mark that is still kept was kept before, and no fewer operations are open than at the mark
 kept_still : (opened : ℕ) (was : Option Mark) (mark : Mark) → mark_while opened was ≡ Some mark → (was ≡ Some mark) × (mark.length ≤ opened)
 kept_still opened None mark is = absurd (let none : None ≡ Some mark = is in cc)
 kept_still opened (Some old) mark is = at (nat_le old.length opened) refl
@@ -99,7 +99,7 @@ module _ (host : HostView) (build : ℕ) (act : Act) (abort_there : build < leng
         };
   }
 
-  -- what holds of the abort and the mark of a build holds of them after an event
+  -- the conditions on the abort and the mark of a build still hold after an event
   pub points_follow : (number : ℕ) → PointsHold host number → PointsHold new number
   points_follow number hold = ⊎_elim
       (λ same. subst (PointsHold new) (sym same) (own_points (subst (PointsHold host) same hold)))

@@ -63,7 +63,7 @@ module _ (host : HostView) (builds : List Build) (leases : Stacks) (holders : Li
   realm_past build past =
       no_realm host.limits host.history world kept.legal (world_is host kept.legal) build (none_open build host.history (no_acts build past))
 
-  -- a build that does not exist has used no room
+  -- `HasRoom` holds for each build number, also for that of a build that does not exist
   pub has_room : (build : ℕ) → HasRoom host build
   has_room build = at (nat_lt build host.limits.builds) refl
     where
@@ -82,7 +82,7 @@ module _ (host : HostView) (builds : List Build) (leases : Stacks) (holders : Li
                 (All-take (λ (e : Event). e.build < host.limits.builds) n host.history kept.of_builds) past)) in omega (arith, early);
           }
 
-  -- and neither abort nor mark
+  -- `PointsHold` holds for each build number, also for that of a build that does not exist
   pub points_hold : (build : ℕ) → length host.aborting ≡ host.limits.builds → length host.marks ≡ host.limits.builds → PointsHold host build
   points_hold build aborts marks = at (nat_lt build host.limits.builds) refl
     where
@@ -95,7 +95,7 @@ module _ (host : HostView) (builds : List Build) (leases : Stacks) (holders : Li
             marked = λ mark marked_now. absurd (let not = no_mark host build marks past in cc);
           }
 
-  -- a page lies inside the machine
+  -- each page of a build is a granule of the machine
   pub page_inside : (build page : ℕ) → IfSome (granule_of_page host build page) (λ granule. granule < host.limits.pages)
   page_inside build page = if_some (granule_of_page host build page) (λ granule. granule < host.limits.pages) (λ granule there.
       let pages = pages_are_leased host.limits build host.history world kept.legal (world_is host kept.legal) in
@@ -103,7 +103,7 @@ module _ (host : HostView) (builds : List Build) (leases : Stacks) (holders : Li
       subst (λ n. n < host.limits.pages) (get_or_from_slice_get (pages_of build host.history) page granule 0 there)
       (All-get_or (λ n. n < host.limits.pages) (pages_of build host.history) page 0 within pages.inside))
 
-  -- and so does an RD
+  -- the RD of each build's realm is a granule of the machine
   pub rd_inside : (build : ℕ) → IfSome (rd_of build world) (λ rd. rd < host.limits.pages)
   rd_inside build = at (realm_of build world) (IsHeld-realm_of build world)
     where

@@ -40,7 +40,7 @@ few_recs (_ ∷ acts) = let rest = few_recs acts in omega arith
 
 -- ---- numbers that rise
 
--- one more REC, at the end
+-- a list of RECs with one more REC at its end
 module _ (recs : List (ℕ × ℕ)) (number granule : ℕ) where
   abbrev more : List (ℕ × ℕ)
   more = recs ++ (number, granule) ∷ []
@@ -54,13 +54,13 @@ module _ (recs : List (ℕ × ℕ)) (number granule : ℕ) where
   last : (i : ℕ) → i ≡ length recs + 0 → number_at more i ≡ number
   last i place = ap (number_at more) place ∙ ap (λ (r : ℕ × ℕ). r.0) (get_or-append-add recs ((number, granule) ∷ []) 0 (0, 0))
 
-  -- its number is above the others
+  -- if the numbers of the longer list rise, that of the added REC is above all others
   pub above_others : IsRising more → IsAbove recs number
   above_others rising i inside =
       let less = rising i (length recs) inside (let more = long in omega (arith, more)) in
       omega (arith, less, before i inside, last (length recs) (omega arith))
 
-  -- and if it is, the numbers still rise
+  -- if the numbers of a list rise, and that of the added REC is above them, the numbers of the longer list rise
   pub rising_with : IsRising recs → IsAbove recs number → IsRising more
   rising_with rising above i j less inside =
       ⊎_elim

@@ -15,13 +15,13 @@ get_or-of f [] place x d inside is = absurd (omega arith)
 get_or-of f (y ∷ ys) zero x d inside is = ap f is
 get_or-of f (y ∷ ys) (suc place) x d inside is = get_or-of f ys place x d (omega arith) is
 
--- the same for the element that a lookup finds
+-- if a lookup finds an element at an index, the mapped list has the function's value for that element there
 pub said_of : {X Y : Type 0} (f : X → Y) (xs : List X) (place : ℕ) (x : X) (d : Y) → slice_get xs place ≡ Some x → f x ≡ get_or (map f xs) place d
 said_of f xs place x d there = get_or-of f xs place x d (slice_get_within xs place x there) (sym (get_or_from_slice_get xs place x x there))
 
 -- ---- VMIDs
 
--- the first number of which a test holds
+-- a search of a range finds a number of the range that passes the test, if no lower number passes it
 find_lowest : (test : ℕ → Bool) (first count k : ℕ) → first ≤ k → k < first + count → test k ≡ true → ((other : ℕ) → other < k → test other ≡ false)
     → find test (range_with_len first count) ≡ Some k
 find_lowest test first zero k low high is lower = absurd (omega arith)
@@ -58,7 +58,7 @@ module _ (host : HostView) (vmids : Vmids) (range : vmids.vmids ≡ host.limits.
   pub none_is : ((vmid : ℕ) → is_free vmids vmid ≡ false) → None ≡ lowest_vmid host
   none_is none = sym (find_none (is_vmid_free host) 1 host.limits.vmids (λ vmid. sym (same_free vmid) ∙ none vmid))
 
-  -- so is the VMID that the pool returns
+  -- the pool returns the lowest VMID that no realm has, or none if there is none
   pub told_is : (told : Option ℕ) → IfSome told (IsLowestFree vmids) → IfNone told ((vmid : ℕ) → is_free vmids vmid ≡ false) → told ≡ lowest_vmid host
   told_is None lowest none = none_is none
   told_is (Some vmid) lowest none = lowest_is vmid lowest

@@ -14,7 +14,7 @@ world_is host legal = there (replay host.limits host.history) legal.steps
     there None h = cc
     there (Some w) h = refl
 
--- and that is the world of its replay
+-- if the replay of a host's history gives a world, it is the world of the host
 pub world_of-replay : (host : HostView) (world : World) → replay host.limits host.history ≡ Some world → world_of host ≡ world
 unfolding world_of
 world_of-replay host world e = ap (λ o. unwrap_or o (opening host.limits)) e

@@ -149,7 +149,8 @@ impl HostLedger {
 
     /// Returns the events recorded so far, which form a legal history. No build has used more than its room in it, or
     /// had more than 512 operations open at any time. A build in abort has something open, and each mark is one that
-    /// its build can go back to. Each build can be left out of the history.
+    /// its build can go back to. Without a build's events, the history is legal too, and leads to the world without
+    /// that build.
     pub fn history(&self) -> &[Event]
         ensures events { result.now ≡ self.now.history }
         ensures legal { IsLegal self.now.limits self.now.history }

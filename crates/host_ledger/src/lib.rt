@@ -1,6 +1,6 @@
 //! The ledger of a host: its history, and values derived from the history.
 //!
-//! Contracts see of a ledger what they see of a host: limits, room, history, aborts, marks. All other values are
+//! Contracts see a ledger as they see a host: by its limits, room, history, abort flags and marks. All other values are
 //! functions of these. For each build they are its open operations, its pages, its realm's RD, its RECs by number, and
 //! how many of them run. For the machine they are the build that leases each granule, and the VMIDs in use. Each
 //! recorded event is a step of the world that the history leads to, so the history is legal. Memory is taken by `build`

@@ -9,7 +9,8 @@ use std::alloc::{AllocError, Global};
 use std::marker::Model;
 
 /// The RECs of a realm, each with its number and its granule. Their numbers rise, so a binary search finds one. All
-/// memory is taken when the list is built: each REC is that of an open operation.
+/// memory is taken when the list is built, since each REC is that of an open operation, of which a build has at most
+/// 512.
 #[derive(Drop)]
 pub(crate) struct Recs {
     entries: Vec<(RecNo, Gran)>,

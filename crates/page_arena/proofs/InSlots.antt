@@ -23,7 +23,7 @@ owners_all [] = omega arith
 owners_all (zero ∷ slots) = let le = owners_all slots in omega arith
 owners_all (suc k ∷ slots) = let le = owners_all slots in omega arith
 
--- if a page has no slot of its own, fewer pages have one than there are
+-- if some page has no slot of its own, the pages that have one are fewer than all pages
 owners_room : (slots : List ℕ) (i : ℕ) → i < length slots → get_or slots i 0 ≡ 0 → owners slots < length slots
 unfolding owners
 owners_room [] i lt e = absurd (omega arith)
@@ -65,7 +65,7 @@ module _ (slots : List ℕ) (used : ℕ) (was : IsSlots slots used) (i : ℕ) (l
   there : (page : ℕ) → page ≢ i → get_or (set slots i used) page 0 ≡ get_or slots page 0
   there page ne = get_or-set_other slots i page used 0 ne
 
-  -- a page gets the next slot
+  -- if a page without a slot of its own gets the slot numbered `used`, the first `used + 1` slots are in use
   pub one_owner_more : IsSlots (set slots i used) (used + 1)
   one_owner_more =
       let long = length-set slots i used in let pos : 1 ≤ used = (let counted = was.counted in omega arith) in
@@ -121,7 +121,7 @@ module _ (items : List (List ℕ)) (slots : List ℕ) (used : ℕ) (are : IsSlot
   pub slot_inside : slot < length items
   slot_inside = let less = are.below i lt in omega arith
 
-  -- a page is written in its own slot
+  -- a write to a page's own slot changes that page alone
   written_own : 1 ≤ slot → pages_in (set items slot page) slots ≡ set (pages_in items slots) i page
   written_own own =
       let n = length-pages_in items slots in let m = length-set (pages_in items slots) i page in let inside = slot_inside in
@@ -138,7 +138,7 @@ module _ (items : List (List ℕ)) (slots : List ℕ) (used : ℕ) (are : IsSlot
   pub page_written : (own : ℕ) (now : List (List ℕ)) → own ≡ slot → 1 ≤ own → now ≡ set items own page → pages_in now slots ≡ set (pages_in items slots) i page
   page_written own now e pos is = ap (λ (ps : List (List ℕ)). pages_in ps slots) (is ∙ ap (λ (k : ℕ). set items k page) e) ∙ written_own (omega arith)
 
-  -- a page is written that had no slot of its own
+  -- adding a slot with a page's new bytes, and giving the page that slot, changes that page alone
   placed_next : pages_in (items ++ page ∷ []) (set slots i used) ≡ set (pages_in items slots) i page
   placed_next =
       let n = length-pages_in items slots in let m = length-set (pages_in items slots) i page in let long = length-set slots i used in
@@ -158,14 +158,14 @@ module _ (items : List (List ℕ)) (slots : List ℕ) (used : ℕ) (are : IsSlot
   pub page_placed : (now : List (List ℕ)) (owned : List ℕ) → now ≡ put_at items used page → owned ≡ set slots i used → pages_in now owned ≡ set (pages_in items slots) i page
   page_placed now owned is e = (λ k. pages_in ((is ∙ sym (put_last items used page mark)) k) (e k)) ∙ placed_next
 
--- a page that was never written is zero
+-- clearing a page that shares slot 0 leaves the pages as they are, since slot 0 has zeros
 pub page_shared : (items : List (List ℕ)) (slots : List ℕ) (i : ℕ) → get_or items 0 zero_page ≡ zero_page → i < length slots → get_or slots i 0 ≡ 0
     → set (pages_in items slots) i zero_page ≡ pages_in items slots
 page_shared items slots i zeros lt none =
     let it : get_or (pages_in items slots) i zero_page ≡ zero_page = page_in items slots i zero_page lt ∙ ap (λ (k : ℕ). get_or items k zero_page) none ∙ zeros in
     ap (set (pages_in items slots) i) (sym it) ∙ set-get_or (pages_in items slots) i zero_page
 
--- one page more of a run is cleared
+-- clearing the page after a run of cleared pages makes the run longer by one page
 pub run_more : (pages : List (List ℕ)) (first i : ℕ) → first ≤ i → i < length pages
     → set (with_run pages first (i - first) zero_page) i zero_page ≡ with_run pages first (i + 1 - first) zero_page
 run_more pages first i low lt =

@@ -35,7 +35,7 @@ module _ (flags : List Bool) (order : ℕ) where
         ap (is_free flags) (sym (get_or-range_with_len first (2 ^ order) (granule - first) 0 less ∙ here))
         ∙ AllPass-from_list_all (is_free flags) run all (granule - first) 0 inside
 
-    -- if the test is true, a free block begins there
+    -- if `begins_free_block` is true of a granule, a free block begins at that granule
     pub block_from_test : begins_free_block flags order first ≡ true → IsFreeBlock flags order first
     unfolding begins_free_block
     block_from_test is =
@@ -80,7 +80,7 @@ module _ (flags : List Bool) (order : ℕ) where
       (λ k lt. none_at k (omega arith) (lowest k lt))
       ∙ ap Some read
 
--- a number below 4096 is that of a granule
+-- the range check of a granule number passes for each number below 4096
 pub granule_at : (n : ℕ) → n < 4096 → (if nat_lt n 4096 && nat_lt n 4096 then Some n else None) ≡ Some n
 granule_at n low = cond-true (nat_lt n 4096 && nat_lt n 4096) (Some n) None (both_true (lt-ltb n 4096 low) (lt-ltb n 4096 low))
 

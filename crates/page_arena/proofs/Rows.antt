@@ -46,7 +46,7 @@ use Rattle.page_arena.specs.contracts.row.Start as start
 use Rattle.page_arena.proofs.row.Start.TheLaws as start_laws
 use Rattle.page_arena.proofs.row.Row.TheLaws as row_laws
 
--- the item at an index, whatever the default is for one past the end
+-- the item at an index, with the fact that a lookup there finds it, whatever the default of the lookup is
 pub found : {X : Type 0} (xs : List X) (i : ℕ) → i < length xs → (x : X) × ((d : X) → get_or xs i d ≡ x)
 found [] i lt = absurd (omega arith)
 found (x ∷ xs) zero lt = (x, λ d. refl)
@@ -92,7 +92,7 @@ module _ (E : El) {M : Type 1} {𝓤 : Ura M} (𝓛 : Logic 𝓤) where
   null_owns t n xs =
       fst∗ 𝓤 (never 𝓤) (sem 𝓛 (fsep (room_for (array_of (R E) (n - length xs)) (null_ptr +ₚ length xs * sz E)) (t (array_of (R E) n) null_ptr)))
 
-  -- one item of a row that is borrowed by a `&`
+  -- the shared borrow of a list of items includes the shared borrow of each item
   pub shows_one : (κ : Lft) (b : ℕ) (xs : List (el_x E)) (o i : ℕ) (d : el_x E) → i < length xs
       → ent 𝓤 (sem 𝓛 (each_shared xs (shared_of (R E)) (sz E) b o κ)) (sem 𝓛 (shared_of (R E) (get_or xs i d) b (i * sz E + o) κ))
   shows_one κ b [] o i d lt = absurd (omega arith)
@@ -132,7 +132,7 @@ module _ (E : El) {M : Type 1} {𝓤 : Ura M} (𝓛 : Logic 𝓤) (t : Ty → Pt
   abbrev pub one : ℕ → el_x E → Fml
   one i x = part_at (R E) full_share x b (at i)
 
-  -- a list of as many items
+  -- the ownership of as many other items, and of the unused memory after them, is that of a row with those items
   same_many : (xs ys : List (el_x E)) → length ys ≡ length xs → ent 𝓤 (sep 𝓤 (sem 𝓛 (part_at (Array (R E) (length xs)) full_share ys b o)) (sem 𝓛 (Behind (length xs)))) (sem 𝓛 (All ys))
   same_many xs ys e =
       qed 𝓛 (‵ (part_at (Array (R E) (length xs)) full_share ys b o) ∷ ‵ (Behind (length xs)) ∷ []) ∵
@@ -154,8 +154,8 @@ module _ (E : El) {M : Type 1} {𝓤 : Ura M} (𝓛 : Logic 𝓤) (t : Ty → Pt
         use2 𝓛 (‵ (part_at (Array (R E) (length xs)) full_share (set xs i y) b o)) (put_in E 𝓛 (length xs) xs i y b o lt refl) $
         by ! (same_many xs (set xs i y) (length-set xs i y))
 
-  -- two items, one to read and one to write: what is owned besides them, and the whole row again, with another second
-  -- item
+  -- Two items of a row, one to read and one to write. The fields are what is owned besides them, and the proofs that
+  -- both can be taken out of the row, and put back with the second replaced.
   pub record Pair (xs : List (el_x E)) (i j : ℕ) : Type 1 where
     pub besides : Fml
     pub out : (d : el_x E) → ent 𝓤 (sem 𝓛 (All xs)) (sep 𝓤 (sem 𝓛 (one i (get_or xs i d))) (sep 𝓤 (sem 𝓛 (one j (get_or xs j d))) (sem 𝓛 besides)))
@@ -202,7 +202,8 @@ module _ (E : El) {M : Type 1} {𝓤 : Ura M} (𝓛 : Logic 𝓤) (t : Ty → Pt
   pub pair : (xs : List (el_x E)) (i j : ℕ) → i < length xs → j < length xs → i ≢ j → Pair xs i j
   pair xs i j i_in j_in other = elim (cases_lt i j) [ inl lt ↦ reads_first xs i j lt j_in | inr le ↦ reads_second xs i j (omega (arith, le, other)) i_in ]
 
-  -- an index that can be written: what is owned besides its memory, and the whole row again, with an item there
+  -- An index of a row that can be written. The fields are what is owned besides the memory there, and the proofs that
+  -- this memory can be taken out, and put back with an item in it.
   pub record Place (xs : List (el_x E)) (i : ℕ) : Type 1 where
     pub besides : Fml
     pub out : ent 𝓤 (sem 𝓛 (All xs)) (sep 𝓤 (sem 𝓛 (froom (elτ E) b (at i))) (sem 𝓛 besides))
@@ -245,13 +246,13 @@ module _ (E : El) {M : Type 1} {𝓤 : Ura M} (𝓛 : Logic 𝓤) (t : Ty → Pt
       rewrite ! 0 (λ (k : ℕ). ‵ (froom (array_of (R E) room) b k)) none refl $ rewrite ! 0 (λ (k : ℕ). ‵ (froom (array_of (R E) k) b (o + 0 * sz E))) whole refl $ fjoin ! $
       use0 𝓛 (‵ (Items [])) (empty E 𝓛 [] b o refl) $ fjoin ! $ done !
 
-  -- the memory of the whole row, without its items
+  -- the ownership of a row becomes that of its whole memory without the items, with the right to free it
   pub all_room : (xs : List (el_x E)) → length xs ≤ room → ent 𝓤 (sem 𝓛 (All xs)) (sep 𝓤 (sem 𝓛 (froom (ty_array (elτ E) room) b o)) (sem 𝓛 (t (array_of (R E) room) (block_ptr b o))))
   all_room xs le =
       qed 𝓛 (‵ (All xs) ∷ []) ∵ fsplit ! $ move ! (1 ∷ []) $ fsplit ! $ as_written ! (ty_array (elτ E) (room - length xs)) b (o + length xs * sz E) $ move ! (2 ∷ 0 ∷ []) $
       use2 𝓛 (‵ (froom (ty_array (elτ E) room) b o)) (arr_room E 𝓛 b o (length xs) room xs le) $ done !
 
--- the row of a `&mut`, with other items
+-- a row borrowed by a `&mut`, after other items are put into it
 module _ (E : El) {M : Type 1} {𝓤 : Ura M} (𝓛 : Logic 𝓤) (row : (Owner E).Denot) (rb ro : ℕ) (us : List Val) (b o : ℕ) (e : row.at ≡ block_ptr b o) where
   pub closed : (xs : List (el_x E))
       → ent 𝓤 (sep 𝓤 (sem 𝓛 (All E 𝓛 (right E row.alloc) b o row.room xs)) (sem 𝓛 (fsep (Mark E row us) (cell_at full_share (Owner E).mir us rb ro))))

@@ -28,7 +28,7 @@ module _ (pages : List (List ℕ)) (flags : List Bool) (sized : IsSized pages fl
   pub length-page_at : (granule : ℕ) → granule < length pages → length (page_at pages granule) ≡ 4096
   length-page_at granule inside = sized.whole granule [] inside
 
-  -- still sized if a page is replaced by one of 4,096 bytes
+  -- `IsSized` still holds after a page is replaced by one of 4,096 bytes
   pub IsSized-set : (granule : ℕ) (page : List ℕ) → length page ≡ 4096 → IsSized (set pages granule page) flags
   IsSized-set granule page whole =
       let len = length-set pages granule page in
@@ -42,7 +42,7 @@ module _ (pages : List (List ℕ)) (flags : List Bool) (sized : IsSized pages fl
         flagged = omega arith;
       }
 
-  -- sized after flags are set
+  -- `IsSized` still holds after flags are set
   pub IsSized-flags : (first count : ℕ) (flag : Bool) → first + count ≤ length flags → IsSized pages (with_run flags first count flag)
   IsSized-flags first count flag fits =
       record {
@@ -52,7 +52,7 @@ module _ (pages : List (List ℕ)) (flags : List Bool) (sized : IsSized pages fl
         flagged = length-with_run flags first count flag fits ∙ sized.flagged;
       }
 
-  -- sized after a run of pages is cleared and its flags are set
+  -- `IsSized` still holds after a run of pages is cleared and its flags are set
   pub IsSized-with_run : (first count : ℕ) (flag : Bool) → first + count ≤ length flags → IsSized (with_run pages first count zero_page) (with_run flags first count flag)
   IsSized-with_run first count flag fits =
       let flagged = sized.flagged in

@@ -63,13 +63,13 @@ apart i j other = ⊎_elim (λ l. inl (omega arith)) (λ l. inr (omega arith)) (
 -- ---- a word written into a page
 
 module _ (page : List ℕ) (i word : ℕ) (whole : length page ≡ 4096) (index : i < 512) where
-  -- the word that was written
+  -- after a word is written into a page, the word at its index is the one that was written
   pub word_of_page-page_with_word_same : word < 2 ^ 64 → word_of_page (page_with_word page i word) i ≡ word
   unfolding word_of_page page_with_word
   word_of_page-page_with_word_same fits =
       ap (from_le_bytes w64) (range_written page (to_le_bytes w64 word) (8 * i) refl (omega arith)) ∙ from_le_bytes-to_le_bytes_8 word fits
 
-  -- another word
+  -- every other word of the page is as before
   pub word_of_page-page_with_word_other : (j : ℕ) → j ≢ i → j < 512 → word_of_page (page_with_word page i word) j ≡ word_of_page page j
   unfolding word_of_page page_with_word
   word_of_page-page_with_word_other j other lt =
@@ -92,7 +92,7 @@ module _ (pages : List (List ℕ)) (granule i word : ℕ) (inside : granule < le
   new_page : page_at (with_word pages granule i word) granule ≡ page_with_word (page_at pages granule) i word
   new_page = get_or-set_same pages granule _ [] inside
 
-  -- the word that was written
+  -- after a word is written into a granule's page, the word at its index is the one that was written
   pub word_at-with_word_same : word < 2 ^ 64 → word_at (with_word pages granule i word) granule i ≡ word
   word_at-with_word_same fits =
       ap (λ page. word_of_page page i) new_page ∙ word_of_page-page_with_word_same (page_at pages granule) i word whole index fits

@@ -1,7 +1,7 @@
 //! Stores of pages: the memory of granules, and the set of free granules.
 //!
 //! Any store is seen as a list of pages of 4,096 bytes and a flag for each page. A block of pages is taken, written and
-//! read, and given back cleared. No call but `build` takes memory. The crates above are proved once for any
+//! read, and given back cleared. No call but `build` takes memory. The crates that use a store are proved once, for any
 //! `PageStore`. A store requires of its caller that pages are taken before they are written or given back.
 //!
 //! `RawPages` are the pages of a machine in one allocation. A page that was never written costs nothing: all such pages

@@ -1,5 +1,5 @@
--- Lemmas on lists of findings: after sorting, or after an error is added to errors, all are still errors, or all
--- warnings, with spans inside the text.
+-- Lemmas about lists of findings. Sorted errors are still errors, and sorted warnings still warnings, with spans inside
+-- the text. Errors to which an error is added are still errors.
 use Rattle.std.proofs.Common.{List, [], ◌∷◌, ◌++◌, ◌≡◌, ℕ, length, ap, sym, ◌∙◌, subst}
 use Rattle.std.specs.Prelude.{All, Any, Ok, Err, Some, None, Result}
 use Rattle.std.specs.List.Sorted.{IsPermutation, IsNonDecreasingBy}
@@ -29,14 +29,14 @@ is_error : (fault : PlanFault) (severity : Severity) → IsErrorOf fault severit
 is_error fault (Error first also) is = tt
 is_error fault Warning is = absurd is
 
--- errors, and one of this fault
+-- if an error with the given fault is added to a list of errors, all are errors, and at least one has that fault
 pub errors_pushed : (fault : PlanFault) (xs ys : List Finding) (f : Finding) → ys ≡ xs ++ f ∷ [] → All (λ x. IsError x.severity) xs → IsErrorOf fault f.severity → AreErrors fault ys
 errors_pushed fault xs ys f pushed errors is =
     let all = All-push (λ (x : Finding). IsError x.severity) xs f errors (is_error fault f.severity is) in
     let one = Any-push (λ (x : Finding). IsErrorOf fault x.severity) xs f is in
     subst (λ (zs : List Finding). AreErrors fault zs) (sym pushed) (record { errors = all; told = one })
 
--- one more inside of a text
+-- if a finding with its span inside the text is added to findings that have theirs there, all have their spans there
 pub inside_pushed : (end : ℕ) (xs ys : List Finding) (f : Finding) → ys ≡ xs ++ f ∷ [] → AreInside end xs → IsStretchIn end f → AreInside end ys
 inside_pushed end xs ys f pushed are is = subst (λ (zs : List Finding). AreInside end zs) (sym pushed) (All-push (IsStretchIn end) xs f are is)
 

@@ -34,7 +34,7 @@ pub is_some-size_in : (read : Result Plan PlanFault) → is_some (size_in read) 
 is_some-size_in (Ok plan) = refl
 is_some-size_in (Err fault) = refl
 
--- the text of a finding, by its parts
+-- the first line, the excerpt and the notes of a finding, appended one after the other, are the text of the finding
 pub finding_by_parts : (source : List ℕ) (f : Finding) (line column : ℕ) (excerpt old one two new : List ℕ)
     → IsExcerpt excerpt
     → one ≡ old ++ head_line source line column f
@@ -51,7 +51,7 @@ finding_by_parts source f line column excerpt old one two new is_excerpt first s
           ∙ ap (λ (t : List ℕ). t ++ (excerpt ++ notes)) first ∙ append_assoc old head (excerpt ++ notes);
     }
 
--- a report, by its parts
+-- `IsReport` holds of a report that has the texts of all findings, then the text of the size, and the right `is_plan`
 pub report_by_parts : (source bytes : List ℕ) (report : LintReport) (judged : Judged) (empty between : List ℕ)
     → IsJudged bytes judged
     → report.is_plan ≡ is_some judged.size

@@ -21,7 +21,7 @@ abbrev pub caret_line : ℕ → ℕ → List ℕ
 caret_line before count = replicate before 32 ++ (replicate count 94 ++ 10 ∷ [])
 
 -- An excerpt: some bytes as one line of text, and below it a caret for each marked character, or one caret if none is
--- marked. Which bytes these are, and which are marked, is in no definition.
+-- marked. No definition says which bytes these are, or which characters are marked.
 pub record IsExcerpt (text : List ℕ) : Type 0 where
   pub front : List ℕ
   pub back : List ℕ

@@ -8,7 +8,7 @@ use Rattle.plan_lint.specs.declared.finding.Finding.{Finding}
 use Rattle.plan_lint.specs.declared.report.LintReport.{LintReport}
 
 -- The report states correctly whether the bytes are a plan; its text has findings on them, followed by the plan's size
--- if they are a plan. Which findings these are beyond `AreFindings`, and their places, are tested.
+-- if they are a plan. Beyond `AreFindings`, the choice of the findings is only tested, and so are their positions.
 pub record IsReport (source bytes : List ℕ) (report : LintReport) : Type 0 where
   pub is_plan : report.is_plan ≡ is_ok (plan_of bytes)
   pub findings : List Finding

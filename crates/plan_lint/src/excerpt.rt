@@ -4,8 +4,8 @@ ghost use Rattle.plan_lint.specs.Shown.{shown_byte, plain_text, plain_line, care
 
 use std::alloc::{AllocError, Global};
 
-/// The maximum number of bytes that an excerpt shows on each side of its first caret. The first side ends before the
-/// caret, and the second begins above it.
+/// The maximum number of bytes that an excerpt shows on each side of its first caret. The left side ends before the
+/// byte above that caret, and the right side begins with that byte.
 const MOST: usize = 80;
 
 /// The number of bytes that an excerpt shows on a side that has more than `MOST` bytes. Two dots replace the other

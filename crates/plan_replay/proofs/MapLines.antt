@@ -12,7 +12,7 @@ use Rattle.realm_plan.specs.Lines.{page_line}
 use Rattle.plan_replay.specs.Run.{page_text}
 use Rattle.granule_addr.proofs.Runs.{range_with_len_more}
 
--- one more line
+-- the lines of the first `n` items, followed by the line of item `n`, are the lines of the first `n + 1` items
 pub lines_more :
     (f : ℕ → List ℕ) (n : ℕ) (old between line new : List ℕ)
     → between ≡ old ++ flat_map f (range_with_len 0 n)
@@ -23,11 +23,11 @@ lines_more f n old between line new so_far appended is_line =
     appended ∙ ap (λ t. t ++ line) so_far ∙ ap (λ l. (old ++ flat_map f (range_with_len 0 n)) ++ l) is_line
     ∙ flat_map_more f old (range_with_len 0 n) n ∙ ap (λ ns. old ++ flat_map f ns) (sym (range_with_len_more 0 n n (omega arith)))
 
--- the host has a value for a page of the build
+-- for each page that the build has, a lookup by the page's number finds a value
 pub page_is_told : {A : Type 0} (tells : ℕ → A) (pages : List ℕ) (page : ℕ) (told : Option A) → page < length pages → told ≡ option_map tells (slice_get pages page) → IsSome told
 page_is_told tells pages page told inside is = rw (is, slice_get-get_or pages page 0 inside) (search rules)
 
--- the line of a page, from the host's values for it
+-- the line written from the state of a page and the sum of its bytes is the page's line in the map
 pub page_line_is :
     (host : HostView) (build page : ℕ) (state : GranuleState) (total : ℕ)
     → page < length (pages_of_build host build)

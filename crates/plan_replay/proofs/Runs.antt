@@ -7,7 +7,7 @@ use Rattle.host_ledger.specs.View.{HostView}
 use Rattle.realm_plan.specs.Plan.{Plan}
 use Rattle.plan_replay.specs.Run.{Position, Turn, start, IsTurn, AreTurns}
 
--- a run and one more turn
+-- a run followed by a turn is a run of the schedule with that turn's build at its end
 pub AreTurns-more :
     (plan : Plan) (order : List ℕ) (from : Position) (turns : List Turn) (at : Position) (build : ℕ) (turn : Turn) (to : Position)
     → AreTurns plan order from turns at
@@ -23,14 +23,15 @@ AreTurns-more plan (b ∷ order) from (t ∷ turns) at build turn to run of_buil
 
 -- ---- the first turns of a schedule, with a text of each
 
--- The turns of these builds lead here, and the text of each was appended.
+-- The turns of the builds in `order` lead to the position `to`, and the text of each turn was appended.
 pub record IsFront {T : Type 0} (Lead : List ℕ → List T → Position → Type 0) (text_of : T → List ℕ) (order : List ℕ) (to : Position) (old new : List ℕ) : Type 0 where
   pub turns : List T
   pub is_run : Lead order turns to
   pub appended : new ≡ old ++ flat_map text_of turns
 
 module _ {T : Type 0} (Lead : List ℕ → List T → Position → Type 0) (text_of : T → List ℕ) (order : List ℕ) (i : ℕ) (old : List ℕ) where
-  -- one more turn, of the build that is next
+  -- if the next build of the schedule takes its turn, and the turn's text is appended, `IsFront` holds for one more
+  -- turn
   pub front_more :
       (items : List ℕ) (build : ℕ) (at to : Position) (turn : T) (between new : List ℕ)
       → items ≡ order
@@ -49,7 +50,7 @@ module _ {T : Type 0} (Lead : List ℕ → List T → Position → Type 0) (text
         appended = appended ∙ ap (λ t. t ++ text_of turn) front.appended ∙ flat_map_more text_of old front.turns turn;
       }
 
-  -- all turns
+  -- if `IsFront` holds for as many turns as the schedule has, it holds for the whole schedule
   pub front_whole : (items : List ℕ) (to : Position) (new : List ℕ) → items ≡ order → length items ≤ i
       → IsFront Lead text_of (take i order) to old new → IsFront Lead text_of order to old new
   front_whole items to new same done =

@@ -35,6 +35,6 @@ same_done host build place Abort answer new after is = many_same_done is.count i
 same_done host build place Mark answer new after is = ap (λ (p : PlanCursor). p.done) is.place_is
 same_done host build place Back answer new after is = many_same_done (undos_to_go host build place) host build place answer new after is
 
--- the place that is read is that of the build
+-- the cursor that is read at the index of a build is that build's cursor
 pub place_is-place_of : (places : List PlanCursor) (build : ℕ) {n : ℕ} (read : PlanCursor) → build < n → n ≤ 8 → length places ≡ 8 → slice_index_or places build read ≡ place_of places build
 place_is-place_of places build read inside few all = get_or_default places build read first_place (omega arith)

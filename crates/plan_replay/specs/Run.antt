@@ -50,9 +50,9 @@ step_numbered gives_up steps number = if gives_up && nat_le giving_up number the
 abbrev pub step_after : Plan → ℕ → ℕ → Option PlanStep
 step_after plan build done = option_and_then (λ steps. step_numbered plan.gives_up steps done) (slice_get plan.builds build)
 
--- A turn leads from one position to the other: it takes the given step, or none if no step is left. Without a step
--- nothing changes. A step has its turn, with an answer that the host may give, and is used up once no undo of it is
--- left. Until then the build's next turn is the step's again. A refusal may lead to giving up.
+-- A turn leads from one position to the other. It takes the given step; if no step is left, nothing changes. The turn
+-- has an answer that the host may give. The step is done once no undo of it is left. Until then the build's next turn
+-- takes the same step again. A refusal may lead to giving up.
 abbrev pub IsTurnOf : Bool → Option PlanStep → Position → Turn → Position → Type 0
 IsTurnOf gives_up None from turn to = (turn.told ≡ None) × (to ≡ from)
 IsTurnOf gives_up (Some step) from turn to =

@@ -86,7 +86,8 @@ passed test from (suc count) is = elim (test from) as (λ t. test from ≡ t →
 differs : (one other : ℕ) → not (one == other) ≡ true → one ≢ other
 differs one other is same = absurd (cc (eq-eqb one other same))
 
--- a test of the element at an index of a mapped range is one of the function's value there
+-- if a test passes for the element at an index of a mapped range, but not for None, it passes for the function's value
+-- of the number at that index
 found : (test : Option ℕ → Bool) (f : ℕ → ℕ) → test None ≡ false → (from count place at : ℕ) → at ≡ from + place
     → test (slice_get (map f (range_with_len from count)) place) ≡ true → test (Some (f at)) ≡ true
 found test f none from zero place at same is = absurd cc
@@ -125,7 +126,7 @@ shows_by plan (Waiting build) end host is =
     let parts = both (waits build end) (has_other_without_pages (length plan.builds) build (pages_of_builds host)) is in is_wait plan build end host parts.0 parts.1
 shows_by plan (Leased granules) end host is = leb-true granules (sum (pages_of_builds host)) is
 
--- a schedule whose last turn answers the question
+-- a schedule ends with the answer yes if `is_answer` is true of its last turn
 pub answered_by : (plan : Plan) (question : TurnQuestion) (schedule front : List ℕ) (last : ℕ) (at to : Position) (it : TurnTaken)
     → schedule ≡ front ++ last ∷ [] → IsReached plan front at → IsTurnTaken plan at last it to
     → is_answer (length plan.builds) question (end_taken last it) (pages_of_builds to.host) ≡ true → EndsWithAnswer plan question schedule
@@ -164,7 +165,7 @@ passes_if test from (suc count) (suc place) at same inside is =
     let below : place < count = omega arith in
     ap (λ t. test from || t) (passes_if test (from + 1) count place at there below is) ∙ or_true (test from)
 
--- what a function gives for the number at a place of a range
+-- the element at an index of a mapped range is the function's value of the number at that index
 value_at : (f : ℕ → ℕ) (from count place at : ℕ) → at ≡ from + place → place < count → slice_get (map f (range_with_len from count)) place ≡ Some (f at)
 value_at f from zero place at same inside = absurd (omega arith)
 value_at f from (suc count) zero at same inside = let here : at ≡ from = omega arith in ap (λ n. Some (f n)) (sym here)
@@ -188,7 +189,8 @@ answers_if plan (Waiting build) end host few shown =
     let rests = rests_if host (length plan.builds) build shown.other few shown.of_plan shown.differs shown.at_rest in (λ i. waiting i && rests i)
 answers_if plan (Leased granules) end host few shown = le-leb granules (sum (pages_of_builds host)) shown
 
--- a schedule whose last turn does not answer the question
+-- a schedule ends without the answer yes if `is_answer` is false of its last turn, and the plan has at most eight
+-- builds
 pub unanswered_by : (plan : Plan) (question : TurnQuestion) (schedule front : List ℕ) (last : ℕ) (at to : Position) (it : TurnTaken)
     → schedule ≡ front ++ last ∷ [] → IsReached plan front at → IsTurnTaken plan at last it to → length plan.builds ≤ 8
     → is_answer (length plan.builds) question (end_taken last it) (pages_of_builds to.host) ≡ false → EndsWithoutAnswer plan question schedule

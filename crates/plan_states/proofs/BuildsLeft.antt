@@ -21,7 +21,8 @@ edge_inside build at edges is = there (slice_get edges at) refl is
     there None none of = absurd cc
     there (Some edge) some of = slice_get_within edges at edge some
 
--- a build with a step left has the next edge
+-- if the edges so far are those of the builds with a step left, they still are after one more build with a step left
+-- and its edge
 pub left_more :
     (left : ℕ → Bool) (builds : List ℕ) (i : ℕ) (edges : List (Edge Label)) (at : ℕ)
     → i < length builds → left (get_or builds i 0) ≡ true → is_of_build (get_or builds i 0) (slice_get edges at) ≡ true
@@ -39,7 +40,7 @@ left_more left builds i edges at less holds is same = there (slice_get edges at)
         ∙ (λ j. same j ++ build j ∷ [])
         ∙ sym (filter_more left builds i 0 less ∙ ap (λ (t : Bool). filter left (take i builds) ++ cond t (get_or builds i 0 ∷ []) []) holds)
 
--- a build without one has none
+-- one more build without a step left adds nothing to the list of builds with a step left
 pub over_more :
     (left : ℕ → Bool) (builds : List ℕ) (i : ℕ) (these : List ℕ) → i < length builds → left (get_or builds i 0) ≡ false
     → these ≡ filter left (take i builds) → these ≡ filter left (take (i + 1) builds)

@@ -16,7 +16,8 @@ Edges = Vec (Edge Label) Global
 abbrev pub layer_in : Vec Edges Global → List (List (Edge Label))
 layer_in layer = map vec_items (vec_items layer)
 
--- the layers up to one, and the states of the next
+-- the first `depth + 1` layers, followed by the next layer's states without their edges, are the layers cut after
+-- `depth`
 pub cut_is :
     (layers kept new : List (Vec Edges Global)) (depth : ℕ) (states : Vec Edges Global) → kept ≡ take (depth + 1) layers → new ≡ kept ++ states ∷ []
     → map vec_items states.items ≡ map (λ edges. []) (slice_index_or (map vec_items layers) (depth + 1) [])
@@ -33,7 +34,8 @@ cut_is layers kept new depth states is_kept_mark is_new bare =
     let front : map layer_in kept ≡ take n (layers_in layers) = ap (map layer_in) is_kept_mark ∙ sym (take-map layer_in n layers) in
     ap layers_in is_new ∙ map-append layer_in kept (states ∷ []) ∙ (λ j. front j ++ ends j ∷ [])
 
--- the states without edges, with one more
+-- a copy of a layer's first `i` states without edges, followed by the next state without edges, is a copy of the first
+-- `i + 1` states without edges
 pub bare_more :
     (layer : List Edges) (i : ℕ) (old new : List Edges) (bare : Edges) → i < length layer → bare.items ≡ [] → new ≡ old ++ bare ∷ []
     → map vec_items old ≡ map (λ edges. []) (take i layer) → map vec_items new ≡ map (λ edges. []) (take (i + 1) layer)

@@ -6,7 +6,8 @@ use Rattle.std.proofs.lemmas.List.{flat_map_more, take_more}
 pub joined : (old a b between new : List ℕ) → between ≡ old ++ a → new ≡ between ++ b → new ≡ old ++ (a ++ b)
 joined old a b between new first then = then ∙ ap (λ t. t ++ b) first ∙ append_assoc old a b
 
--- by the part of one more of a list
+-- appending the part of the next item after the parts of the first `i` items appends the parts of the first `i + 1`
+-- items
 pub joined_next :
     {X : Type 0} (f : X → List ℕ) (xs : List X) (i : ℕ) (x : X) (old between new : List ℕ)
     → i < length xs → x ≡ get_or xs i x

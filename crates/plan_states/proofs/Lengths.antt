@@ -4,7 +4,7 @@ use Rattle.std.proofs.Common.{◌≡◌, ℕ, ◌+◌, ◌-◌, ◌≤◌, List,
 use Rattle.std.specs.Prelude.{sum_by}
 use Rattle.std.proofs.lemmas.List.Sums.{sum_by_push}
 
--- one more item at the end
+-- a vector with one more item at the end is longer by one
 pub one_longer : {X : Type 0} (old new : Vec X Global) (x : X) (count : ℕ) → new.items ≡ old.items ++ x ∷ [] → vec_len old ≡ count → vec_len new ≡ count + 1
 one_longer old new x count more long =
     new.ok.0 ∙ ap length more ∙ length-append old.items (x ∷ []) ∙ ap (λ n. n + 1) (sym old.ok.0 ∙ long)
@@ -12,7 +12,7 @@ one_longer old new x count more long =
 room_after : (old new one room most : ℕ) → new ≡ old + one → one ≤ room → old + room ≡ most → new + (room - one) ≡ most
 room_after old new one room most more inside all = omega arith
 
--- a vector more, which takes a part of the room
+-- what is left of a limit shrinks by the length of one more vector, if the vector fits in it
 pub room_left : {X : Type 0} (old new : List (Vec X Global)) (it : Vec X Global) (room most : ℕ)
     → new ≡ old ++ it ∷ [] → vec_len it ≤ room → sum_by vec_len old + room ≡ most → sum_by vec_len new + (room - vec_len it) ≡ most
 room_left old new it room most more inside all =

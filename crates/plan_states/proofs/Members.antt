@@ -50,7 +50,7 @@ in_flat_map f x y [] is there = absurd is
 in_flat_map f x y (z ∷ xs) (inl same) there = in_left y (f z) (flat_map f xs) (subst (λ w. IsIn y (f w)) (sym same) there)
 in_flat_map f x y (z ∷ xs) (inr rest) there = in_right y (f z) (flat_map f xs) (in_flat_map f x y xs rest there)
 
--- A member among those whose list has y.
+-- A member `one` such that y is in the list `f one`.
 pub record IsListedBy {X Y : Type 0} (f : X → List Y) (y : Y) (xs : List X) : Type 0 where
   pub one : X
   pub is_in : IsIn one xs
@@ -85,7 +85,7 @@ of_filter p x (y ∷ xs) is =
       | false ↦ λ fails here. let it = of_filter p x xs here in (inr it.0, it.1)
     ] refl is
 
--- tests that agree at each member keep the same
+-- filtering with either of two tests gives the same list if the tests agree at each member
 pub filter_alike : {X : Type 0} (p q : X → Bool) (xs : List X) → ((x : X) → IsIn x xs → p x ≡ q x) → filter p xs ≡ filter q xs
 filter_alike p q [] each = refl
 filter_alike p q (x ∷ xs) each =
@@ -133,7 +133,7 @@ all_in P xs each = λ k d less. each (get_or xs k d) (in_get_or xs k d less)
 
 -- ---- pairs
 
--- R holds of each member and each later one
+-- R holds of each pair of members, with the earlier one first
 abbrev pub Pairs : {X : Type 0} → (X → X → Type 0) → List X → Type 0
 Pairs R [] = Unit {0}
 Pairs {X} R (x ∷ xs) = ((y : X) → IsIn y xs → R x y) × Pairs R xs

@@ -26,7 +26,7 @@ use Rattle.plan_states.proofs.Reached.{opens_reached}
 -- ---- lists by their elements
 
 module _ {X : Type 0} (d : X) (xs ys : List X) (n : ℕ) (long : length xs ≤ n) (also : length ys ≤ n) where
-  -- what is the same below a number that both are within is the same everywhere
+  -- two lists of at most `n` elements that agree at each index below `n` agree at every index
   pub everywhere : ((k : ℕ) → k < n → get_or xs k d ≡ get_or ys k d) → (k : ℕ) → get_or xs k d ≡ get_or ys k d
   everywhere below k = elim (cases_lt k n) as (λ _. get_or xs k d ≡ get_or ys k d) [
     | inl less ↦ below k less
@@ -43,7 +43,8 @@ get_or-map f (x ∷ xs) (suc k) d = get_or-map f xs k d
 
 -- ---- marks
 
--- marks of one build at which as many operations were open are one point
+-- two optional marks of one build are the same point if equally many operations were open at them, or if both are
+-- missing
 points_by : (build : ℕ) (one other : Option Mark) → IsOwn build one → IsOwn build other → length_of one ≡ length_of other
     → option_map mark_point one ≡ option_map mark_point other
 points_by build None None own also same = refl

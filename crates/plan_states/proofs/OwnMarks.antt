@@ -22,7 +22,7 @@ use Rattle.plan_replay.specs.declared.place.PlanCursor.{PlanCursor}
 use Rattle.schedule_graph.proofs.Kept.{mark-moved_on}
 use Rattle.plan_states.specs.Reached.{IsReached}
 
--- a mark, if there is one, is of the build
+-- the mark, if there is one, is a mark of the build
 abbrev pub IsOwn : ℕ → Option Mark → Type 0
 IsOwn build None = Unit {0}
 IsOwn build (Some mark) = mark.build ≡ build

@@ -50,7 +50,7 @@ shown_by_alike plan snapshots number one other here there =
 
 -- ---- a turn, from any position that is the same state
 
--- the turn of a label can be taken here too, and leads to the same state
+-- the turn of a label can also be taken from position `other`, and leads to a position that is the same state as `to`
 record IsAlsoLabelled (plan : Plan) (ends : List EndOfStep) (held : List (List ℕ)) (maps : List (String Global)) (other : Position) (label : Label) (to : Position) : Type 0 where
   then : Position
   labelled : IsLabelled plan ends held maps other label then
@@ -94,13 +94,13 @@ module _ (plan : Plan) (ends : List EndOfStep) (held : List (List ℕ)) (maps : 
       }
 
   module _ (snapshots : List Snapshot) where
-    -- the snapshot, if there is one, is of the position
+    -- there is a number, and the snapshot with it shows the position, which a run of the plan reaches from boot
     record IsShownAt (number : Option ℕ) (at : Position) : Type 0 where
       which : ℕ
       is : number ≡ Some which
       by : IsShownBy plan snapshots which at
 
-    -- a turn of a label leads from a position of the one snapshot to one of the other
+    -- a turn with this label leads from a position that snapshot `from` shows to a position that snapshot `to` shows
     record IsEdgeRun (from to : Option ℕ) (label : Label) : Type 0 where
       at : Position
       after : Position
@@ -113,7 +113,7 @@ module _ (plan : Plan) (ends : List EndOfStep) (held : List (List ℕ)) (maps : 
         let same : here.which ≡ there.which = same_Some here.which there.which (sym here.is ∙ there.is) in
         shown_by_alike plan snapshots there.which one other (subst (λ n. IsShownBy plan snapshots n one) same here.by) there.by
 
-    -- the edges of each state of each layer are run
+    -- each edge from each state of each layer is a turn between the snapshots of the two states that it joins
     abbrev AreEdgesRun : (ℕ → ℕ → Option ℕ) → List (Layer Label) → Type 0
     AreEdgesRun number layers =
         (depth state : ℕ) (layer : Layer Label) (edges : List (Edge Label)) → slice_get layers depth ≡ Some layer → slice_get layer state ≡ Some edges

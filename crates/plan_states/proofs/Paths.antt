@@ -39,7 +39,7 @@ builds_on : (edge : Edge Label) (ps : List (Path Label))
 builds_on edge [] = refl
 builds_on edge (path ∷ ps) = λ i. (edge.label.build ∷ builds_of_path path) ∷ builds_on edge ps i
 
--- of edges of rising builds, one is found by its build
+-- in a list of edges with rising builds, a search for the build of an edge finds that edge
 pub edge_found : (edges : List (Edge Label)) (edge : Edge Label) → Pairs (λ (one other : Edge Label). one.label.build < other.label.build) edges
     → IsIn edge edges → find (λ (e : Edge Label). e.label.build == edge.label.build) edges ≡ Some edge
 edge_found [] edge low is = absurd is

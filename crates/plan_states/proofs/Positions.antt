@@ -32,7 +32,7 @@ found_from test from (suc i) (x ∷ xs) d inside none here =
     ap (λ b. cond b (Some from) (position_from test (from + 1) xs)) neither.0
     ∙ found_from test (from + 1) i xs d (omega (arith, inside)) neither.1 here ∙ ap Some (omega arith)
 
--- the position of an item that passes, if no item before it does
+-- a search finds the index of an item that passes the test, if no item before it passes
 pub position_found : {X : Type 0} (test : X → Bool) (xs : List X) (i : ℕ) (d : X)
     → i < length xs → list_any test (take i xs) ≡ false → test (get_or xs i d) ≡ true → position test xs ≡ Some i
 position_found test xs i d inside none here = position_from-zero test xs ∙ found_from test 0 i xs d inside none here ∙ ap Some (zero-add i)
@@ -49,7 +49,7 @@ items_at [] k it there = absurd cc
 items_at (vec ∷ vecs) zero it there = ap vec_items (same_Some vec it there)
 items_at (vec ∷ vecs) (suc k) it there = items_at vecs k it there
 
--- the items of the vector that was found at a place
+-- if vectors are mapped to their items, the list at an index has the items of the vector at that index
 pub items_seen : {X : Type 0} (vecs seen : List (Vec X Global)) (k : ℕ) (it : Vec X Global)
     → seen ≡ vecs → k < length seen → it ≡ get_or seen k it → slice_index_or (map vec_items vecs) k [] ≡ it.items
 items_seen vecs seen k it same inside is = items_at vecs k it (seen_at_place vecs seen k it same inside is)

@@ -76,7 +76,7 @@ end_is : (none : Bool) (build step : ℕ) (one other : Option Refusal) → none 
 end_is true build step one other free same = absurd cc
 end_is false build step one other free same = ap (λ (r : Option Refusal). Some (end_with build step r)) (sym same)
 
--- the ends after a turn in a run
+-- the collected outcomes still occur in runs of the plan after the outcome of one more turn, if any, is added
 pub ends_more :
     (plan : Plan) (schedule : List ℕ) (at to : Position) (build : ℕ) (it : TurnTaken) (old new : List EndOfStep)
     → IsReached plan schedule at → IsTurnTaken plan at build it to → AreWith old (end_taken build it) new
@@ -93,7 +93,7 @@ ends_more plan schedule at to build it old new reached is are all =
       is_end = end_is (it.before == it.after) build it.before (turn_refusal is.told) it.refusal free is.refusal;
     }) all
 
--- no ends, and no maps
+-- the condition `AreOfRuns` holds of empty lists of outcomes and maps
 pub of_runs-none : (plan : Plan) (ends : List EndOfStep) (maps : List (String Global)) → ends ≡ [] → maps ≡ [] → AreOfRuns plan ends maps
 of_runs-none plan ends maps none empty = record {
   ends = subst (All (IsEndOfRun plan)) (sym none) (All-nil (IsEndOfRun plan));
@@ -106,7 +106,7 @@ map_by plan map old new is (inl same) all = subst (All (λ (it : String Global).
 map_by plan map old new is (inr more) all =
     subst (All (λ (it : String Global). IsMapOfRun plan (string_bytes it))) (sym more) (All-push (λ (it : String Global). IsMapOfRun plan (string_bytes it)) old map all is)
 
--- the maps after a run
+-- the collected maps still occur in runs of the plan after the final map of a run is added
 pub of_runs-map : (plan : Plan) (ends : List EndOfStep) (old new : List (String Global)) (map : String Global)
     → IsMapOfRun plan (string_bytes map) → AreWith old (Some map) new → AreOfRuns plan ends old → AreOfRuns plan ends new
 of_runs-map plan ends old new map is with_it of = record { ends = of.ends; maps = map_by plan map old new is with_it of.maps }

@@ -60,7 +60,7 @@ module _ (plan : Plan) (old new : List Snapshot) (snapshot : Snapshot) (more : A
 
 -- ---- a turn
 
--- the schedule with one more turn leads on
+-- if a schedule leads to a position, the schedule with one more turn leads to the position after the turn
 pub reached_by : (plan : Plan) (schedule : List ℕ) (at to : Position) (build : ℕ) (taken : Taken) → IsReached plan schedule at → IsTurnAt plan at build taken to
     → IsReached plan (schedule ++ build ∷ []) to
 reached_by plan schedule at to build taken reached is = record {

@@ -177,7 +177,8 @@ module _ (plan : Plan) (graph : Graph) (whole : IsWholeGraph plan graph) where
       ap (λ (n : ℕ). number_by plan graph.ends.items build n edge.label) same
       ∙ sym (fold-append (λ (n : ℕ) (e : Edge Label). number_by plan graph.ends.items build n e.label) 0 before (edge ∷ []))
 
-  -- Turns lead to a state: the numbers of builds are those that they lead to, and each path from it goes on with them.
+  -- The turns of the path `before` lead to the state. The state has the numbers of steps done in these turns, and each
+  -- path from it continues `before` to a path of the graph.
   record IsReachedBy (before : Path Label) (depth state : ℕ) : Type 0 where
     inside : state < length (states_at graph depth)
     done : (build : ℕ) → build < 8 → done_of (done_at depth state) build ≡ done_by plan graph before build
@@ -392,7 +393,8 @@ module _ (plan : Plan) (graph : Graph) (whole : IsWholeGraph plan graph) where
         (ends edge (inl refl)) (turns_used front build (λ e is. ends e (inr is)))
         ∙ sym (sum_by-cons (λ (e : Edge Label). cond (build == e.label.build && is_some e.label.end) 1 0) edge front)
 
-    -- a build of the plan does not give up, since an abort may take more turns
+    -- if each step takes one turn, the plan's builds do not give up, or the plan has no build of the given number; an
+    -- abort may take more than one turn
     plain_or_none : (build : ℕ) → (plan.gives_up ≡ false) ⊎ (slice_get plan.builds build ≡ None)
     plain_or_none build = at plan.gives_up refl (slice_get plan.builds build) refl
       where

@@ -35,7 +35,7 @@ more_by (Some steps) k more = elim (slice_get_cases steps k).1 as (λ _. k < len
   | inr it ↦ absurd (both_ways (is_some (slice_get steps k)) (ap (λ (o : Option PlanStep). is_some o) it.1) more)
 ]
 
--- of a plan that does not give up
+-- if the plan's builds do not give up, the next step after `k` done steps is the step at index `k`, if there is one
 step_read : (plan : Plan) (build k : ℕ) → plan.gives_up ≡ false → step_after plan build k ≡ option_and_then (λ steps. slice_get steps k) (slice_get plan.builds build)
 step_read plan build k plain = ap (λ (g : Bool). option_and_then (λ steps. step_numbered g steps k) (slice_get plan.builds build)) plain
 
@@ -49,7 +49,8 @@ more_left plan build k plain more =
 
 -- ---- the number after a turn
 
--- it is the next one, or the same
+-- unless builds give up, the index of a build's next step grows by one with each turn that ends a step of the build,
+-- and stays the same otherwise
 pub number_plain : (plan : Plan) (ends : List EndOfStep) (build done : ℕ) (label : Label) → plan.gives_up ≡ false
     → number_by plan ends build done label ≡ cond (build == label.build && is_some label.end) (done + 1) done
 number_plain plan ends build done label plain = at (build == label.build) label.end
@@ -59,11 +60,12 @@ number_plain plan ends build done label plain = at (build == label.build) label.
     at true (Some number) = ap (λ (g : Bool). number_after g (is_end_refused (slice_get ends number)) done) plain
     at false end = refl
 
--- So the number of a build after turns is that of the steps that they use up.
 counted : (t : Bool) (from more rest : ℕ) → more ≡ cond t (from + 1) from + rest → more ≡ from + (cond t 1 0 + rest)
 counted true from more rest is = omega (arith, is)
 counted false from more rest is = omega (arith, is)
 
+-- unless builds give up, a path raises the index of a build's next step by the number of the build's steps that end on
+-- the path
 numbers_counted : (plan : Plan) (ends : List EndOfStep) (build from : ℕ) (path : Path Label) → plan.gives_up ≡ false
     → fold (λ (done : ℕ) (edge : Edge Label). number_by plan ends build done edge.label) from path ≡ from + used_by path build
 numbers_counted plan ends build from [] plain = omega arith
@@ -103,7 +105,7 @@ same_build build own named is = elim (cases_eq build own) as (λ _. (named == bu
   | inr apart ↦ ne_eqb named build (λ e. apart (sym e ∙ is)) ∙ sym (ne_eqb build own apart)
 ]
 
--- a turn of the build `own`, which has done so many steps, ends the next one of that build, or none
+-- a turn of the build `own`, whose next step is `step`, ends that step or none, and no step of another build
 pub turn_ends : (plan : Plan) (ends : List EndOfStep) (build own step : ℕ) (end : Option ℕ) → uses_next plan ends own step end ≡ true
     → steps_of build (end_at ends end) ≡ cond (build == own && is_some end) (step ∷ []) []
 turn_ends plan ends build own step None uses = no_end (build == own) step
@@ -138,7 +140,8 @@ own_or : (t : Bool) (n m : ℕ) → t ≡ true → cond t n m ≡ n
 own_or true n m own = refl
 own_or false n m own = absurd cc
 
--- the ends that a turn of the build `own` adds before others
+-- outcomes of a build that are in sequence after a turn of the build `own` stay in sequence with that turn's outcome,
+-- if any, in front
 pub sequence_join : (plan : Plan) (ends : List EndOfStep) (build own step : ℕ) (end : Option ℕ) (done next : ℕ) (later : List EndOfStep)
     → uses_next plan ends own step end ≡ true → (build ≡ own → step ≡ done)
     → next ≡ cond (build == own) (number_with plan ends done end) done
@@ -173,7 +176,7 @@ sequence_join plan ends build own step (Some number) done next later uses same i
 pub range_next : (k n : ℕ) → k < n → range_with_len k (n - k) ≡ k ∷ range_with_len (k + 1) (n - (k + 1))
 range_next k n less = let one : n - k ≡ suc (n - (k + 1)) = omega arith in ap (range_with_len k) one
 
--- the step of a turn, if it ends one of the build, and those that are left then
+-- the step that a turn ends, if any, and the steps left after it are together the steps left before the turn
 pub steps_join : (t : Bool) (k own then n : ℕ) → then ≡ cond t (k + 1) k → (t ≡ true → own ≡ k) → (t ≡ true → k < n)
     → cond t (own ∷ []) [] ++ range_with_len then (n - then) ≡ range_with_len k (n - k)
 steps_join true k own then n is same more =

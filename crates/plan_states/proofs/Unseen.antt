@@ -15,7 +15,7 @@ use Rattle.plan_replay.specs.Run.{map_text}
 use Rattle.plan_replay.proofs.Maps.{map_same}
 use Rattle.realm_program.specs.Replay.{IsMapWithout}
 
--- what each build has open without it
+-- leaving out a build without open operations changes no build's open operations
 open_same : (build c : ℕ) (history : List Event) → open_entries build history ≡ [] → open_entries c (erase build history) ≡ open_entries c history
 unfolding open_entries
 open_same build c history none = elim (eqb_tells c build) as (λ _. open_entries c (erase build history) ≡ open_entries c history) [

@@ -115,7 +115,8 @@ states_at graph depth = slice_index_or (map vec_items graph.progress.items) dept
 abbrev pub layer_at : Graph → ℕ → List (Vec (Edge Label) Global)
 layer_at graph depth = slice_index_or (map vec_items graph.layers.items) depth []
 
--- The first layer has the one state in which no step is done, and the states of each layer are whole. There is a map.
+-- The first layer has the one state in which no step is done, and the states of each layer are whole. The graph gives
+-- the progress of each layer, and has at least one map.
 pub record IsWholeGraph (plan : Plan) (graph : Graph) : Type 0 where
   pub as_many : length graph.progress.items ≡ length graph.layers.items
   pub start : is_at_start (states_at graph 0) ≡ true

@@ -70,12 +70,12 @@ drop_all (suc count) (act ∷ acts) few = drop_all count acts (omega (arith, few
 -- ---- a build at rest
 
 module _ (host : HostView) (legal : IsLegal host.limits host.history) (build : ℕ) (rest : IsAtRest (realm_of build (world_of host))) where
-  -- none of its acts made a REC that runs
+  -- none of the operations made a REC that runs in the build's realm
   pub rests_all : (acts : List Act) → list_any (is_running (realm_of build (world_of host))) acts ≡ false
   rests_all acts =
       none_run (realm_of build (world_of host)) acts ((rest_is_of_all host.limits host.history build (world_of host) (world_is host legal)).0 rest)
 
-  -- each undo is served as long as it does nothing but reverses
+  -- as long as the build's later events are all reverses, the host refuses no undo of the build until nothing is open
   pub goes_on : build < host.limits.builds → GoesOn host build
   goes_on there later then limits history legal_then all some =
       let at_host = world_is host legal in
@@ -110,7 +110,8 @@ set_twice (z ∷ xs) zero x y = refl
 set_twice (z ∷ xs) (suc place) x y = ap (λ ys. z ∷ ys) (set_twice xs place x y)
 
 module _ {X : Type 0} (d : X) (then : ℕ → X → X) (lower : (k count : ℕ) (x : X) → count ≤ k → then count (then k x) ≡ then count x) where
-  -- what is written down to `k` acts, and then down to `count`, is what is written down to `count` at once
+  -- updating a list item for `k` open operations, and then for a `count` of at most `k`, is the same as updating it for
+  -- `count` at once
   pub written_on : (xs : List X) (place k count : ℕ) → count ≤ k
       → set (set xs place (then k (get_or xs place d))) place (then count (get_or (set xs place (then k (get_or xs place d))) place d)) ≡ set xs place (then count (get_or xs place d))
   written_on xs place k count fewer = at (nat_lt place (length xs)) refl
@@ -173,7 +174,7 @@ module _ (host : HostView) (build : ℕ) (act : Act) where
           let outside = ltb-false build (length host.aborting) past in
           ap (λ (flags : List Bool). get_or flags build false) (set_past host.aborting build _ outside) ∙ get_or_past host.aborting build false outside
 
-  -- and its mark is not above its open operations
+  -- after the event, the build's mark is not above its open operations
   pub mark_low : mark_while opened (mark_of (with_event host build act) build) ≡ mark_of (with_event host build act) build
   mark_low = at (nat_lt build (length host.marks)) refl
     where
@@ -245,7 +246,7 @@ module _ (host : HostView) (legal : IsLegal host.limits host.history) (build cou
         ∙ sym (ap reverses (ap reverse above_is ∙ reverse-append (drop count below) (newest.act ∷ []))
         ∙ ap (λ (o : Option Act). elim o [ Some r ↦ r ∷ reverses (reverse (drop count below)) | None ↦ reverses (reverse (drop count below)) ]) back_is)
 
-    -- what is still to be undone leads to the same end
+    -- after one more undo, undoing down to `count` operations leads to the same host as before that undo
     pub same_end : undone_to new build count ≡ undone_to host build count
     same_end =
         let fewer : count ≤ length (open_of new build) = omega (arith, long_after) in
@@ -299,7 +300,8 @@ module _ (host : HostView) (legal : IsLegal host.limits host.history) (build : �
 
 -- ---- all the way down
 
--- a build that goes down from what it had open
+-- the invariant while a build's operations are undone down to `count`: `host`, reached from `old`, leads to the same
+-- end
 pub record IsGoingDown (old : HostView) (build count counter : ℕ) (host : HostView) : Type 0 where
   pub there : build < host.limits.builds
   pub legal : IsLegal host.limits host.history
@@ -313,13 +315,13 @@ module _ (old host new : HostView) (build count counter : ℕ) (down : IsGoingDo
   abbrev more : count < length (open_of host build)
   more = let opened = down.opened in omega (arith, opened, further)
 
-  -- the next undo is served
+  -- the next undo is never refused
   pub never_refused : (refusal : Refusal) → refusal_of host build Undo ≡ Some refusal → ⊥
   never_refused refusal e =
       let none = served host down.legal build count more down.rests down.there in
       let bad : None ≡ Some refusal = sym none ∙ e in cc
 
-  -- and goes one act down
+  -- the invariant still holds after the next undo, with the counter one higher
   pub goes_down : (done : Undone) → IsUndone host build done new → IsGoingDown old build count (counter + 1) new
   goes_down done is = subst (IsGoingDown old build count (counter + 1)) (sym is.accepted.grows) (record {
     there = down.there;
@@ -340,7 +342,7 @@ module _ (old host : HostView) (build count counter : ℕ) (down : IsGoingDown o
   opened_is : length (open_of host build) ≡ count
   opened_is = let opened = down.opened in omega (arith, opened, over)
 
-  -- nothing is left to be undone
+  -- at the end, undoing down to `count` operations changes nothing
   at_end : undone_to host build count ≡ host
   at_end = λ i. record host {
     history = (ap (λ (acts : List Act). host.history ++ map (by build) (reverses (reverse acts))) (drop_all count (open_of host build) (omega (arith, opened_is)))

@@ -34,7 +34,7 @@ use Rattle.realm_host.specs.Acting.{HasRoomFor, CanAct, IsActed, IsApplied}
 use Rattle.realm_host.proofs.Asked.{forward_turn}
 use Rattle.realm_host.proofs.Pairs.{one_step}
 
--- the event of an act is legal next
+-- the event of an operation is in turn, and is a step from the host's world
 pub record IsNext (host : HostView) (build : ℕ) (act : Act) : Type 0 where
   pub next : World
   pub stepped : step host.limits (world_of host) (by build act) ≡ Some next
@@ -131,7 +131,7 @@ forward_command (Take order first) forward other = absurd (other order first ref
 forward_command (UnTake order first) forward other = cc
 forward_command _ forward other = refl
 
--- an act that its command refuses is no step
+-- if an operation is no step, the history with its event is not legal
 pub no_legal : (host : HostView) → IsLegal host.limits host.history → (build : ℕ) (act : Act)
     → ((next : World) → step host.limits (world_of host) (by build act) ≡ Some next → ⊥) → IsLegal host.limits (host.history ++ by build act ∷ []) → ⊥
 no_legal host legal build act never more = let is = legal_next host legal build act more in never is.next is.stepped
@@ -142,7 +142,7 @@ refused_no_step host build act rmi refused next stepped =
     let says = step_is host.limits (world_of host) next (by build act) stepped in
     let bad : Ok says.updates ≡ Err rmi = sym says.outcome ∙ refused in cc
 
--- a build that does not lease what a command names cannot have it
+-- a command's operation is no step if its build does not lease each granule that the operation names
 pub unleased_no_step : (host : HostView) (build : ℕ) (act : Act) → is_command act ≡ true → list_all (is_leased_to (Some build) (world_of host).leases) (named act) ≡ false
     → (next : World) → step host.limits (world_of host) (by build act) ≡ Some next → ⊥
 unleased_no_step host build act command unleased next stepped =
@@ -167,7 +167,7 @@ can_apply_act host build act there forward command room leased_named in_range fi
   room = room;
 }
 
--- what is performed is applied, and what is refused is no legal event
+-- an operation that is performed is recorded, and the history with an operation that the RMM refuses would not be legal
 pub is_applied : (host : HostView) → IsLegal host.limits host.history → (build : ℕ) (act : Act) (result : Result (Unit {0}) Rmi) (new : HostView)
     → IsActed host build act result new → IsApplied host build act (is_ok result) new
 is_applied host legal build act (Ok done) new acted = acted

@@ -110,7 +110,7 @@ there_is host build (Rec page auxiliaries) gs long wanted =
     number_fits (realm_of build (world_of host)) (realm_from_some build 0 (world_of host).leases (world_of host).machine) wanted
 there_is host build _ gs long wanted = tt
 
--- the outcome of an operation whose event is legal
+-- if the history with an operation is legal, the outcome of the operation is no error
 done_of : (host : HostView) → IsLegal host.limits host.history → (build : ℕ) (act : Act) → IsLegal host.limits (host.history ++ by build act ∷ [])
     → (updates : List Update) × (outcome_in host.limits (world_of host) (by build act) ≡ Ok updates)
 done_of host legal build act more = at (replay host.limits (host.history ++ by build act ∷ [])) refl more.steps
@@ -226,7 +226,7 @@ module _ (host : HostView) (legal : IsLegal host.limits host.history) (build : �
             reply_is = refl;
           }
 
--- a check of a command's needs that holds refuses the command
+-- the first check of a command's needs that holds gives the command's refusal
 pub refused_by_needs : (host : HostView) (build : ℕ) (cmd : Cmd) (refusal : Refusal) → first_that_holds (checks_of (summary_of host) build cmd) ≡ Some refusal
     → refusal_of host build (Ask cmd) ≡ Some refusal
 unfolding refusal_of

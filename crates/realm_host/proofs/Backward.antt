@@ -21,7 +21,7 @@ use Rattle.host_ledger.specs.View.{HostView, world_of, open_of}
 use Rattle.host_ledger.proofs.Worlds.{world_is}
 use Rattle.realm_host.specs.Acting.{HasRoomFor, CanAct, IsBack}
 
--- the reverse of an act
+-- the operation is a reverse: it has no reverse itself, and takes no room in the history
 pub record IsReverse (back : Act) : Type 0 where
   pub unpaired : is_paired back ≡ false
   pub reverse : is_reverse back ≡ true
@@ -84,7 +84,7 @@ module _ (host : HostView) (legal : IsLegal host.limits host.history) (build : �
     room = room;
   }
 
-  -- its outcome is no refusal
+  -- the outcome of the reverse is no error
   pub never_refused : (rmi : Rmi) → outcome_in host.limits world (by build back) ≡ Err rmi → ⊥
   never_refused rmi e = let done : Ok stepped.updates ≡ Err rmi = sym stepped.outcome ∙ e in cc
 

@@ -41,7 +41,7 @@ whole_marked ledger monitor whole build mark = record { mirror = whole.mirror; i
 
 -- ---- checks
 
--- a check that does not hold, and the rest
+-- if a list of checks gives no refusal, its first check does not hold, and the rest give no refusal
 pub passed_parts : (t : Bool) (refusal : Refusal) (rest : Option Refusal) → cond t (Some refusal) rest ≡ None → (t ≡ false) × (rest ≡ None)
 passed_parts true refusal rest e = cc
 passed_parts false refusal rest e = (refl, e)
@@ -149,7 +149,7 @@ back_at host build mark count is stands rolled new down =
 
 -- ---- an abort that is done
 
--- nothing is left of a build that has gone down to nothing
+-- after all of a build's open operations are undone, the world is that of the history without the build
 pub nothing_left : (host : HostView) (build : ℕ) (new : HostView) → IsDown host build 0 new → LeavesNothing host build new
 nothing_left host build new down = leaves_nothing host new build down.legal (ap (λ (h : HostView). h.history) down.new_is) (none_left (open_of new build) down.opened)
   where

@@ -16,7 +16,7 @@ unfolding operands
 one_operand page offset = refl
 
 module _ (ledger : HostView) (monitor : MonitorView) (whole : IsWhole ledger monitor) (now : HostView) (view_is : ledger ≡ now) (build : ℕ) where
-  -- the page of a Peek is taken
+  -- the granule that a Peek reads is in the machine, and is not free, if the build leases the command's granules
   pub first_taken : (cmd : Cmd) (granules : List ℕ) → All (λ g. slice_get (world_of now).leases g ≡ Some (Some build)) granules → length granules ≡ length (operands cmd)
       → (page offset : ℕ) → cmd ≡ Peek page offset → (granule : ℕ) → granule ≡ get_or granules 0 granule → IsTaken monitor granule
   first_taken cmd granules leased long page offset is granule read =

@@ -22,7 +22,7 @@ use Rattle.realm_host.specs.declared.reading.GranuleView.{GranuleView}
 use Rattle.realm_host.proofs.RecRuns.{rec_is}
 use Rattle.realm_host.proofs.Realms.{row_at_rd, long}
 
--- the IPA granules that a row covers go on past the one that was walked to
+-- the IPA granule of a walk is below the end of the IPA granules that the row covers
 pub past : (level ipa first : ℕ) → first ≡ first_covered level ipa → ipa < first + covered_count level
 past level ipa first is = subst (λ n. ipa < n + covered_count level) (sym is) (lt-div-mul-add (some (level == 1) (level == 2)))
   where
@@ -31,12 +31,12 @@ past level ipa first is = subst (λ n. ipa < n + covered_count level) (sym is) (
     some false true = omega arith
     some false false = omega arith
 
--- the row of a build's realm, by its RD
+-- `row_at` of a build gives the row at which a walk from the RD of the build's realm ends
 row_by_rd : (world : World) (build rd ipa level : ℕ) → rd_of build world ≡ Some rd → row_at world build ipa level ≡ option_map (row_view ipa) (walk_in world.machine rd ipa level)
 row_by_rd world build rd ipa level is = ap (λ o. option_map (row_view ipa) (option_and_then (λ (realm : RealmRow). walk_of realm ipa level) o)) (row_at_rd world build rd is)
 
 module _ (ledger : HostView) (monitor : MonitorView) (whole : IsWhole ledger monitor) (now : HostView) (view_is : ledger ≡ now) where
-  -- a reading of the world in which the RMM has its machine
+  -- each reading of the world is the same for `ledger` as for `now`
   told : {A : Type 0} (read : World → A) → read (world_of ledger) ≡ read (world_of now)
   told read = ap (λ (h : HostView). read (world_of h)) view_is
 
@@ -58,7 +58,7 @@ module _ (ledger : HostView) (monitor : MonitorView) (whole : IsWhole ledger mon
         ap (λ t. granule_of t (world_of ledger)) (sym is ∙ ap (λ (m : Machine). nat_lt granule (length m)) whole.mirror.machine)
         ∙ told (λ world. granule_at world granule)
 
-    -- by the number and the count of pages that code compares
+    -- the machine has the granule if its number is below the page count, and otherwise `granule_at` gives None
     module _ (number pages : ℕ) (number_is : number ≡ granule) (counted : pages ≡ length monitor.machine) where
       pub no_granule : pages ≤ number → None ≡ granule_at (world_of now) granule
       no_granule outside = inside_is false (le-ltb granule (length monitor.machine) (omega (arith, outside, number_is, counted)))
@@ -102,7 +102,7 @@ module _ (ledger : HostView) (monitor : MonitorView) (whole : IsWhole ledger mon
     pub no_end : None ≡ walk_in monitor.machine rd ipa level → None ≡ row_at (world_of now) build ipa level
     no_end none = walk_told None none
 
-    -- by the code's own values for the walk's end
+    -- the row that code finds at the end of the walk is the one that `row_at` gives
     pub row_seen : (end : Walk) → Some end ≡ walk_in monitor.machine rd ipa level → (at : ℕ) (row : Row) (first : ℕ) → record { level = at; row = row } ≡ end
         → first ≡ first_covered at ipa → Some (record { level = at; first = first; entry = row }) ≡ row_at (world_of now) build ipa level
     row_seen end end_is at row first view_is first_is =
@@ -110,7 +110,7 @@ module _ (ledger : HostView) (monitor : MonitorView) (whole : IsWhole ledger mon
         ∙ ap (λ (e : Walk). Some (row_view ipa e)) view_is
         ∙ walk_told (Some end) end_is
 
-    -- an IPA granule that a realm has is one of the widest address space
+    -- if a walk ends at a row, its IPA granule is in the widest address space
     pub ipa_small : (end : Walk) → Some end ≡ walk_in monitor.machine rd ipa level → ipa < widest_space
     ipa_small end end_is = by (cell_at monitor.machine rd).descriptor refl end_is
       where

@@ -31,7 +31,7 @@ no_row_by_rd world build is = at (realm_of build world) is
     at None e = refl
     at (Some s) e = cc
 
--- the next number, by the row
+-- the number of a build's next REC is the one in the row of its realm, or 0 if there is no such row
 pub next_is : (world : World) (build : ℕ) → next_number (realm_of build world) ≡ unwrap_or (option_map (λ (realm : RealmRow). realm.next) (row_of world build)) 0
 next_is world build = at (realm_of build world)
   where

@@ -38,13 +38,14 @@ module _ (limits : Limits) (world : World) (sound : IsReachable limits world) (g
   target_is rd number is =
       ap (λ (o : Option RecRow). option_map (λ (rec : ℕ × _). (rec.0, InRec)) (option_map granules_of_rec o)) is.numbered ∙ ap (λ g. Some (g, InRec)) is.is
 
-  -- a granule is one REC of one realm
+  -- a granule is the REC of at most one realm
   same_rd : (rd number other n : ℕ) → IsRec world.machine rd number granule → IsRec world.machine other n granule → rd ≡ other
   same_rd rd number other n a b =
       let at_a = sound.names rd a.realm a.there (AsRec number) granule InRec (target_is rd number a) in
       let at_b = sound.names other b.realm b.there (AsRec n) granule InRec (target_is other n b) in
       same_Some _ _ (sym at_a.1 ∙ at_b.1)
 
+  -- a granule is a REC with at most one number
   same_number : (rd number other n : ℕ) → IsRec world.machine rd number granule → IsRec world.machine other n granule → number ≡ n
   unfolding number_of
   same_number rd number other n a b =
@@ -115,7 +116,7 @@ module _ (limits : Limits) (history : List Event) (world : World) (at_world : re
       ∙ ap (λ o. elim o [ Some realm ↦ is_rec_running (get realm.recs number) | None ↦ false ]) found.rec.there
       ∙ ap is_rec_running found.rec.numbered)
 
-  -- the REC, as it is read by its number
+  -- reading a build's REC by its number gives its granule, and the attributes that are read at that granule
   pub rec_is : rec_at world build number ≡ option_map (λ rec. (granule, rec)) (rec_attributes_at world.machine granule)
   rec_is =
       let found = rec_there in

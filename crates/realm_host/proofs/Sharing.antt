@@ -54,7 +54,7 @@ reversed : (newest : Option Act) (back : Act) → option_and_then reverse_of new
 reversed None back e = cc
 reversed (Some act) back e = (reverse_is act back e).reverse
 
--- what an abort undoes are reverses
+-- the events that undo a build's operations are all reverses
 own_reverses : (build : ℕ) (acts : List Act) → All (IsOthersOrReverse build) (map (by build) (reverses acts))
 own_reverses build [] = All-nil (IsOthersOrReverse build)
 own_reverses build (act ∷ acts) = at (reverse_of act) refl (own_reverses build acts)
@@ -64,7 +64,7 @@ own_reverses build (act ∷ acts) = at (reverse_of act) refl (own_reverses build
     at None is rest = rest
     at (Some r) is rest = All-cons (IsOthersOrReverse build) (by build r) (map (by build) (reverses acts)) (λ mine. (reverse_is act r is).reverse) rest
 
--- no event of another build is this one's
+-- the events of another build all satisfy `IsOthersOrReverse`
 all_others : (build other : ℕ) (acts : List Act) → other ≢ build → All (IsOthersOrReverse build) (map (by other) acts)
 all_others build other [] not = All-nil (IsOthersOrReverse build)
 all_others build other (act ∷ acts) not = All-cons (IsOthersOrReverse build) (by other act) (map (by other) acts) (λ mine. absurd (not mine)) (all_others build other acts not)
@@ -103,7 +103,7 @@ others_open build other history (act ∷ acts) not =
     ∙ others_open build other (history ++ by other act ∷ []) acts not
     ∙ open_entries-other build history (by other act) not
 
--- the properties of each host on the way
+-- the properties of each host that calls lead to after an abort of the build began at the host `old`
 pub record Going (old : HostView) (build : ℕ) (host : HostView) : Type 0 where
   pub there : build < old.limits.builds
   pub rest : IsAtRest (realm_of build (world_of old))
@@ -131,7 +131,8 @@ module _ (old : HostView) (build : ℕ) (host : HostView) (since : Going old bui
   unchanged : (new : HostView) → new ≡ host → Going old build new
   unchanged new same = subst (Going old build) (sym same) since
 
-  -- another build's flag is written, and the same operations are still open
+  -- if another build's flag is written and the same operations are open, the build is still in abort exactly if it has
+  -- something open
   still : (other : ℕ) (flag : Bool) (new : HostView) → other ≢ build → new.aborting ≡ set host.aborting other flag → open_of new build ≡ open_of host build
       → is_aborting new build ≡ HasOpen new build
   still other flag new not flags opened =
@@ -161,7 +162,7 @@ module _ (old : HostView) (build : ℕ) (host : HostView) (since : Going old bui
 
   -- ---- calls
 
-  -- what the build is refused in abort, it does not do
+  -- a build that is not in abort is another build than the one in abort
   own_refused : (other : ℕ) → is_aborting host other ≡ false → other ≢ build
   own_refused other out same = let no : true ≡ false = sym aborts ∙ ap (is_aborting host) (sym same) ∙ out in cc
 
@@ -178,7 +179,7 @@ module _ (old : HostView) (build : ℕ) (host : HostView) (since : Going old bui
   after_call other Undo (WasUndone undone) new done =
       with_one other done.act new done.accepted.grows (λ mine. reversed (last_or None (open_of host other)) done.act done.accepted.act_of)
 
-  -- another build's flag and history alone
+  -- the properties are kept by calls that append events of another build and write that build's flag
   after_others : (other : ℕ) (new : HostView) (acts : List Act) (flag : Bool) → other ≢ build → new.limits ≡ host.limits → new.history ≡ host.history ++ map (by other) acts
       → new.aborting ≡ set host.aborting other flag → Going old build new
   after_others other new acts flag not limits history flags =
@@ -203,7 +204,7 @@ module _ (old : HostView) (build : ℕ) (host : HostView) (since : Going old bui
       after_others other new _ _ (own_refused other (not_aborting host other _ none)) (ap (λ (h : HostView). h.limits) is.new_is)
       (ap (λ (h : HostView). h.history) is.new_is) (ap (λ (h : HostView). h.aborting) is.new_is)
 
-  -- its own abort by one call ends it
+  -- the properties are kept by one call that undoes all of the build's own operations
   own_abort : (count : ℕ) (new : HostView) → IsLegal host.limits host.history → IsAbortAnswer host build (Ok count) new → Going old build new
   own_abort count new legal (none, is) =
       let rests = at_rest host build [] (passed_parts (nat_le host.limits.builds build) NoBuild _ none).1 in
@@ -319,7 +320,7 @@ module _ (host : HostView) (build other : ℕ) (not : other ≢ build) where
   opened_by_others (Applies act false) new is = unchanged_open new is.unchanged
   opened_by_others (Applies act true) new is = one_more act new is.applied
 
--- the act of which this is the reverse
+-- if an optional operation has the reverse `back`, there is an operation, and `back` is its reverse
 reversed_act : (newest : Option Act) (back : Act) → option_and_then reverse_of newest ≡ Some back → (act : Act) × (newest ≡ Some act) × (reverse_of act ≡ Some back)
 reversed_act None back none = cc
 reversed_act (Some act) back is = (act, refl, is)

@@ -41,7 +41,7 @@ build_there inside host build same there = ltb-true build host.limits.builds (su
 
 -- ---- leases
 
--- a machine has no granule of that number
+-- a number that gives no granule is at least the number of pages
 none_of_number : (number pages : ℕ) → pages ≤ 4096 → None ≡ (if nat_lt number 4096 && nat_lt number pages then Some number else None) → pages ≤ number
 none_of_number number pages few none = search (arith, none, few)
 
@@ -59,7 +59,7 @@ module _ (ledger : HostView) (monitor : MonitorView) (whole : IsWhole ledger mon
       ap (λ o. option_eq same_lease o (Some (Some build))) (sym (slice_get_past (world_of ledger).leases number past))
       ∙ ap (λ (h : HostView). is_leased_to (Some build) (world_of h).leases number) view_is
 
-  -- the page of a Peek is taken
+  -- the granule that a Peek reads is in the machine, and is not free, if the build leases it
   pub peeked_taken : (act : Act) (granule offset byte : ℕ) → act ≡ Peek granule offset byte → list_all (is_leased_to (Some build) (world_of now).leases) (named act) ≡ true → IsTaken monitor granule
   unfolding named
   peeked_taken act granule offset byte is leased =
@@ -76,7 +76,7 @@ module _ (ledger : HostView) (monitor : MonitorView) (whole : IsWhole ledger mon
 abbrev says : HostView → ℕ → Act → Bool
 says host build act = fits act (realm_of build (world_of host)) (named_cells (world_of host) act)
 
--- if they do not, the operation is no step
+-- an operation whose values do not agree with the machine is no step
 pub no_step : (host : HostView) (build : ℕ) (act : Act) (answer : Bool) → answer ≡ says host build act → OnFalse answer (IsNoStep host build act)
 no_step host build act true is = search
 no_step host build act false is =
@@ -90,14 +90,14 @@ module _ (ledger : HostView) (monitor : MonitorView) (whole : IsWhole ledger mon
   machine_is : monitor.machine ≡ (world_of now).machine
   machine_is = whole.mirror.machine ∙ ap (λ (h : HostView). (world_of h).machine) view_is
 
-  -- the byte that is read
+  -- the values of a Peek agree with the machine exactly if its byte is the one that is read
   pub byte_said : (granule offset byte found : ℕ) → act ≡ Peek granule offset byte → found ≡ slice_index (cell_at monitor.machine granule).bytes offset → nat_eq found byte ≡ says now build act
   unfolding fits named
   byte_said granule offset byte found is read =
       ap (λ n. nat_eq n byte) (read ∙ ap (λ (m : Machine). slice_index (cell_at m granule).bytes offset) machine_is)
       ∙ sym (alone _) ∙ ap (λ (a : Act). says now build a) (sym is)
 
-  -- a read that the RMM refuses
+  -- a Peek is no step if the RMM refuses to read its byte
   pub no_read : (granule offset byte : ℕ) (rmi : Rmi) → act ≡ Peek granule offset byte → Answers {A = ℕ} (Err rmi) (host_peek (seen_in monitor granule)) → IsNoStep now build act
   unfolding outcome_of named
   no_read granule offset byte rmi is refused next stepped =
@@ -107,7 +107,7 @@ module _ (ledger : HostView) (monitor : MonitorView) (whole : IsWhole ledger mon
       let here : host_peek (seen_in monitor granule) ≡ Ok done.updates = ap (λ (m : Machine). host_peek (seen m granule)) machine_is ∙ peeked in
       subst (λ (o : Outcome). Answers {A = ℕ} (Err rmi) o) here refused
 
-  -- that the build has no realm
+  -- the values of a Realm operation agree with the machine exactly if the build has no realm
   pub none_said : (rd : ℕ) (root : Root) (vmid : ℕ) (told : Option ℕ) (answer : Bool) → act ≡ Realm rd root vmid → told ≡ rd_of build (world_of ledger)
       → is_some told ≡ not answer → answer ≡ says now build act
   unfolding fits
@@ -140,13 +140,13 @@ module _ (now : HostView) (build : ℕ) (act : Act) (granule : ℕ) (auxiliaries
   by_realm None cells = refl
   by_realm (Some rd) cells = by_row rd.cell.descriptor
 
-  -- the number of the next REC
+  -- the values of a Rec operation agree with the machine exactly if its number is that of the realm's next REC
   pub number_said : (told : Option RealmAttributes) → told ≡ option_map attributes_of (row_of (world_of now) build) → is_next number told ≡ says now build act
   number_said told told_is =
       ap (is_next number) told_is ∙ by_realm (realm_of build (world_of now)) (named_cells (world_of now) (Rec granule auxiliaries number))
       ∙ ap (λ (a : Act). says now build a) (sym is)
 
--- other operations have no value that has to be checked
+-- a command that is no reverse, Peek, Realm or Rec has no value to check, so its values agree with the machine
 module _ (act : Act) (forward : is_reverse act ≡ false) (command : is_command act ≡ true)
     (not_peek : (granule offset byte : ℕ) → act ≡ Peek granule offset byte → ⊥)
     (not_realm : (rd : ℕ) (root : Root) (vmid : ℕ) → act ≡ Realm rd root vmid → ⊥)
@@ -167,7 +167,8 @@ module _ (act : Act) (forward : is_reverse act ≡ false) (command : is_command 
   pub fits_else : (realm : Option Seen) (cells : List Seen) → fits act realm cells ≡ true
   fits_else realm cells = fits_as act refl realm cells
 
-  -- and operations that are none of these either name no granule
+  -- a command that is no reverse, Peek, Realm or Rec names no granule, unless it is a Fill, Delegate, Rtt, Data or
+  -- Unknown
   module _ (not_fill : (granule value : ℕ) → act ≡ Fill granule value → ⊥) (not_delegate : (granule : ℕ) → act ≡ Delegate granule → ⊥)
       (not_rtt : (granule ipa level : ℕ) → act ≡ Rtt granule ipa level → ⊥) (not_data : (granule ipa source : ℕ) → act ≡ Data granule ipa source → ⊥)
       (not_unknown : (granule ipa : ℕ) → act ≡ Unknown granule ipa → ⊥) where

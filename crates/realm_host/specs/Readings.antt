@@ -49,7 +49,7 @@ rec_at world build number =
 abbrev pub row_view : ℕ → Walk → RowView
 row_view ipa end = record { level = end.level; first = first_covered end.level ipa; entry = end.row }
 
--- the row at which the walk of an IPA granule, down to the given level at most, ends in a build's realm, if the realm
--- has that IPA granule
+-- the row at which the walk for an IPA granule ends in a build's realm, at the given level at most, if the realm has
+-- that IPA granule
 abbrev pub row_at : World → ℕ → ℕ → ℕ → Option RowView
 row_at world build ipa level = option_map (row_view ipa) (option_and_then (λ (realm : RealmRow). walk_of realm ipa level) (row_of world build))

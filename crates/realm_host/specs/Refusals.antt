@@ -58,8 +58,8 @@ last_checks host build cmd = refused_by (outcome_asked host build cmd)
 
 -- ---- the checks of a call
 
--- The checks of a call, in the order of the refusals' numbers. A reverse has kept its room, and the RMM refuses only
--- the reverse of a REC that runs.
+-- The checks of a call, in the order of the refusals' numbers. An undo needs no check of room, since its operation took
+-- room for the reverse too. The RMM refuses a reverse only if it would destroy a REC that runs.
 abbrev pub checks_of_call : HostView → ℕ → Call → List Check
 checks_of_call host build (Ask cmd) = checks_of (summary_of host) build cmd ++ last_checks host build cmd
 checks_of_call host build Undo = no_build host build ∷ nothing_to_undo host build ∷ rec_running host build ∷ []

@@ -24,8 +24,8 @@ impl<S: PageStore> Host<S> {
         self.ask(build, &cmd)
     }
 
-    /// Performs a command of a build, without taking ownership of the command. `ask` does what `command` does. So a
-    /// plan asks for its commands without a copy.
+    /// Performs a command of a build, without taking ownership of the command. `ask` does what `command` does. So the
+    /// run of a plan does not copy the plan's commands.
     pub fn ask(&mut self, build: BuildId, cmd: &Cmd) -> Result<Reply, Refusal>
         ensures { IsAnswer self.old build (Ask cmd.now) (replied result) self.new }
     {

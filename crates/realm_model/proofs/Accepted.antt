@@ -58,7 +58,8 @@ module _ (limits : Limits) (capacity most : ℕ) where
 
 -- ---- a build left out
 
--- a property of each prefix of a history, without a build's events, is one of each prefix of the history without them
+-- if each prefix of a history has a property once a build is left out, so has each prefix of the history without the
+-- build
 take-erase : (b : ℕ) (P : List Event → Type 0) (es : List Event) → ((n : ℕ) → P (erase b (take n es))) → (k : ℕ) → P (take k (erase b es))
 take-erase b P es all zero = all 0
 take-erase b P [] all (suc k) = all 0

@@ -46,7 +46,7 @@ alike_more [] (x ∷ xs) vs ys h k = absurd h
 alike_more (u ∷ us) [] vs ys h k = absurd h
 alike_more (u ∷ us) (x ∷ xs) vs ys h k = (h.0, alike_more us xs vs ys h.1 k)
 
--- updates of granules that both see
+-- the updates of the same granules in two machines are alike if those of each granule are
 pub alike_seen : (f g : Seen → Update) (m n : Machine) → ((k : ℕ) → IsAlike (f (seen m k)) (g (seen n k))) → (ks : List ℕ) → AreAlike (map f (map (seen m) ks)) (map g (map (seen n) ks))
 alike_seen f g m n each [] = tt
 alike_seen f g m n each (k ∷ ks) = (each k, alike_seen f g m n each ks)

@@ -25,7 +25,7 @@ use Rattle.realm_model.proofs.RealmAfter.{Allows, turned_by, realm_gone_step, is
 use Rattle.realm_model.proofs.PartRealm.{part_realm, none_there, found}
 use Rattle.realm_model.proofs.Parts.{IsSoundPart}
 
--- a REC that does not run does not run after
+-- each REC that does not run in realm `d` does not run in realm `e`
 abbrev Rests : RealmRow → RealmRow → Type 0
 Rests d e = (n : ℕ) → is_rec_running (get d.recs n) ≡ false → is_rec_running (get e.recs n) ≡ false
 
@@ -53,7 +53,7 @@ module _ (limits : Limits) (b : ℕ) (w v : World) (kept : IsKept b w) (kept_v :
   not_made (Realm rd root vmid) r k e m = cc
   not_made _ r k e m = m
 
-  -- the number of a realm that is there, by its row
+  -- a REC of the build's realm runs exactly if it does in the realm's row in the build's part
   runs_in : (w : World) (kept : IsKept b w) (k : ℕ) (d : RealmRow) → (cell_at (part_of w b).machine k).descriptor ≡ Some d → (n : ℕ) → rec_runs (realm_of b w) n ≡ is_rec_running (get d.recs n)
   runs_in w kept k d is n = ap (λ o. rec_runs o n) (found b w kept k d is) ∙ ap (λ o. elim o [ Some r ↦ is_rec_running (get r.recs n) | None ↦ false ]) is
 

@@ -19,8 +19,8 @@ use Rattle.realm_model.proofs.Stack.{paired, pushed_other, back, pushed_back, ki
 use Rattle.realm_model.proofs.Lists.{reverse_more, last-reverse, front_push, last_push}
 use Rattle.realm_model.proofs.Growth.{open_entries-own, open_entries-other, takes_away}
 
--- The obligations of single steps. `Same u w`: the worlds own the same to the build, whatever bytes, RIPAS,
--- measurements and states of RECs are. `Sound w`: what every reachable world keeps
+-- The properties required of single steps. `Same u w`: the build owns the same in both worlds, whatever bytes, RIPAS,
+-- measurements and states of RECs are. `Sound w`: what every reachable world keeps.
 pub record Laws (limits : Limits) (b : ℕ) (Same : World → World → Type 0) (Sound : World → Type 0) : Type 0 where
   pub itself : (w : World) → Same w w
   pub chain : (u v w : World) → Same u v → Same v w → Same u w
@@ -33,9 +33,10 @@ pub record Laws (limits : Limits) (b : ℕ) (Same : World → World → Type 0) 
   -- a reverse operation leads back to what the build owned before the reversed one
   pub pair : (u v w x : World) (act r : Act) → reverse_of act ≡ Some r → Sound u → Sound w → step limits u (by b act) ≡ Some v → Same v w → step limits w (by b r) ≡ Some x → Same u x
 
--- Histories from a base world on, above the operations that are open there.
+-- Histories that go on from a base world, in which the operations `below` are open.
 module _ (limits : Limits) (b : ℕ) (Same : World → World → Type 0) (Sound : World → Type 0) (laws : Laws limits b Same Sound) (base : World) (below : List Act) where
-  -- the build owns in the world what the operations open above the base make of the base, the newest first
+  -- what the build owns in the world results from the base world by the listed operations alone, the newest of them
+  -- first
   abbrev pub Chain : List Act → World → Type 0
   Chain [] w = Same base w
   Chain (act ∷ st) w = (u : World) × (v : World) × Sound u × Chain st u × (step limits u (by b act) ≡ Some v) × Same v w × (is_paired act ≡ true)
@@ -44,7 +45,8 @@ module _ (limits : Limits) (b : ℕ) (Same : World → World → Type 0) (Sound 
   chain_same [] w x same h = laws.chain _ _ _ h same
   chain_same (act ∷ st) w x same h = (h.0, h.1, h.2, h.3, h.4, laws.chain _ _ _ h.5 same, h.6)
 
-  -- a history keeps a chain of what is open above the base
+  -- the world is sound, `stack` is open above `below` after the history, and what the build owns results from the base
+  -- by `stack`
   pub record Kept (stack : List Act) (history : List Event) (w : World) : Type 0 where
     pub sound : Sound w
     pub open_is : open_entries b history ≡ below ++ reverse stack
@@ -157,8 +159,8 @@ module _ (limits : Limits) (b : ℕ) (Same : World → World → Type 0) (Sound 
       let no_stack : k.0 ≡ [] = sym (reverse-reverse k.0) ∙ ap reverse (sym k.1.open_is ∙ none) in
       subst (λ st. Chain limits b Same Sound laws (opening limits) [] st w) no_stack k.1.chained
 
-  -- If an operation is open, a world before the newest one and the world right after it are known, which owns the same
-  -- as the world now
+  -- The newest open operation is a step between two worlds; the build owns in the second one what it owns in the world
+  -- now
   pub record Newest (act : Act) (w : World) : Type 0 where
     pub before : World
     pub after_it : World

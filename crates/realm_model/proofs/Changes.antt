@@ -31,7 +31,7 @@ use Rattle.realm_model.proofs.Outcomes.{Yields, Yields-Ok, Yields-with_rec, Yiel
 use Rattle.realm_model.proofs.Walks.{walk_at}
 use Rattle.realm_model.proofs.Puts.{is_of_block}
 
--- updates that change granules that the build leases, and no lease
+-- the update changes a granule that the build leases, and no lease
 abbrev pub is_change : ℕ → List (Option ℕ) → Update → Bool
 is_change build leases (Put granule cell) = is_leased_to (Some build) leases granule
 is_change build leases (PutByte granule offset value) = is_leased_to (Some build) leases granule
@@ -104,7 +104,7 @@ module _ (limits : Limits) (b : ℕ) (w : World) where
   seen_more : (cell : Cell) (gs : List ℕ) (us : List Update) → list_all L gs ≡ true → C us → C (map (put_seen cell) (map (seen w.machine) gs) ++ us)
   seen_more cell gs us h c = subst (λ xs. C (xs ++ us)) (sym (seen-each_put w.machine cell gs)) (puts_more cell gs us h c)
 
-  -- a build's realm is the one whose row is in its RD
+  -- a test that passes for the build's realm passes for the row at the RD that the test names
   own_is : (own : Seen) (rd : ℕ) (d : RealmRow) (test : Seen → RealmRow → Bool) → ((r : RealmRow) → test own r ≡ true → own.number ≡ rd)
       → realm_is (Some own) test ≡ true → cell_at w.machine own.number ≡ own.cell → (cell_at w.machine rd).descriptor ≡ Some d → test own d ≡ true
   own_is own rd d test place fit at is =

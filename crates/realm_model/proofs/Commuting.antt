@@ -99,7 +99,7 @@ is_newly_taken limits b act w v g stepped before then = by_test (is_in g (granul
 
 -- ---- VMIDs that an event takes or gives back
 
--- a build has a Realm operation with the VMID open
+-- the build has an open Realm operation with this VMID
 abbrev uses : ℕ → ℕ → List Event → Bool
 uses v c history = list_any (uses_vmid v) (open_entries c history)
 
@@ -148,7 +148,7 @@ module _ (v : ℕ) (back : Act) where
   newest_if_gives (Rec g aux n) e i = let none = subst (λ a. is_in v (vmids_given_back a) ≡ true) (sym (same_Some _ _ e)) i in cc
   newest_if_gives act e i = cc
 
--- one more open operation, or one less
+-- operations use a VMID exactly if those before the last one use it, or the last one does
 module _ (v : ℕ) (below : List Act) (act : Act) where
   top : list_any (uses_vmid v) (below ++ act ∷ []) ≡ (list_any (uses_vmid v) below || uses_vmid v act)
   top = list_any-append (uses_vmid v) below (act ∷ []) ∙ ap (λ t. list_any (uses_vmid v) below || t) (or_none (uses_vmid v act))
@@ -166,13 +166,13 @@ module _ (history : List Event) (b : ℕ) (act : Act) (turn : IsInTurn history (
   abbrev grown : List Event
   grown = history ++ by b act ∷ []
 
-  -- a VMID that an operation takes is open in its build afterwards
+  -- a VMID that an operation takes is used by an open operation of its build afterwards
   is_open : is_in v (vmids_taken act) ≡ true → uses v b grown ≡ true
   is_open i =
       ap (list_any (uses_vmid v)) (open_entries-own history (by b act) ∙ pushed_paired (open_entries b history) act (takes_paired v act i))
       ∙ by_top v (open_entries b history) act (uses_if_takes v act i)
 
-  -- a VMID that an operation gives back was open in its build before
+  -- a VMID that an operation gives back was used by an open operation of its build before
   was_open : is_in v (vmids_given_back act) ≡ true → uses v b history ≡ true
   was_open i =
       let back = gives_reverse v act i in
@@ -200,21 +200,21 @@ module _ (history : List Event) (b : ℕ) (act : Act) (turn : IsInTurn history (
     | of_other p r ↦ ap (list_any (uses_vmid v)) (sym (open_entries-own history (by b act) ∙ pushed_other (open_entries b history) act p r)) ∙ e
   ]
 
-  -- a VMID that is open in a build stays open, unless the operation gives it back
+  -- a VMID that an open operation of a build uses is still used by one afterwards, unless the event gives it back
   open_still : (c : ℕ) → uses v c history ≡ true → is_in v (vmids_given_back act) ≡ false → uses v c grown ≡ true
   open_still c e kept = elim (cases_eq b c) [
     | inl same ↦ subst (λ n. uses v n history ≡ true → uses v n grown ≡ true) same (λ e. own_still e kept) e
     | inr apart ↦ ap (list_any (uses_vmid v)) (open_entries-other c history (by b act) apart) ∙ e
   ]
 
-  -- a VMID that is open in a build was open before, unless the operation takes it
+  -- a VMID that an open operation of a build uses was used by one before, unless the event takes it
   open_before : (c : ℕ) → uses v c grown ≡ true → is_in v (vmids_taken act) ≡ false → uses v c history ≡ true
   open_before c e old = elim (cases_eq b c) [
     | inl same ↦ subst (λ n. uses v n grown ≡ true → uses v n history ≡ true) same (λ e. own_before e old) e
     | inr apart ↦ ap (list_any (uses_vmid v)) (sym (open_entries-other c history (by b act) apart)) ∙ e
   ]
 
--- a VMID is in use exactly if it is open in a build
+-- a VMID is in use exactly if an open operation of some build uses it
 module _ (limits : Limits) (history : List Event) (w : World) (legal : IsLegal limits history) (at_w : replay limits history ≡ Some w) (v : ℕ) where
   used_if_open : (c : ℕ) → uses v c history ≡ true → is_in v (used_vmids w.machine) ≡ true
   used_if_open c e = in_from_Contains (used_vmids w.machine) v ((vmid_is_open limits history w v legal at_w).1 (c, e))
@@ -244,10 +244,11 @@ runs limits history one other legal =
     option_and_then_some (after limits []) (step limits x other) last.0 rest (λ z other_goes at.
     record { base = s.base; legal = s.legal; base_is = s.base_is; turn_one = s.turns.0; turn_other = s.turns.1.0; middle = x; one_goes = one_goes; end = z; other_goes = other_goes }))
 
--- an event is in turn without one of another build
+-- an event that is in turn after another build's event is in turn without that event too
 turn_before : (history : List Event) (one other : Event) → one.build ≢ other.build → IsInTurn (history ++ one ∷ []) other → IsInTurn history other
 turn_before history one other apart turn = λ r. ap (λ acts. option_and_then reverse_of (last_or None acts)) (sym (open_entries-other other.build history one apart)) ∙ turn r
 
+-- an event that is in turn is still in turn after another build's event
 turn_after : (history : List Event) (one other : Event) → one.build ≢ other.build → IsInTurn history other → IsInTurn (history ++ one ∷ []) other
 turn_after history one other apart turn = λ r. ap (λ acts. option_and_then reverse_of (last_or None acts)) (open_entries-other other.build history one apart) ∙ turn r
 
@@ -255,7 +256,7 @@ module _ (limits : Limits) (history : List Event) (one other : Event) (apart : o
   after_one : Grows limits history one run.middle
   after_one = grows limits history one run.base run.middle run.legal run.base_is run.one_goes run.turn_one
 
-  -- the other event is accepted first, if it takes nothing that the one gives back
+  -- the event `other` is accepted first, if it takes nothing that `one` gives back
   other_at_first : ¬ GivesTo one.act other.act → (v : World) × (step limits run.base other ≡ Some v)
   other_at_first none =
       goes_there limits one.build run.middle run.base (sym (without-own_step limits one.build run.base run.middle one refl (clean_reached limits history run.base run.base_is) run.one_goes))
@@ -278,7 +279,7 @@ module _ (limits : Limits) (history : List Event) (one other : Event) (apart : o
     after_other : Grows limits history other v
     after_other = grows limits history other run.base v run.legal run.base_is first (turn_before history one other apart run.turn_other)
 
-    -- the one event is accepted after the other
+    -- the event `one` is accepted after `other`
     one_then : (z : World) × (step limits v one ≡ Some z)
     one_then =
         goes_there limits other.build run.base v (without-own_step limits other.build run.base v other refl (clean_reached limits history run.base run.base_is) first)
@@ -305,7 +306,7 @@ module _ (limits : Limits) (history : List Event) (one other : Event) (apart : o
     swapped = subst (IsLegal limits) (append_assoc history (other ∷ []) (one ∷ []))
         (grows limits (history ++ other ∷ []) one v one_then.0 after_other.legal after_other.world_is one_then.1 (turn_after history other one (λ e. apart (sym e)) run.turn_one)).legal
 
-  -- the other event can't be first if it takes what the one gives back
+  -- the event `other` cannot be first if it takes what `one` gives back
   nothing_given : IsLegal limits (history ++ other ∷ one ∷ []) → ¬ GivesTo one.act other.act
   nothing_given legal gives =
       let turned = runs limits history other one legal in

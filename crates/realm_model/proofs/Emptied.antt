@@ -12,7 +12,7 @@ use Rattle.realm_model.proofs.Chain.{nothing_open, kept}
 use Rattle.realm_model.proofs.LeftOut.{noninterference}
 use Rattle.realm_model.proofs.Lists.{head_or, tail}
 
--- a lease that is not the build's, since the build's part has none
+-- a lease that is missing in the build's part is not the build's
 not_of : (b : ℕ) (lease : Option ℕ) → unleased (is_of_other b) lease ≡ None → is_of b lease ≡ false
 not_of b None e = refl
 not_of b (Some c) e = by_test (c == b) e

@@ -42,7 +42,7 @@ is_in-range k a (suc n) low high = elim (k == a) as (λ t. (k == a) ≡ t → (t
   | false ↦ λ e. let apart : k ≢ a = eqb-false k a e in is_in-range k (a + 1) n (omega arith) (omega arith)
 ] refl
 
--- a granule is in the free set, by its lease
+-- a granule of the machine is in the free set exactly if nobody leases it
 pub is_in-free_set : (w : World) (g : ℕ) → is_in g (free_set w) ≡ is_leased_to None w.leases g
 is_in-free_set w g =
     is_in-filter (is_leased_to None w.leases) g (range_with_len 0 (length w.leases))

@@ -45,7 +45,7 @@ some_stays : (rows : Rows) (place : ℕ × ℕ) (row : Row) (q : ℕ × ℕ) →
 some_stays rows place row q some = ap is_some (mapping_at-insert rows place q row)
     ∙ elim (is_place q place) as (λ t. is_some (cond t (Some (mapping_of_row row)) (mapping_at rows q)) ≡ true) [ true ↦ refl | false ↦ some ]
 
--- a row that is no table, at any place
+-- no row goes missing if a row that is no table is written at any place
 pub put_full : {width : ℕ} (rows : Rows) (place : ℕ × ℕ) (row : Row) → IsFull width (mapping_at rows) → is_table_kind (Some (mapping_of_row row)) ≡ false → IsFull width (mapping_at (insert rows place row))
 put_full rows place row full plain = record {
   root = λ ipa inside. some_stays rows place row (1, first_covered 1 ipa) (full.root ipa inside);
@@ -58,7 +58,7 @@ put_full rows place row full plain = record {
       | false ↦ λ h. h
     ] (ap is_table_kind (sym (mapping_at-insert rows place q row)) ∙ h)
 
--- rows that become RAM
+-- no row goes missing if UNASSIGNED rows get RIPAS RAM
 pub with_ram_full : {width : ℕ} (rows : Rows) (ipa n : ℕ) → IsFull width (mapping_at rows) → all_rows is_unassigned rows 3 ipa n ≡ true → IsFull width (mapping_at (with_ram rows ipa n))
 unfolding with_ram
 with_ram_full {width} rows ipa n full all = subst (IsFull width) (λ i q. same_rows rows ipa n all q i) full
@@ -116,7 +116,8 @@ module _ {width : ℕ} (rows : Rows) (level ipa : ℕ) (at : IsTablePlace ipa le
       | inr new ↦ ap is_some new.0
     ]
 
-    -- a table then is that one, or was one
+    -- a row that is TABLE after the new table is made was TABLE before, unless it is the row that leads to the new
+    -- table
     made_table : (q : ℕ × ℕ) → is_place q up ≡ false → is_table_kind (mapping_at made q) ≡ true → is_table_kind (mapping_at rows q) ≡ true
     made_table q e h = elim (put_kinds (unassigned ripas) topped level ipa 512 q) [
       | inl same ↦ let other = same ∙ mapping_at-insert rows up q (table granule) ∙ ap (λ t. cond t (Some (mapping_of_row (table granule))) (mapping_at rows q)) e in ap is_table_kind (sym other) ∙ h

@@ -27,7 +27,7 @@ use Rattle.realm_model.proofs.StepSays.{step_is}
 
 -- ---- VMIDs
 
--- a command that is not refused is not refused beside other VMIDs in use, if these lack the VMID that it takes
+-- a command that is not refused with some VMIDs in use is not refused with others, if these lack the VMID that it takes
 outcome_of-taken : (limits : Limits) (used others : List ℕ) (act : Act) → ((v : ℕ) → is_in v (vmids_taken act) ≡ true → is_in v others ≡ false)
     → (realm : Option Seen) (gs : List Seen) (us : List Update) → outcome_of limits.vmids limits.aux used act realm gs ≡ Ok us → outcome_of limits.vmids limits.aux others act realm gs ≡ Ok us
 unfolding outcome_of
@@ -80,7 +80,8 @@ taken_from_none c _ g none i = cc
 -- ---- one event
 
 module _ (limits : Limits) (b : ℕ) (y x : World) (rest : without x b ≡ without y b) where
-  -- a lease that is not the build's is the same in both worlds, unless the build leases that granule in the other one
+  -- a lease in `y` that is not the build's is the same in `x`, unless it is nobody's and the build leases the granule
+  -- in `x`
   lease_there : (h : Option ℕ) (g : ℕ) → is_of b h ≡ false → (h ≡ None → slice_get x.leases g ≡ Some (Some b) → ⊥) → slice_get y.leases g ≡ Some h → slice_get x.leases g ≡ Some h
   lease_there h g apart free e = by_lease (slice_get x.leases g) refl
       (sym (slice_get-map (unleased (is_of b)) x.leases g) ∙ ap (λ (w : World). slice_get w.leases g) rest ∙ slice_get-map (unleased (is_of b)) y.leases g

@@ -32,7 +32,7 @@ AllInTurn_push before [] e h turn = (subst (λ b. IsInTurn b e) (append-nil befo
 AllInTurn_push before (x ∷ es) e h turn =
     (h.0, AllInTurn_push (before ++ x ∷ []) es e h.1 (subst (λ b. IsInTurn b e) (sym (append_assoc before (x ∷ []) es)) turn))
 
--- a legal step makes a legal history, and its world
+-- the history with the event is legal, and leads to the world
 pub record Grows (limits : Limits) (history : List Event) (event : Event) (world : World) : Type 0 where
   pub legal : IsLegal limits (history ++ event ∷ [])
   pub world_is : replay limits (history ++ event ∷ []) ≡ Some world
@@ -58,7 +58,7 @@ acts_of-other build history event apart =
     ∙ ap (λ t. filter (λ x. x.build == build) history ++ cond t (event ∷ []) []) (ne_eqb event.build build apart)
     ∙ append-nil (filter (λ x. x.build == build) history))
 
--- the open operations after one more event
+-- an event changes the open operations of its build as `pushed` says
 pub open_entries-own : (history : List Event) (event : Event) → open_entries event.build (history ++ event ∷ []) ≡ pushed (open_entries event.build history) event.act
 unfolding open_entries
 open_entries-own history event =

@@ -36,7 +36,7 @@ module _ (p : Option ℕ → Bool) (lease : Option ℕ) (apart : IsShown p lease
   shown : (cell : Cell) → hidden p lease cell ≡ cell
   shown cell = ap (λ t. cond t blank cell) apart
 
-  -- the granules named are leased, and are seen, as they are
+  -- granules whose lease is not hidden are leased and seen as they were
   named_leased : (leases : List (Option ℕ)) (gs : List ℕ) → list_all (is_leased_to lease leases) gs ≡ true → list_all (is_leased_to lease (map (unleased p) leases)) gs ≡ true
   named_leased leases [] h = refl
   named_leased leases (g ∷ gs) h =
@@ -53,7 +53,7 @@ module _ (p : Option ℕ → Bool) (lease : Option ℕ) (apart : IsShown p lease
       let rest : map (seen (each (hidden p) leases machine)) gs ≡ map (seen machine) gs = named_seen leases machine gs both.1 in
       λ i. record { number = g; cell = cell i } ∷ rest i
 
--- the realm of a build that is not hidden is where it was
+-- the realm that a search finds at this granule, or else in the rest; hiding other builds keeps it (`realm_kept`)
 abbrev realm_or : ℕ → ℕ → Option ℕ → Cell → Option Seen → Option Seen
 realm_or c n lease cell rest = cond (same_lease lease (Some c) && is_some cell.descriptor) (Some (record { number = n; cell = cell })) rest
 
@@ -125,7 +125,7 @@ module _ (limits : Limits) (p : Option ℕ → Bool) (free : p None ≡ false) (
   unfolding step
   masked-own_step own clean s = masked-own_after_plan p free e.build own _ w v clean (guarded (is_allowed limits w e) _ v s).1
 
--- without one build, and with one build alone
+-- the world without a build has the steps of all other builds, and the part of a build has that build's own steps
 module _ (limits : Limits) (b : ℕ) (w v : World) (e : Event) where
   pub step-without : e.build ≢ b → step limits w e ≡ Some v → step limits (without w b) e ≡ Some (without v b)
   step-without apart s = step-masked limits (is_of b) refl w v e (ne_eqb e.build b apart) s

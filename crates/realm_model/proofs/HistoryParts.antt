@@ -10,7 +10,7 @@ use Rattle.realm_model.specs.Step.{step}
 use Rattle.realm_model.specs.History.{erase, acts_of, open_entries, unmatched, AllInTurn, after, replay, IsLegal}
 use Rattle.realm_model.proofs.LeftOut.{acts_of-erase}
 
--- the world after both parts
+-- the world after two parts of a history is the one that the second part leads to from the world after the first
 pub after_append : (limits : Limits) (xs ys : List Event) (w : World) → after limits (xs ++ ys) w ≡ option_and_then (after limits ys) (after limits xs w)
 unfolding after
 after_append limits [] ys w = refl
@@ -20,7 +20,7 @@ after_append limits (x ∷ xs) ys w =
       | Some v ↦ after_append limits xs ys v
     ]
 
--- each in turn: those of the first part, and those of the second after it
+-- if all events of two parts are in turn, so are those of the first part, and those of the second part after it
 AllInTurn_split : (before xs ys : List Event) → AllInTurn before (xs ++ ys) → AllInTurn before xs × AllInTurn (before ++ xs) ys
 AllInTurn_split before [] ys h = (tt, subst (λ start. AllInTurn start ys) (sym (append-nil before)) h)
 AllInTurn_split before (x ∷ xs) ys h =
@@ -46,13 +46,13 @@ split limits p s w legal at_w =
 
 -- ---- what is open, after one part and the events of others in the other
 
--- the operations of both parts
+-- a build's operations in two parts are those in the first part, and then those in the second
 pub acts_of-append : (b : ℕ) (xs ys : List Event) → acts_of b (xs ++ ys) ≡ acts_of b xs ++ acts_of b ys
 acts_of-append b xs ys =
     ap (map (λ (x : Event). x.act)) (filter-append (λ (x : Event). x.build == b) xs ys)
     ∙ map-append (λ (x : Event). x.act) (filter (λ (x : Event). x.build == b) xs) (filter (λ (x : Event). x.build == b) ys)
 
--- another build's events leave open what was
+-- a build's open operations stay the same if another build is left out of the second part
 pub open_others : (b c : ℕ) → c ≢ b → (xs ys : List Event) → open_entries c (xs ++ erase b ys) ≡ open_entries c (xs ++ ys)
 unfolding open_entries
 open_others b c apart xs ys = ap unmatched (acts_of-append c xs (erase b ys) ∙ ap (λ acts. acts_of c xs ++ acts) (acts_of-erase b c apart ys) ∙ sym (acts_of-append c xs ys))

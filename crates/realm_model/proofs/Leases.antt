@@ -21,7 +21,7 @@ pub lease_same : (a : Option ℕ) → same_lease a a ≡ true
 lease_same None = refl
 lease_same (Some x) = eq-eqb x x refl
 
--- the lease of a granule, if its test holds
+-- if the test for a lease passes, the granule has that lease
 leased_there : (o : Option (Option ℕ)) (lease : Option ℕ) → option_eq same_lease o (Some lease) ≡ true → o ≡ Some lease
 leased_there None lease e = cc
 leased_there (Some l) lease e = ap Some (lease_is l lease e)
@@ -32,13 +32,13 @@ leased lease leases g e = leased_there (slice_get leases g) lease e
 pub leased_from : (lease : Option ℕ) (leases : List (Option ℕ)) (g : ℕ) → slice_get leases g ≡ Some lease → is_leased_to lease leases g ≡ true
 leased_from lease leases g e = ap (λ o. option_eq same_lease o (Some lease)) e ∙ lease_same lease
 
--- a lease that a change keeps is there after it
+-- if a change of all leases leaves a granule's lease as it is, the granule has that lease after the change
 pub leased-map : (f : Option ℕ → Option ℕ) (lease : Option ℕ) (leases : List (Option ℕ)) (g : ℕ) → f lease ≡ lease
     → is_leased_to lease leases g ≡ true → is_leased_to lease (map f leases) g ≡ true
 leased-map f lease leases g kept e =
     leased_from lease (map f leases) g (slice_get-map f leases g ∙ ap (option_map f) (leased lease leases g e) ∙ ap Some kept)
 
--- a write to the place of a lease that is so already
+-- writing the lease that a granule already has changes nothing
 pub set_lease : (leases : List (Option ℕ)) (g : ℕ) (lease : Option ℕ) → slice_get leases g ≡ Some lease → set leases g lease ≡ leases
 set_lease leases g lease e = ap (set leases g) (sym (get_or_from_slice_get leases g lease lease e)) ∙ set-get_or leases g lease
 
@@ -49,7 +49,8 @@ each-set f (x ∷ ls) [] (suc g) l c = refl
 each-set f (x ∷ ls) (y ∷ cs) zero l c = refl
 each-set f (x ∷ ls) (y ∷ cs) (suc g) l c = ap (λ r. f x y ∷ r) (each-set f ls cs g l c)
 
--- a granule's cell, each changed by its lease
+-- if each cell is changed according to its lease, the new cell of a granule is its old one, changed according to the
+-- granule's lease
 pub cell_at-each : (f : Option ℕ → Cell → Cell) (ls : List (Option ℕ)) (cells : Machine) (g : ℕ) (lease : Option ℕ)
     → f lease blank ≡ blank → slice_get ls g ≡ Some lease → cell_at (each f ls cells) g ≡ f lease (cell_at cells g)
 cell_at-each f [] cells g lease none e = cc
@@ -57,7 +58,7 @@ cell_at-each f (l ∷ ls) [] g lease none e = sym none
 cell_at-each f (l ∷ ls) (c ∷ cells) zero lease none e = let same : l ≡ lease = cc in ap (λ x. f x c) same
 cell_at-each f (l ∷ ls) (c ∷ cells) (suc g) lease none e = cell_at-each f ls cells g lease none e
 
--- a write of the cell that is there already
+-- writing the cell that a granule already has changes nothing
 pub set_cell : (cells : Machine) (g : ℕ) (c : Cell) → cell_at cells g ≡ c → set cells g c ≡ cells
 set_cell cells g c e = ap (set cells g) (sym e) ∙ set-get_or cells g blank
 
@@ -83,7 +84,7 @@ in_leased lease leases (g ∷ gs) h k e =
       | false ↦ λ same e. in_leased lease leases gs parts.1 k e
     ] refl e
 
--- each cell of a machine of blank ones
+-- each cell of a machine of blank cells is blank
 pub cell_at-replicate : (n g : ℕ) → cell_at (replicate n blank) g ≡ blank
 cell_at-replicate zero g = refl
 cell_at-replicate (suc n) zero = refl

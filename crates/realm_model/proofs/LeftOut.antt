@@ -78,7 +78,7 @@ IsInTurn-erase : (b : ℕ) (before : List Event) (e : Event) → e.build ≢ b �
 unfolding open_entries
 IsInTurn-erase b before e apart turn = λ r. ap (λ acts. option_and_then reverse_of (last_or None (unmatched acts))) (acts_of-erase b e.build apart before) ∙ turn r
 
--- one more event at the end of a history
+-- if a history gets one more event, so does the history without a build, unless the event is of that build
 pub erase_push : (b : ℕ) (before : List Event) (e : Event) (t : Bool) → (e.build == b) ≡ t → erase b (before ++ e ∷ []) ≡ erase b before ++ cond (not t) (e ∷ []) []
 erase_push b before e t h = filter-append (λ x. not (x.build == b)) before (e ∷ []) ∙ ap (λ t. erase b before ++ cond (not t) (e ∷ []) []) h
 

@@ -97,7 +97,7 @@ module _ {A : Type 0} where
     | false ↦ λ other. slice_get_set_other xs i k x (eqb-false k i other)
   ] refl
 
-  -- lists with the same look-ups
+  -- two lists are equal if each index has the same element in both, or none in either
   pub same_list : (xs ys : List A) → ((k : ℕ) → slice_get xs k ≡ slice_get ys k) → xs ≡ ys
   same_list [] [] h = refl
   same_list [] (y ∷ ys) h = let e = h 0 in cc
@@ -183,12 +183,12 @@ AllDistinct_parts (x ∷ xs) ys h =
       ] refl,
     )
 
--- the same, by the test that a command makes
+-- a list that passes the test `are_distinct` has no element twice
 pub AllDistinct-from_test : (xs : List ℕ) → are_distinct xs ≡ true → AllDistinct xs
 AllDistinct-from_test [] h = tt
 AllDistinct-from_test (x ∷ xs) h = let parts = and_parts _ _ h in (not_true _ parts.0, AllDistinct-from_test xs parts.1)
 
--- the same, by the definition of std
+-- in a list with no element twice, the elements at any two indices differ
 pub AllPairs-from_distinct : (xs : List ℕ) → AllDistinct xs → AllPairs (λ a b. a ≢ b) xs
 AllPairs-from_distinct [] h i j d less within = absurd (omega arith)
 AllPairs-from_distinct (x ∷ xs) h zero zero d less within = absurd (omega arith)

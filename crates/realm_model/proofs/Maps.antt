@@ -34,7 +34,7 @@ pub same_place : (q k : ℕ × ℕ) → eq_by_cmp place_cmp q k ≡ true → q �
 same_place q k e = place_cmp-IsAntisymmetric q k (equal (place_cmp q k) e)
 
 module _ {K X Y : Type 0} {R : K → K → Ordering} (total : IsTotalOrder R) (f : X → Y) where
-  -- a value in place of another that is the same by `f`
+  -- maps that are the same by `f` stay so if one gets a value that is the same by `f` as the other's value at that key
   pub same_insert : (m n : FinMap R X) (k : K) (x y : X) → get m k ≡ Some x → f x ≡ f y → ((q : K) → option_map f (get m q) ≡ option_map f (get n q))
       → (q : K) → option_map f (get m q) ≡ option_map f (get (insert n k y) q)
   same_insert m n k x y there alike same q =

@@ -30,7 +30,7 @@ module _ (mark : Mark) (history : List Event) (event : Event) (within : mark.pla
   longer : length next ≡ length history + 1
   longer = length-append history (event ∷ [])
 
-  -- up to the end of the history, or past it
+  -- each number is at most the length of the history, or at least the length with the new event
   by_place : {P : Type 0} (n : ℕ) → (n ≤ length history → P) → (length next ≤ n → P) → P
   by_place {P} n low high = elim (nat_lt (length history) n) as (λ t. nat_lt (length history) n ≡ t → P) [
     | true ↦ λ e. let past : length history < n = ltb-true (length history) n e in high (omega (arith, longer))

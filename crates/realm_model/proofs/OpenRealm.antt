@@ -52,7 +52,7 @@ module _ (b : ℕ) (w : World) (kept : IsKept b w) where
 
 -- ---- after an operation
 
--- an operation that destroys a realm finds one
+-- an operation that destroys a realm does not fit a build without a realm
 never_fits : (act : Act) (gs : List Seen) → is_realm_destroy act ≡ true → fits act None gs ≡ true → ⊥
 unfolding fits
 never_fits (UnRealm rd root vmid) gs d fit = cc
@@ -143,13 +143,14 @@ unfolding reverse_of is_reverse
 of_back (UnRealm rd root vmid) d = (refl, refl)
 of_back _ d = cc
 
--- a reverse that destroys no realm is that of an operation that makes none
+-- an operation whose reverse destroys no realm makes none
 plain_newest : (newest act : Act) → is_realm_destroy act ≡ false → reverse_of newest ≡ Some act → makes_realm newest ≡ false
 unfolding reverse_of
 plain_newest (Realm rd root vmid) act plain is = let never : true ≡ false = ap is_realm_destroy (same_Some _ _ is) ∙ plain in cc
 plain_newest _ act plain is = refl
 
--- a reverse that destroys a realm is that of an operation that makes it
+-- an operation equal to one that destroys a realm destroys a realm; so (`realm_newest`) an operation whose reverse
+-- destroys a realm makes one
 ends : (act act2 : Act) → is_realm_destroy act2 ≡ true → Some act ≡ Some act2 → is_realm_destroy act ≡ true
 ends act act2 d is = ap is_realm_destroy (same_Some _ _ is) ∙ d
 
@@ -164,7 +165,7 @@ realm_newest (Unknown granule ipa) act d is = let never : false ≡ true = ends 
 realm_newest (Rec granule auxiliaries number) act d is = let never : false ≡ true = ends _ act d is in cc
 realm_newest _ act d is = cc
 
--- a build has one realm at most
+-- at most one operation made a build's realm
 alone : (xs : List Act) (one : Act) (realm : Option Seen) → xs ++ one ∷ [] ≡ makers realm → xs ≡ []
 alone [] one realm e = refl
 alone (x ∷ xs) one None e = cc

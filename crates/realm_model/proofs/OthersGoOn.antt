@@ -32,13 +32,13 @@ in_either b (l ∷ leases) (c ∷ machine) even (suc k) d is = in_either b lease
 
 -- ---- one step
 
--- the world is another but for the part of a build, which is that of a base
+-- world `x` is `y`, with the part of build `b` put back to what it is in `base`
 pub record IsBack (b : ℕ) (base y x : World) : Type 0 where
   pub part : part_of x b ≡ part_of base b
   pub rest : without x b ≡ without y b
 
 module _ (limits : Limits) (b : ℕ) (base y x : World) (back : IsBack b base y x) (still : HasStill b base y) where
-  -- a granule that the build leases in x it leases in y
+  -- each granule that the build leases in x is leased to it in y
   own_there : (g : ℕ) → slice_get x.leases g ≡ Some (Some b) → slice_get y.leases g ≡ Some (Some b)
   own_there g e =
       let in_base : slice_get (part_of base b).leases g ≡ Some (Some b) =

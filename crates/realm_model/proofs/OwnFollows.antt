@@ -95,7 +95,7 @@ alike_realm rd sd d e twin same = alike_put rd.number sd.number _ _ twin.number 
 
 module _ (r s : Rows) (same : SameMappings r s) (ipa level : ℕ) (a b : Walk) (ra : walk r ipa level ≡ Some a) (sb : walk s ipa level ≡ Some b)
     (at_a : (a.level == level) ≡ true) (at_b : (b.level == level) ≡ true) where
-  -- walks that end at the level end at rows that are equal but for their RIPAS
+  -- walks that end at the given level end at rows that are equal but for their RIPAS
   end_same : mapping_of_row a.row ≡ mapping_of_row b.row
   end_same = same_Some _ _ (ap (option_map mapping_of_row) (sym (walk_at r ipa level a ra (eqb-true a.level level at_a))) ∙ same (level, first_covered level ipa)
       ∙ ap (option_map mapping_of_row) (walk_at s ipa level b sb (eqb-true b.level level at_b)))

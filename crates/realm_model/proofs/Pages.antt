@@ -49,7 +49,7 @@ pages_of-take b history order first =
 pages_less : (b : ℕ) (history : List Event) (act : Act) (away : TakesAway b history act) → pages_of b history ≡ pages_of b (history ++ by b act ∷ []) ++ pages_held away.newest
 pages_less b history act away = ap (flat_map pages_held) away.open_is ∙ pages_push b (history ++ by b act ∷ []) away.newest
 
--- the pages of the operation that a reverse UnTake reverses
+-- the operation that an UnTake reverses holds the pages of the UnTake's block
 held_by_pair : (newest : Act) (order first : ℕ) → reverse_of newest ≡ Some (UnTake order first) → pages_held newest ≡ block order first
 unfolding reverse_of
 held_by_pair (Take order first) order' first' e = of_same (same_Some _ _ e)
@@ -186,7 +186,7 @@ paged limits b history w legal at_w =
     none_leased zero (suc n) = refl
     none_leased (suc g) (suc n) = none_leased g n
 
--- a page, by its lease
+-- a granule is a page of a build exactly if the build leases it
 pub is_in-pages_of : (limits : Limits) (b : ℕ) (history : List Event) (w : World) → IsLegal limits history → replay limits history ≡ Some w → (g : ℕ)
     → is_in g (pages_of b history) ≡ is_leased_to (Some b) w.leases g
 is_in-pages_of limits b history w legal at_w = (paged limits b history w legal at_w).same

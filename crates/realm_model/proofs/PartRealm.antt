@@ -53,7 +53,7 @@ module _ (b : ℕ) (w : World) (kept : IsKept b w) where
   pub none_there : realm_of b w ≡ None → (k : ℕ) → (cell_at W.machine k).descriptor ≡ None
   none_there none = no_row b 0 w.leases w.machine kept.sound.clean none
 
-  -- a realm in the part is the realm of the build
+  -- a granule in state RD is neither UNDELEGATED nor DELEGATED; so (`found`) a realm in the part is the build's realm
   rd_no_host : (s : GranuleState) → is_rd_state s ≡ true → is_host_state s ≡ false
   rd_no_host Rd h = refl
   rd_no_host _ h = cc

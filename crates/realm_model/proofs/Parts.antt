@@ -33,8 +33,8 @@ pub record IsSoundPart (world : World) : Type 0 where
 abbrev pub IsSoundFor : ℕ → World → Type 0
 IsSoundFor build world = IsSoundPart (part_of world build)
 
--- each granule that a realm names is in the state of its role, and of the realm, and none is named twice; no other
--- granule is in such a state
+-- each granule that a realm names has the state of its role, belongs to the realm, and has no second role; each granule
+-- in a role's state is named
 pub record IsLinked (cells : ℕ → Cell) : Type 0 where
   pub roles : ℕ → Role
   pub names : (rd : ℕ) (realm : RealmRow) → (cells rd).descriptor ≡ Some realm → (role : Role) (to : ℕ × GranuleState) → target realm role ≡ Some to

@@ -70,7 +70,8 @@ named_back test (Enter n) h = h
 named_back test (Exit n) h = h
 named_back test (Poke n ipa o v) h = h
 
--- the further requirements of a reverse operation
+-- The operation is a reverse and has no reverse itself. Its build must lease the granules that it names, and any guest
+-- write in it reaches a granule of the build.
 pub record Reverses (limits : Limits) (b : ℕ) (w : World) (r : Act) : Type 0 where
   pub reach : ReachesOwn limits b w r (realm_of b w)
   pub holds : holder b r ≡ Some b

@@ -35,7 +35,7 @@ module _ (limits : Limits) (w : World) (clean : IsClean w) (sized : IsSized limi
   abbrev in_part : ℕ → ℕ → Cell
   in_part b g = cell_at (part_of w b).machine g
 
-  -- a granule that a build leases is in its part as it is
+  -- a granule that a build leases has the same cell in the build's part as in the world
   part_cell : (b g : ℕ) → slice_get w.leases g ≡ Some (Some b) → in_part b g ≡ now g
   part_cell b g e =
       cell_at-each (hidden (is_of_other b)) w.leases w.machine g (Some b) (hidden-blank (is_of_other b) (Some b)) e
@@ -57,7 +57,7 @@ module _ (limits : Limits) (w : World) (clean : IsClean w) (sized : IsSized limi
       by_lease (Some None) e = nobodys (clean_at w g clean e)
       by_lease (Some (Some b)) e = of_build b e (part_cell b g e)
 
-  -- a granule with a role or a realm in the part of a build is leased by it
+  -- a granule that is neither UNDELEGATED nor DELEGATED in a build's part is leased by the build
   part_held : (b g : ℕ) → is_host_state (in_part b g).state ≡ false → slice_get w.leases g ≡ Some (Some b)
   part_held b g held =
       leased (Some b) w.leases g (sym (leased_in_part b w g)
@@ -72,7 +72,7 @@ module _ (limits : Limits) (w : World) (clean : IsClean w) (sized : IsSized limi
     | of_build b lease same ↦ subst P same (own b)
   ]
 
-  -- the realm at a granule is that of its build
+  -- a granule with a realm is leased by a build, and has the same realm in the build's part
   pub realm_in_part : (g : ℕ) (d : RealmRow) → IsRealmAt w g d → (b : ℕ) × (slice_get w.leases g ≡ Some (Some b)) × ((in_part b g).descriptor ≡ Some d)
   realm_in_part g d is = elim (whose g) [
     | nobodys e ↦ absurd (true_false _ (ap is_some is) (ap (λ (c : Cell). is_some c.descriptor) e))
@@ -139,7 +139,7 @@ module _ (limits : Limits) (w : World) (clean : IsClean w) (sized : IsSized limi
     ];
   }
 
--- a realm is that of a build
+-- each realm of a world that a history leads to is at a granule that a build leases, and is in that build's part
 pub realm_of_build : (limits : Limits) (history : List Event) (w : World) → replay limits history ≡ Some w → (g : ℕ) (d : RealmRow) → IsRealmAt w g d
     → (b : ℕ) × (slice_get w.leases g ≡ Some (Some b)) × ((cell_at (part_of w b).machine g).descriptor ≡ Some d)
 realm_of_build limits history w at_w =

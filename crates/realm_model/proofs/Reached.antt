@@ -21,7 +21,7 @@ module _ (limits : Limits) (P : World → Type 0) (kept : (w v : World) (e : Eve
   kept_after [] w v h done = subst P (same_Some _ _ done) h
   kept_after (e ∷ es) w v h done = option_and_then_some (after limits es) (step limits w e) v done (λ x stepped rest. kept_after es x v (kept w x e h stepped) rest)
 
-  -- a property of the opening world that each step preserves is one of each reached world
+  -- a property of the opening world that each step preserves holds of each reached world
   pub of_reached : P (opening limits) → (history : List Event) (w : World) → replay limits history ≡ Some w → P w
   of_reached first history w at_w = kept_after history (opening limits) w first at_w
 
@@ -70,7 +70,7 @@ module _ (limits : Limits) (P : List Event → World → Type 0)
       subst (λ es. P es v) (append_assoc before (e ∷ []) es)
       (kept_legal (before ++ e ∷ []) es x v grown.legal grown.world_is (kept before w x e legal at_w h turns.0 stepped) turns.1 rest))
 
-  -- a property of the opening world that each event in turn preserves is one of every legal history and its world
+  -- a property of the opening world that each event in turn preserves holds of every legal history and its world
   pub of_legal : P [] (opening limits) → (history : List Event) (w : World) → IsLegal limits history → replay limits history ≡ Some w → P history w
   unfolding after
   of_legal first history w legal at_w =

@@ -43,7 +43,8 @@ module _ (limits : Limits) (w : World) (sound : IsSoundPart w) (T : RealmRow →
   abbrev S : List Update → Type 0
   S us = (k : ℕ) (d : RealmRow) → (now k).descriptor ≡ Some d → (e : RealmRow) × ((put_at us k (now k)).descriptor ≡ Some e) × T d e
 
-  -- `T` allows the change of a realm by an operation: those not listed change only its state, measurement and rows
+  -- `T` allows each change of a realm by the operation; an operation not listed here changes only the realm's state,
+  -- measurement and rows
   abbrev pub Allows : Act → Type 0
   Allows (Realm rd root v) = Unit {0}
   Allows (UnRealm rd root v) = ⊥
@@ -53,7 +54,7 @@ module _ (limits : Limits) (w : World) (sound : IsSoundPart w) (T : RealmRow →
   Allows (Exit n) = (d : RealmRow) (rec : RecRow) → IsSoundRealm d → get d.recs n ≡ Some rec → is_ready rec.state ≡ false → T d (record d { recs = insert d.recs n (record rec { state = Ready }) })
   Allows _ = (d e : RealmRow) → e ≡ record d { state = e.state; measurement = e.measurement; rows = e.rows } → T d e
 
-  -- the last update is that of the realm's row
+  -- `S` holds of updates of which the last writes the realm's row, if `T` allows the change of the row
   turned : (rd : Seen) (d e : RealmRow) (us : List Update) → now rd.number ≡ rd.cell → rd.cell.descriptor ≡ Some d → T d e → S (us ++ Put rd.number (record rd.cell { descriptor = Some e }) ∷ [])
   turned rd d e us at is turns k x there =
       let own : (now rd.number).descriptor ≡ Some d = ap (λ (c : Cell). c.descriptor) at ∙ is in
@@ -185,7 +186,7 @@ pub realm_turned : (limits : Limits) (b : ℕ) (w v : World) (act : Act) → IsS
     → step limits w (by b act) ≡ Some v → (k : ℕ) (d : RealmRow) → (cell_at w.machine k).descriptor ≡ Some d → (e : RealmRow) × ((cell_at v.machine k).descriptor ≡ Some e) × Turns act d e
 realm_turned limits b w v act square sound none plain = turned_by limits b w v act (Turns act) square sound none (allowed limits w sound act plain)
 
--- a realm that is made is new
+-- after a realm is created where there was none, each realm is the new one
 made_new : (limits : Limits) (w : World) (rd : ℕ) (root : Root) (v : ℕ) (realm : Option Seen) → ((k : ℕ) → (cell_at w.machine k).descriptor ≡ None)
     → Yields (λ us. (k : ℕ) (e : RealmRow) → (put_at us k (cell_at w.machine k)).descriptor ≡ Some e → e ≡ new_realm v root)
     (outcome_of limits.vmids limits.aux (used_vmids w.machine) (Realm rd root v) realm (map (seen w.machine) (named (Realm rd root v))))
@@ -213,7 +214,8 @@ destroyed limits w sound rd root v realm = Yields-with_realm P _ _ (λ d is. Yie
     P : List Update → Type 0
     P us = ((k : ℕ) (e : RealmRow) → (put_at us k (cell_at w.machine k)).descriptor ≡ Some e → ⊥) × ((k : ℕ) (d : RealmRow) → (cell_at w.machine k).descriptor ≡ Some d → running d.recs d.next ≡ 0)
 
--- the same for steps
+-- After a step that creates a realm where there was none, each realm is the new one. After a step that destroys a realm
+-- (`realm_gone_step`), no realm is left, and no REC of the realm was running.
 pub realm_made_step : (limits : Limits) (b : ℕ) (w v : World) (rd : ℕ) (root : Root) (vmid : ℕ) → IsSquare w → ((k : ℕ) → (cell_at w.machine k).descriptor ≡ None)
     → step limits w (by b (Realm rd root vmid)) ≡ Some v
     → (k : ℕ) (e : RealmRow) → (cell_at v.machine k).descriptor ≡ Some e → e ≡ new_realm vmid root

@@ -65,7 +65,7 @@ module _ (limits : Limits) (b : ℕ) (w v : World) (kept : IsKept b w) (act : Ac
   no_rows : realm_of b W ≡ None → (k : ℕ) → (cell_at W.machine k).descriptor ≡ None
   no_rows none = none_there b w kept (sym (realm_of-part_of b w) ∙ none)
 
-  -- a realm that is made starts at 0
+  -- the next REC number of a newly created realm is 0
   made_next : (act : Act) → step limits W (by b act) ≡ Some V → (k : ℕ) (e : RealmRow) → IsMade limits (part_of w b) act k e → (cell_at V.machine k).descriptor ≡ Some e → e.next ≡ 0
   unfolding fits new_realm
   made_next (Realm rd root vmid) to k e made is =

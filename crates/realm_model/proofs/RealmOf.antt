@@ -63,7 +63,7 @@ IsHeld-realm_from b front (l ∷ leases) (c ∷ machine) =
 pub IsHeld-realm_of : (b : ℕ) (w : World) → IsHeld b w.leases (realm_of b w)
 IsHeld-realm_of b w = IsHeld-realm_from b [] w.leases w.machine
 
--- a test of the realm of a build, if its row is known
+-- a test that passes for a build's realm passes for the realm's RD and row
 pub realm_test : (rd : Seen) (d : RealmRow) (test : Seen → RealmRow → Bool) → realm_is (Some rd) test ≡ true → rd.cell.descriptor ≡ Some d → test rd d ≡ true
 realm_test rd d test fit is = sym (ap (λ o. elim o [ Some realm ↦ test rd realm | None ↦ false ]) is) ∙ fit
 
@@ -89,13 +89,13 @@ no_row b n (l ∷ leases) (c ∷ machine) clean none (suc g) = no_row b (suc n) 
 pub realm_of-part_of : (b : ℕ) (w : World) → realm_of b (part_of w b) ≡ realm_of b w
 realm_of-part_of b w = realm_kept (is_of_other b) b 0 (ap not (eq-eqb b b refl)) w.leases w.machine
 
--- the step of another build leaves it as it is
+-- a step of another build leaves a build's realm as it is
 pub realm_of-other_step : (limits : Limits) (b : ℕ) (w v : World) (e : Event) → e.build ≢ b → IsClean w → step limits w e ≡ Some v → realm_of b v ≡ realm_of b w
 realm_of-other_step limits b w v e apart clean s = sym (realm_of-part_of b v) ∙ ap (realm_of b) (part_of-other_step limits b w v e apart clean s) ∙ realm_of-part_of b w
 
 -- ---- a realm that is known
 
--- the realm of a build, if its row is known
+-- the search for a build's realm finds the only granule with a realm row, if the build leases it
 realm_from_there : (b n g : ℕ) (leases : List (Option ℕ)) (machine : Machine) → slice_get leases g ≡ Some (Some b) → is_some (cell_at machine g).descriptor ≡ true
     → ((h : ℕ) → is_some (cell_at machine h).descriptor ≡ true → h ≡ g) → realm_from b n leases machine ≡ Some (record { number = n + g; cell = cell_at machine g })
 unfolding realm_from

@@ -57,7 +57,7 @@ module _ (w : World) (sound : IsSoundPart w) (old : IsLinked (λ k. cell_at w.ma
   abbrev now : ℕ → Cell
   now k = cell_at w.machine k
 
-  -- a realm is made when there was none: its starting tables are all that it names
+  -- the invariant holds after a realm is created where there was none; the new realm names its starting tables alone
   pub realm_made : (rd : ℕ) (root : Root) (v : ℕ) → ((k : ℕ) → (now k).descriptor ≡ None) → AllDistinct (rd ∷ starting_tables root)
       → IsLinked (λ k. put_at (creation rd root v) k (now k))
   unfolding new_realm root_rows
@@ -128,7 +128,7 @@ module _ (w : World) (sound : IsSoundPart w) (old : IsLinked (λ k. cell_at w.ma
         ] role
       ] refl (sym (ap (λ (c : Cell). is_role_state c.state) (written g)) ∙ role)
 
-  -- a realm that names its starting tables alone is destroyed
+  -- the invariant holds after a realm that names its starting tables alone is destroyed
   pub realm_gone : (rd : ℕ) (d : RealmRow) → (now rd).descriptor ≡ Some d → ((q : ℕ × ℕ) → row_target (mapping_at d.rows q) ≡ None) → ((n : ℕ) → get d.recs n ≡ None)
       → IsLinked (λ k. put_at (lefts (rd ∷ starting_tables d.root)) k (now k))
   realm_gone rd d is no_rows no_recs = record {

@@ -6,7 +6,7 @@ use Rattle.std.proofs.lemmas.Bool.{cases_eq, eq-eqb, ne_eqb}
 use Rattle.std.proofs.lemmas.List.{get_or_append_left, get_or-append-add, length-append}
 use Rattle.realm_model.specs.RecsOpen.{granule_in, number_at, IsRising}
 
--- the granule of a number is that of the list, or of the one after it
+-- the granule that a list has for the number `m`, or else that of one more REC after the list, if its number is `m`
 abbrev pub or_last : Option ℕ → ℕ → ℕ → ℕ → Option ℕ
 or_last (Some g) number granule m = Some g
 or_last None number granule m = cond (number == m) (Some granule) None

@@ -51,7 +51,7 @@ module _ (w : World) (sound : IsSoundPart w) (old : IsLinked (λ k. cell_at w.ma
   same_row : (q : ℕ × ℕ) → row_target (mapping_at e1.rows q) ≡ row_target (mapping_at d.rows q)
   same_row q = ap (λ rs. row_target (mapping_at rs q)) rows
 
-  -- DELEGATED granules, all different, become a REC of a number that no REC has
+  -- the invariant holds after DELEGATED granules, all different, become a REC with a number that no REC had
   pub rec_more : (g : ℕ) (gs : List ℕ) (m : ℕ) → list_all is_delegated (map (seen w.machine) (g ∷ gs)) ≡ true → AllDistinct (g ∷ gs) → recs_of d m ≡ None
       → ((q : ℕ) → recs_of e1 q ≡ cond (eq_by_cmp nat_cmp q m) (Some (g, gs)) (recs_of d q))
       → IsLinked (λ k. put_at ((Put g (held InRec n) ∷ auxes n gs) ++ Put n (record rd.cell { descriptor = Some e1 }) ∷ []) k (now k))
@@ -84,7 +84,7 @@ module _ (w : World) (sound : IsSoundPart w) (old : IsLinked (λ k. cell_at w.ma
       out k f = granules k
           ∙ elim (k == g) as (λ t. cond t (Some (AsRec m)) (listed_role (AsAux m) gs k) ≡ None → (t || is_in k gs) ≡ false) [ true ↦ λ f. cc | false ↦ λ f. listed_out (AsAux m) gs k f ] f
 
-      -- the cell of the REC, and of an auxiliary
+      -- after the updates, the REC's granule has the cell of a REC, and each auxiliary granule that of an auxiliary
       at_rec : (k : ℕ) → k ≡ g → put_at us k (now k) ≡ c
       at_rec k here = written k (now k)
           ∙ ap (λ t. cond t (held RecAux n) (cond (k == g) c (now k))) (ap (λ j. is_in j gs) here ∙ different.0)
@@ -131,7 +131,7 @@ module _ (w : World) (sound : IsSoundPart w) (old : IsLinked (λ k. cell_at w.ma
             | false ↦ λ e h. inl (h, λ f role. out to.0 f)
           ] refl (ap (λ o. aux_target o i) (sym (recs q)) ∙ h)
 
-      -- the REC of each other number, and this number had none
+      -- each number has the same REC as before, or had none before
       recs_stay : (q : ℕ) → (recs_of e1 q ≡ recs_of d q) ⊎ (recs_of d q ≡ None)
       recs_stay q = elim (eq_by_cmp nat_cmp q m) as (λ t. eq_by_cmp nat_cmp q m ≡ t → recs_of e1 q ≡ cond t (Some (g, gs)) (recs_of d q) → (recs_of e1 q ≡ recs_of d q) ⊎ (recs_of d q ≡ None)) [
         | true ↦ λ e is. inr (ap (recs_of d) (nat_place q m e) ∙ unused)
@@ -157,7 +157,7 @@ module _ (w : World) (sound : IsSoundPart w) (old : IsLinked (λ k. cell_at w.ma
             (AsAux m at_i.0, ap (λ o. aux_target o at_i.0) it_is ∙ ap (option_map (λ a. (a, RecAux))) at_i.1 ∙ (λ j. Some (k, sym (ap (λ (y : Cell). y.state) (at_aux k i)) j)))
       ] refl (sym (granules k) ∙ i)
 
-  -- a REC is removed, and its granules leave the realm
+  -- the invariant holds after a REC is removed, and its granules leave the realm
   pub rec_less : (m : ℕ) (rec : RecRow) → get d.recs m ≡ Some rec
       → ((q : ℕ) → recs_of e1 q ≡ cond (eq_by_cmp nat_cmp q m) None (recs_of d q))
       → IsLinked (λ k. put_at (lefts (rec.granule ∷ rec.auxiliaries) ++ Put n (record rd.cell { descriptor = Some e1 }) ∷ []) k (now k))
@@ -215,7 +215,7 @@ module _ (w : World) (sound : IsSoundPart w) (old : IsLinked (λ k. cell_at w.ma
             ] refl
           ] refl
 
-      -- the granules of another REC stay, those of this one do not
+      -- each number has the same REC as before, or had the removed one
       recs_stay : (q : ℕ) → (recs_of e1 q ≡ recs_of d q) ⊎ (recs_of d q ≡ Some (rec.granule, rec.auxiliaries))
       recs_stay q = elim (eq_by_cmp nat_cmp q m) as (λ t. eq_by_cmp nat_cmp q m ≡ t → recs_of e1 q ≡ cond t None (recs_of d q) → (recs_of e1 q ≡ recs_of d q)
           ⊎ (recs_of d q ≡ Some (rec.granule, rec.auxiliaries))) [

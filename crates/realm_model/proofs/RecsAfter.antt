@@ -62,7 +62,7 @@ module _ (b : ℕ) (w : World) (kept : IsKept b w) (number : ℕ) where
 abbrev SameRecs : RealmRow → RealmRow → Type 0
 SameRecs d e = (m : ℕ) → granule_of e m ≡ granule_of d m
 
--- a REC with another state
+-- replacing a REC by one with the same granule leaves the granule of each number the same
 restated : (d : RealmRow) (n m : ℕ) (old new : RecRow) → get d.recs n ≡ Some old → new.granule ≡ old.granule → granule_of (record d { recs = insert d.recs n new }) m ≡ granule_of d m
 restated d n m old new there same =
     ap (option_map (λ (rec : RecRow). rec.granule)) (get-insert nat_cmp_total d.recs n new m)
@@ -163,7 +163,7 @@ module _ (limits : Limits) (b : ℕ) (w v : World) (kept : IsKept b w) (kept_v :
 
 -- ---- a REC is made
 
--- the granules after a REC gets the realm's next number
+-- realm `e` has this granule for the next number of `d`, and for each other number the granule that `d` has
 abbrev Gains : ℕ → RealmRow → RealmRow → Type 0
 Gains granule d e = (m : ℕ) → granule_of e m ≡ cond (eq_by_cmp nat_cmp m d.next) (Some granule) (granule_of d m)
 
@@ -236,7 +236,7 @@ cond_none true = refl
 cond_none false = refl
 
 module _ (limits : Limits) (b : ℕ) (w v : World) (kept : IsKept b w) (kept_v : IsKept b v) where
-  -- a REC that is made has a number above all others, and its granule
+  -- a REC that is made has this granule and a number above all others, and the other RECs stay
   pub record IsRecMade (granule n : ℕ) : Type 0 where
     pub below : (m : ℕ) → is_some (rec_granule (realm_of b w) m) ≡ true → m < n
     pub gains : (m : ℕ) → rec_granule (realm_of b v) m ≡ cond (eq_by_cmp nat_cmp m n) (Some granule) (rec_granule (realm_of b w) m)

@@ -79,7 +79,7 @@ module _ (limits : Limits) (before : List Event) (w v : World) (legal : IsLegal 
       rising = subst IsRising (sym (same_open plain)) was.rising;
     }
 
-  -- a REC is made
+  -- the RECs are still those of the open Rec operations after a Rec operation makes one
   made_step : (granule : ℕ) (aux : ArrayVec ℕ 16 (Unit {0})) (n : ℕ) → IsInTurn before (by b (Rec granule aux n)) → step limits w (by b (Rec granule aux n)) ≡ Some v
       → RecsAreOpen (before ++ by b (Rec granule aux n) ∷ []) v b
   unfolding reverse_of
@@ -106,7 +106,7 @@ module _ (limits : Limits) (before : List Event) (w v : World) (legal : IsLegal 
       none_of None never = refl
       none_of (Some g) never = absurd (never refl)
 
-  -- the newest REC is removed
+  -- the RECs are still those of the open Rec operations after the newest REC is removed
   gone_step : (granule : ℕ) (aux : ArrayVec ℕ 16 (Unit {0})) (n : ℕ) → IsInTurn before (by b (UnRec granule aux n)) → step limits w (by b (UnRec granule aux n)) ≡ Some v
       → RecsAreOpen (before ++ by b (UnRec granule aux n) ∷ []) v b
   unfolding reverse_of is_reverse

@@ -76,7 +76,8 @@ pub record Reversal (limits : Limits) (b : ℕ) (u w : World) (act r : Act) : Ty
 abbrev pub Leaves : World → ℕ → Type 0
 Leaves u g = SameCell (cell_at u.machine g) left
 
--- the reverse of updates: their granules leave the realm, and the updates at the end follow
+-- the ownership before updates is restored if the granules that were outside the realm leave it, and the others are
+-- written as they were
 pub back_left : (u w : World) (us tail : List Update) (gs : List ℕ) → map granule_of us ≡ gs ++ map granule_of tail
     → ((g : ℕ) → is_in g gs ≡ true → Leaves u g)
     → ((k : ℕ) (c : Cell) → is_in k (map granule_of tail) ≡ true → SameCell (cell_at u.machine k) (put_at tail k c))
@@ -95,7 +96,7 @@ back_left u w us tail gs granules leave tailed same k =
           ] refl)
     ] refl)
 
--- one write at the end
+-- a last write of a cell with the old ownership restores the ownership of its granule
 pub tail_one : (u : World) (n : ℕ) (x : Cell) → SameCell (cell_at u.machine n) x → (k : ℕ) (c : Cell) → is_in k (n ∷ []) ≡ true → SameCell (cell_at u.machine k) (put_at (Put n x ∷ []) k c)
 tail_one u n x h k c e =
     let here : (k == n) ≡ true = at_one (k == n) e in
@@ -185,7 +186,7 @@ module _ (limits : Limits) (b : ℕ) (u w : World) (su : IsSoundPart u) (sw : Is
       let found = descriptor_some d1 (cell_at w.machine n).descriptor (subst (λ o. SameDescriptor o (cell_at w.machine n).descriptor) is same.descriptor) in
       record { realm = found.0; there = found.1; same = found.2; found = realm_of_there b w sw n found.0 (leased_too n held) found.1 }
 
-  -- the realm has the same width in both worlds
+  -- an IPA that is protected in one world's realm is protected in the other's, since the width is the same
   protected_too : {n : ℕ} {d1 : RealmRow} (both : InBoth n d1) (ipa : ℕ) → is_protected d1 ipa ≡ true → is_protected both.realm ipa ≡ true
   protected_too both ipa protected = ap (λ (r : Root). is_protected_at ipa r.width) (sym both.same.root) ∙ protected
 

@@ -35,14 +35,14 @@ module _ (w : World) (sound : IsSoundPart w) where
   pub host_bare : (k : ℕ) → is_host_state (now k).state ≡ true → (now k).descriptor ≡ None
   host_bare k host = none_from (now k).descriptor ((sound.cells k).descriptor ∙ host_no_rd (now k).state host)
 
-  -- a realm has one RD
+  -- the part has one RD at most
   pub one_place : (k n : ℕ) (e d : RealmRow) → (now k).descriptor ≡ Some e → (now n).descriptor ≡ Some d → k ≡ n
   one_place k n e d is at = stands k e is ∙ sym (stands n d at)
     where
       stands : (k : ℕ) (e : RealmRow) → (now k).descriptor ≡ Some e → k ≡ sound.rd
       stands k e is = (sound.cells k).alone (sym (sound.cells k).descriptor ∙ ap is_some is)
 
-  -- a realm's own granule has no role
+  -- the RD of a realm has no role
   pub rd_no_role : (k : ℕ) (d : RealmRow) → (now k).descriptor ≡ Some d → is_role_state (now k).state ≡ false
   rd_no_role k d is = of_state (now k).state (sym (sound.cells k).descriptor ∙ ap is_some is)
     where
@@ -67,7 +67,8 @@ module _ (w : World) (sound : IsSoundPart w) where
       ] refl e
 
   module _ (old : IsLinked now) where
-    -- no granule that has a role changes its state or its realm, and no realm changes
+    -- if granules with a role keep their state and realm, no other granule gets the state of a role, and no realm
+    -- changes, the invariant still holds
     kept : (after : ℕ → Cell) → ((k : ℕ) → is_role_state (now k).state ≡ true → SameHead (after k) (now k))
         → ((k : ℕ) → is_role_state (after k).state ≡ true → is_role_state (now k).state ≡ true)
         → ((k : ℕ) (e : RealmRow) → (after k).descriptor ≡ Some e → (now k).descriptor ≡ Some e)
@@ -82,7 +83,7 @@ module _ (w : World) (sound : IsSoundPart w) where
         no_role : (q : Role) → ◌≡◌ {A = Option Role} None (Some q) → ⊥
         no_role q f = cc
 
-    -- a granule that is UNDELEGATED or DELEGATED is written, and stays so
+    -- the invariant holds after a write of a granule that is UNDELEGATED or DELEGATED before and after it
     pub host_put : (g : ℕ) (x : Cell) → is_host_state (now g).state ≡ true → is_host_state x.state ≡ true → x.descriptor ≡ None → IsLinked (λ k. put_at (Put g x ∷ []) k (now k))
     host_put g x host stays none = kept (λ k. put_at (Put g x ∷ []) k (now k))
         (λ k role. elim (k == g) as (λ t. (k == g) ≡ t → SameHead (cond t x (now k)) (now k)) [
@@ -99,7 +100,7 @@ module _ (w : World) (sound : IsSoundPart w) where
           | false ↦ λ at. is
         ] refl)
 
-    -- UNDELEGATED granules are given back
+    -- the invariant holds after UNDELEGATED granules are given back
     pub freed : (gs : List ℕ) → list_all is_undelegated (map (seen w.machine) gs) ≡ true → IsLinked (λ k. cond (is_in k gs) blank (now k))
     freed gs free = kept (λ k. cond (is_in k gs) blank (now k))
         (λ k role. elim (is_in k gs) as (λ t. is_in k gs ≡ t → SameHead (cond t blank (now k)) (now k)) [
@@ -116,7 +117,7 @@ module _ (w : World) (sound : IsSoundPart w) where
         host : (k : ℕ) → is_in k gs ≡ true → is_host_state (now k).state ≡ true
         host = all_host is_undelegated undelegated_host gs free
 
-    -- a byte is written
+    -- the invariant holds after a byte is written
     pub poked : (g o v : ℕ) → IsLinked (λ k. put_at (PutByte g o v ∷ []) k (now k))
     poked g o v = kept (λ k. put_at (PutByte g o v ∷ []) k (now k))
         (λ k role. elim (k == g) as (λ t. SameHead (cond t (cell_after (PutByte g o v) (now k)) (now k)) (now k)) [ true ↦ (refl, refl) | false ↦ (refl, refl) ])
@@ -194,8 +195,9 @@ module _ (w : World) (sound : IsSoundPart w) where
                 ] refl
           ] refl (sym (ap (λ (c : Cell). is_role_state c.state) (split g)) ∙ h)
 
-      -- The realm names what it named, and fresh granules that were UNDELEGATED or DELEGATED. What it names no longer
-      -- is changed.
+      -- The invariant holds if the realm names only granules that it named before, which are not updated, and fresh
+      -- ones that were UNDELEGATED or DELEGATED. Each granule that it names no longer must be updated, and each updated
+      -- granule in a role's state must be named.
       pub changed : (fresh : ℕ → Option Role) → ((k : ℕ) (q : Role) → fresh k ≡ Some q → is_host_state (now k).state ≡ true)
           → ((p : Role) (to : ℕ × GranuleState) → target e1 p ≡ Some to →
           ((target d p ≡ Some to) × (fresh to.0 ≡ None → old.roles to.0 ≡ p → is_in to.0 (map granule_of us) ≡ false))
@@ -218,7 +220,7 @@ module _ (w : World) (sound : IsSoundPart w) where
           ))
           (named_after stays made)
 
-    -- a realm changes that names what it named
+    -- the invariant holds after a change of a realm that still names the same granules
     pub realm_same : (rd : Seen) (d e1 : RealmRow) → now rd.number ≡ rd.cell → rd.cell.descriptor ≡ Some d → e1.root ≡ d.root
         → ((q : ℕ × ℕ) → mapping_at d.rows q ≡ mapping_at e1.rows q) → ((q : ℕ) → option_map granules_of_rec (get d.recs q) ≡ option_map granules_of_rec (get e1.recs q))
         → IsLinked (λ k. put_at (Put rd.number (record rd.cell { descriptor = Some e1 }) ∷ []) k (now k))

@@ -25,7 +25,7 @@ role_no_host Delegated h = cc
 role_no_host Rd h = cc
 role_no_host _ h = refl
 
--- the host has UNDELEGATED and DELEGATED granules alone
+-- a property of the states UNDELEGATED and DELEGATED holds of each state of a granule of the host
 of_host : (P : GranuleState → Type 0) → P Undelegated → P Delegated → (s : GranuleState) → is_host_state s ≡ true → P s
 of_host P undelegated delegated Undelegated h = undelegated
 of_host P undelegated delegated Delegated h = delegated
@@ -82,8 +82,8 @@ abbrev pub SameHead : Cell → Cell → Type 0
 SameHead c d = (c.state ≡ d.state) × (c.realm ≡ d.realm)
 
 module _ (cells after : ℕ → Cell) (old : IsLinked cells) where
-  -- What each realm names is what it named, with the same state and realm, or it is fresh and had no role. What has a
-  -- role is named.
+  -- The invariant still holds if each granule that a realm names was named before and keeps its state and realm, or is
+  -- fresh and had no role. Each granule in a role's state must be named.
   pub linked_after : (fresh : ℕ → Option Role) → ((k : ℕ) (q : Role) → fresh k ≡ Some q → is_role_state (cells k).state ≡ false)
       → ((k : ℕ) (e : RealmRow) → (after k).descriptor ≡ Some e → (d : RealmRow) × ((cells k).descriptor ≡ Some d) × ((p : Role) (to : ℕ × GranuleState) → target e p ≡ Some to →
       ((target d p ≡ Some to) × (fresh to.0 ≡ None → old.roles to.0 ≡ p → SameHead (after to.0) (cells to.0)))

@@ -41,7 +41,8 @@ module _ (limits : Limits) (b : ℕ) (p : List Event) (base : World) (legal_p : 
   abbrev KeptHere : List Act → List Event → World → Type 0
   KeptHere st history w = Kept limits b (SameFor b) (IsSound b) (laws limits b) base below st history w
 
-  -- the world after the rest, and the one without what the build did in it
+  -- The other builds' events of the second part are legal after the first. They lead to a world in which the build's
+  -- part is as after the first part, and everything else is as after both.
   record Both (s : List Event) (y : World) : Type 0 where
     pub stack : List Act
     pub kept : KeptHere stack (p ++ s) y
@@ -50,11 +51,11 @@ module _ (limits : Limits) (b : ℕ) (p : List Event) (base : World) (legal_p : 
     pub world_is : replay limits (p ++ erase b s) ≡ Some world
     pub back : IsBack b base y world
 
-  -- the build has no fewer operations open than after the first part
+  -- after this history the build has at least as many operations open as after the first part `p`
   abbrev Deep : List Event → Type 0
   Deep history = length below ≤ length (open_entries b history)
 
-  -- one more event
+  -- `Both` still holds after one more event in turn, if the build then satisfies `Deep`
   both_step : (s : List Event) (y v : World) (e : Event) → replay limits (p ++ s) ≡ Some y → Both s y → IsInTurn (p ++ s) e → step limits y e ≡ Some v
       → Deep (p ++ (s ++ e ∷ [])) → Both (s ++ e ∷ []) v
   both_step s y v e at_y h turn stepped deep =
@@ -89,7 +90,7 @@ module _ (limits : Limits) (b : ℕ) (p : List Event) (base : World) (legal_p : 
             }
       ] refl
 
-  -- all events of the second part
+  -- `Both` still holds after further events in turn, if the build satisfies `Deep` before and after each of them
   both_after : (s es : List Event) (y v : World) → IsLegal limits (p ++ s) → replay limits (p ++ s) ≡ Some y → Both s y → AllInTurn (p ++ s) es → after limits es y ≡ Some v
       → ((n : ℕ) → Deep (p ++ (s ++ take n es))) → Both (s ++ es) v
   unfolding after
@@ -118,7 +119,7 @@ module _ (limits : Limits) (b : ℕ) (p : List Event) (base : World) (legal_p : 
 
 -- ---- the mark
 
--- the build's later events are left out
+-- without the build's events from `place` on, a history is the same whether or not the build does more at its end
 erase_after_own : (b place : ℕ) (history : List Event) (acts : List Act) → place ≤ length history → erase_after b place (history ++ map (by b) acts) ≡ erase_after b place history
 erase_after_own b place history acts within =
     (λ i. take-append-le place history (map (by b) acts) within i ++ erase b (drop-append-le place history (map (by b) acts) within i))

@@ -55,7 +55,7 @@ none_runs act k = refl
 refuses : (us : List Update) → ◌≡◌ {A = Outcome} (Err error_input) (Ok us) → ⊥
 refuses us e = cc
 
--- without a realm there is nothing to enter
+-- a build without a realm has no step that enters or exits a REC
 no_realm_refuses : (limits : Limits) (b : ℕ) (w v : World) (act : Act) → is_of_rec_run act ≡ true → realm_of b w ≡ None → IsStep limits w (by b act) v → ⊥
 unfolding outcome_of
 no_realm_refuses limits b w v (Enter n) k none h = refuses h.updates (ap (λ o. on_realm o (λ rd. rec_enter rd n)) (sym none) ∙ h.outcome)
@@ -116,7 +116,8 @@ module _ (limits : Limits) (b : ℕ) (w v : World) (kept : IsKept b w) (kept_v :
 
 -- ---- the capacity
 
--- the capacity that each kind of operation takes, and its effect on the count of running RECs
+-- a paired operation takes two entries and a reverse none, and neither changes the count of running RECs; any other
+-- operation takes one entry more than it adds to the count
 room_of_paired : (act : Act) (x y : ℕ) → is_paired act ≡ true → RunsAfter act x y → (room_taken act ≡ 2) × (y ≡ x)
 unfolding room_taken reverse_of
 room_of_paired (Enter n) x y p r = cc

@@ -29,7 +29,7 @@ free_above level Unassigned g low k e = ap (mapping Unassigned) k
 free_above level Assigned g low k e = let three : level ≡ 3 = k.0 in absurd (omega arith)
 free_above level Table g low k e = cc
 
--- the row at a place of sound rows
+-- each row of sound rows satisfies `IsKind`: it has a granule or none, as its level and state require
 pub shape_of : {width : ℕ} (rows : Rows) (place : ℕ × ℕ) (row : Row) → IsSoundRows width (mapping_at rows) → get rows place ≡ Some row → IsKind place.0 row.state row.granule
 shape_of rows place row sound there = subst (IsShaped place.0) (ap (option_map mapping_of_row) there) (sound.shaped place)
 

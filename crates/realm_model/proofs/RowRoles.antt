@@ -36,7 +36,7 @@ module _ (rows : Rows) (place : ℕ × ℕ) (row : Row) where
   pub leaf_target : row_target (mapping_at (insert rows place row) place) ≡ kind_target row.state row.granule
   leaf_target = ap row_target (mapping_at-insert rows place place row ∙ ap (λ t. cond t (Some (mapping_of_row row)) (mapping_at rows place)) (place_self place))
 
-  -- the granule that a row leads to afterwards: as before, or the new row's
+  -- after a row is inserted, each row that leads to a granule led to it before, or is the new row
   pub leaf_new : (q : ℕ × ℕ) (to : ℕ × GranuleState) → row_target (mapping_at (insert rows place row) q) ≡ Some to
       → (row_target (mapping_at rows q) ≡ Some to) ⊎ ((q ≡ place) × (kind_target row.state row.granule ≡ Some to))
   leaf_new q to h = elim (leaf_cases q) [ inl new ↦ inr (new.0, sym new.1 ∙ h) | inr same ↦ inl (ap row_target (sym same) ∙ h) ]
@@ -70,7 +70,7 @@ module _ (w : World) (sound : IsSoundPart w) (old : IsLinked (λ k. cell_at w.ma
   same_aux : (m i : ℕ) → aux_target (option_map granules_of_rec (get e1.recs m)) i ≡ aux_target (option_map granules_of_rec (get d.recs m)) i
   same_aux m i = ap (λ rs. aux_target (option_map granules_of_rec (get rs m)) i) recs
 
-  -- a row is changed to lead to a DELEGATED granule
+  -- `IsLinked` still holds after a row is changed to lead to a granule that was DELEGATED
   pub row_more : (g : ℕ) (c : Cell) (place : ℕ × ℕ) → is_delegated (seen w.machine g) ≡ true → c.descriptor ≡ None → c.realm ≡ Some n
       → row_target (mapping_at e1.rows place) ≡ Some (g, c.state)
       → ((q : ℕ × ℕ) (to : ℕ × GranuleState) → row_target (mapping_at e1.rows q) ≡ Some to → (row_target (mapping_at d.rows q) ≡ Some to) ⊎ (q ≡ place))
@@ -113,7 +113,7 @@ module _ (w : World) (sound : IsSoundPart w) (old : IsLinked (λ k. cell_at w.ma
       named (AsAux m i) to h out = same_aux m i ∙ h
       named (AtRow q) to h out = stays q to h
 
-  -- a row is changed to lead to its granule no more
+  -- `IsLinked` still holds after a row is changed to lead to no granule, and its old granule becomes DELEGATED
   pub row_less : (g : ℕ) (place : ℕ × ℕ) (s : GranuleState) → row_target (mapping_at d.rows place) ≡ Some (g, s)
       → ((q : ℕ × ℕ) (to : ℕ × GranuleState) → row_target (mapping_at e1.rows q) ≡ Some to → row_target (mapping_at d.rows q) ≡ Some to)
       → row_target (mapping_at e1.rows place) ≡ None

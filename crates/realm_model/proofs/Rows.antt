@@ -26,7 +26,7 @@ differs q k = eq_by_cmp place_cmp q k ≡ false
 pub get-put_row_other : (rows : Rows) (k q : ℕ × ℕ) (row : Row) → differs q k → get (insert rows k row) q ≡ get rows q
 get-put_row_other rows k q row apart = get-insert place_total rows k row q ∙ ap (λ t. cond t (Some row) (get rows q)) apart
 
--- a place that is not among those put
+-- `put_rows` does not change the row at a place where it puts none
 pub get-put_rows_other : (change : Option Row → Row) (rows : Rows) (level first n : ℕ) (q : ℕ × ℕ)
     → ((k : ℕ) → k < n → differs q (level, first + k * covered_count level)) → get (put_rows change rows level first n) q ≡ get rows q
 unfolding put_rows
@@ -35,7 +35,7 @@ get-put_rows_other change rows level first (suc n) q apart =
     get-put_row_other (put_rows change rows level first n) (level, first + n * covered_count level) q _ (apart n (omega arith))
     ∙ get-put_rows_other change rows level first n q (λ k h. apart k (omega arith))
 
--- the row at a place is as before, or is one that is put
+-- after `put_rows`, the row at a place is as before, or the place is one of the `n` at which a row is put
 pub put_cases : (change : Option Row → Row) (rows : Rows) (level first n : ℕ) (q : ℕ × ℕ) → (get (put_rows change rows level first n) q ≡ get rows q)
     ⊎ ((get (put_rows change rows level first n) q ≡ Some (change (get rows q))) × (k : ℕ) × (k < n) × (q ≡ (level, first + k * covered_count level)))
 unfolding put_rows
@@ -54,7 +54,7 @@ put_cases change rows level first (suc n) q =
       ]
     ] refl now
 
--- a place that is among those put
+-- after `put_rows`, the row at each of its `n` places is what `change` gives for the row that was there
 pub get-put_rows : (change : Option Row → Row) (rows : Rows) (level first n k : ℕ) → k < n
     → get (put_rows change rows level first n) (level, first + k * covered_count level) ≡ Some (change (get rows (level, first + k * covered_count level)))
 unfolding put_rows
@@ -70,7 +70,8 @@ get-put_rows change rows level first (suc n) k less =
           (let other : k ≢ n = λ same. true_false _ (place_self place) (ap (λ j. is_place (level, first + j * covered_count level) place) (sym same) ∙ e) in omega (arith, other))
     ] refl
 
--- the places of the rows dropped
+-- `drop_rows` removes a row at the place: its level is the given one, and its IPA granule is one of `count` from
+-- `first` on
 abbrev pub is_among : ℕ → ℕ → ℕ → ℕ × ℕ → Bool
 is_among level first count place = place.0 == level && nat_le first place.1 && nat_lt place.1 (first + count)
 
@@ -86,7 +87,7 @@ covered_pos level =
       | false ↦ elim (level == 2) as (λ t. 1 ≤ cond t (2 ^ 9) 1) [ true ↦ lit≤ tt | false ↦ lit≤ tt ]
     ]
 
--- each row of a table is among those that are removed with it
+-- each of `n` adjacent rows of a level is among the rows that are removed for the IPA granules that they cover
 pub among_put : (level first n k : ℕ) → k < n → is_among level first (n * covered_count level) (level, first + k * covered_count level) ≡ true
 among_put level first n k h =
     let c = covered_count level in
@@ -123,7 +124,7 @@ all_rows_from test passes rows level first (suc n) h =
     and_from _ _ (ap (λ o. elim o [ Some row ↦ test row | None ↦ false ]) found.1 ∙ passes found.0 found.2)
     (all_rows_from test passes rows level first n (λ k less. h k (omega arith)))
 
--- one of the rows that all pass
+-- if `all_rows` holds, each of its `n` rows exists and passes the test
 pub all_rows_at : (test : Row → Bool) (rows : Rows) (level first n k : ℕ) → all_rows test rows level first n ≡ true → k < n
     → (row : Row) × (get rows (level, first + k * covered_count level) ≡ Some row) × (test row ≡ true)
 unfolding all_rows

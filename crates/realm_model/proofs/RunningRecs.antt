@@ -18,7 +18,7 @@ use Rattle.granule_addr.proofs.Runs.{range_with_len_more}
 -- ---- numbers in a row that pass a test
 
 module _ (p q : ℕ → Bool) (n : ℕ) (same : (k : ℕ) → k ≢ n → q k ≡ p k) where
-  -- two tests that differ in one number, which is not in the range
+  -- two tests that differ at most in the number `n` select the same numbers from a range above `n`
   count_outside : (a m : ℕ) → n < a → filter q (range_with_len a m) ≡ filter p (range_with_len a m)
   count_outside a zero out = refl
   count_outside a (suc m) out =
@@ -27,7 +27,7 @@ module _ (p q : ℕ → Bool) (n : ℕ) (same : (k : ℕ) → k ≢ n → q k �
       other : (a : ℕ) → n < a → a ≢ n
       other a out e = omega arith
 
-  -- two tests that differ in one number, which is in the range
+  -- if two tests differ only in the number `n` of a range, the test that `n` passes selects one number more
   count_more : (a m : ℕ) → a ≤ n → n < a + m → p n ≡ false → q n ≡ true → length (filter q (range_with_len a m)) ≡ length (filter p (range_with_len a m)) + 1
   count_more a zero low high off on = absurd (omega arith)
   count_more a (suc m) low high off on =
@@ -61,12 +61,12 @@ module _ (p q : ℕ → Bool) (n : ℕ) (same : (k : ℕ) → k ≢ n → q k �
           both true e = omega arith
           both false e = e
 
--- if no number passes
+-- a test that no number passes selects nothing from a list
 pub none_pass : (test : ℕ → Bool) (xs : List ℕ) → ((n : ℕ) → test n ≡ false) → length (filter test xs) ≡ 0
 none_pass test [] none = refl
 none_pass test (x ∷ xs) none = ap (λ t. length (cond t (x ∷ filter test xs) (filter test xs))) (none x) ∙ none_pass test xs none
 
--- if no number of a range passes, each fails
+-- if a test selects nothing from a range, each number of the range fails the test
 pub none_passed : (test : ℕ → Bool) (first count n : ℕ) → first ≤ n → n < first + count → length (filter test (range_with_len first count)) ≡ 0 → test n ≡ false
 none_passed test first zero n low high none = absurd (omega arith)
 none_passed test first (suc count) n low high none =
@@ -101,19 +101,19 @@ runs-insert_same recs n rec = ap is_rec_running (get-insert nat_cmp_total recs n
 abbrev pub running : FinMap nat_cmp RecRow → ℕ → ℕ
 running recs next = length (filter (runs recs) (range_with_len 0 next))
 
--- a REC that did not run runs
+-- the number of running RECs grows by one when a REC that did not run is set to run
 pub running-start : (recs : FinMap nat_cmp RecRow) (next n : ℕ) (rec : RecRow) → n < next → runs recs n ≡ false → is_rec_running (Some rec) ≡ true
     → running (insert recs n rec) next ≡ running recs next + 1
 running-start recs next n rec below off on =
     count_more (runs recs) (runs (insert recs n rec)) n (runs-insert_other recs n rec) 0 next (omega arith) (omega arith) off (runs-insert_same recs n rec ∙ on)
 
--- a REC that ran does not run
+-- the number of running RECs falls by one when a REC that ran is set to not run
 pub running-stop : (recs : FinMap nat_cmp RecRow) (next n : ℕ) (rec : RecRow) → n < next → runs recs n ≡ true → is_rec_running (Some rec) ≡ false
     → running (insert recs n rec) next + 1 ≡ running recs next
 running-stop recs next n rec below on off =
     sym (count_more (runs (insert recs n rec)) (runs recs) n (λ k apart. sym (runs-insert_other recs n rec k apart)) 0 next (omega arith) (omega arith) (runs-insert_same recs n rec ∙ off) on)
 
--- a new REC does not run
+-- a new REC that does not run leaves the number of running RECs as it was
 pub running-new : (recs : FinMap nat_cmp RecRow) (next : ℕ) (rec : RecRow) → is_rec_running (Some rec) ≡ false → running (insert recs next rec) (next + 1) ≡ running recs next
 running-new recs next rec off =
     ap length (
@@ -136,7 +136,7 @@ running-new recs next rec off =
         other : (a m : ℕ) → a + suc m ≤ next → a ≢ next
         other a m low e = omega arith
 
--- a REC that did not run is removed
+-- the removal of a REC that does not run leaves the number of running RECs as it was
 pub running-gone : (recs : FinMap nat_cmp RecRow) (next n : ℕ) → runs recs n ≡ false → running (remove recs n) next ≡ running recs next
 running-gone recs next n off = ap length (filter_agree (runs (remove recs n)) (runs recs) same (range_with_len 0 next))
   where
@@ -147,6 +147,6 @@ running-gone recs next n off = ap length (filter_agree (runs (remove recs n)) (r
           | false ↦ λ e. refl
         ] refl
 
--- if there is no REC
+-- the number of running RECs is 0 if there is no REC
 pub running-none : (recs : FinMap nat_cmp RecRow) (next : ℕ) → ((n : ℕ) → get recs n ≡ None) → running recs next ≡ 0
 running-none recs next none = none_pass (runs recs) (range_with_len 0 next) (λ n. ap is_rec_running (none n))

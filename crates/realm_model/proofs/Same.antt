@@ -8,7 +8,7 @@ use denote.Enum.Compared.{Each, by}
 use denote.Enum.Declared.{Record, Choice, left_or, right_or, values_one}
 use denote.Struct.Field.{Field}
 
--- a record, so that its type determines the test
+-- The test decides equality. This is a record, so that a value's type determines the test.
 pub record DecidesEquality {A : Type 0} (test : A → A → Bool) : Type 0 where
   pub tells : (x y : A) → Decides (test x y) (x ≡ y)
 
@@ -21,7 +21,7 @@ numbers = record { tells = bytes_eq-Decides }
 pub nothing : DecidesEquality (λ (x y : Unit {0}). true)
 nothing = record { tells = λ x y. (λ is. refl, λ same. refl) }
 
--- by a part that determines the whole
+-- a test of one part of the values decides equality of the values, if the part determines the value
 pub through : {A B : Type 0} {test : B → B → Bool} (part : A → B) → ((x y : A) → part x ≡ part y → x ≡ y) → DecidesEquality test → DecidesEquality (λ x y. test (part x) (part y))
 through part one by_part = record {
   tells = λ x y.

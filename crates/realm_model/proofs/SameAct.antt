@@ -13,7 +13,7 @@ root = through (λ (x : Root). (x.first, x.width)) (λ x y same i. record { firs
 granules : DecidesEquality (λ (x y : ArrayVec ℕ 16 (Unit {0})). bytes_eq x.items y.items)
 granules = through (λ (x : ArrayVec ℕ 16 (Unit {0})). x.items) (λ x y same i. record { items = same i }) numbers
 
--- in the order of the variants of `Act`
+-- the derived `==` of operations decides equality; the proof goes through the variants of `Act` in sequence
 pub same_act : DecidesEquality derived.eq-value.it
 same_act =
     let one = last number in

@@ -25,7 +25,7 @@ module _ {X : Type 0} (x : X) where
       ∙ ap (cond (is_in k places) (Some x)) (slice_get-set xs p k x (get_or xs p x) (slice_get-get_or xs p x (inside p (is_in_head p places))))
       ∙ cond_or (k == p) (is_in k places) (Some x) (slice_get xs k)
 
-  -- past its end the list has that element in any case
+  -- `set_each` puts the element at the given indexes and changes no other; past its end a list reads as that element
   pub get_or-set_each : (places : List ℕ) (xs : List X) (k : ℕ) → get_or (set_each x places xs) k x ≡ cond (is_in k places) x (get_or xs k x)
   unfolding set_each
   get_or-set_each [] xs k = refl

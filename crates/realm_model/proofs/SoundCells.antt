@@ -87,7 +87,7 @@ good_updated_all o b (u ∷ us) w v good all e = good_updated_all o b us (update
 pub delegated_state : (c : Cell) (g : ℕ) → is_delegated (record { number = g; cell = c }) ≡ true → c.state ≡ Delegated
 delegated_state c g e = elim c.state as (λ s. elim s [ Delegated ↦ true | _ ↦ false ] ≡ true → s ≡ Delegated) [ Delegated ↦ λ e. refl | _ ↦ λ e. cc ] e
 
--- a realm that is made has the RD `o`
+-- if the operation creates a realm, the RD of that realm is `o`
 abbrev pub StandsAt : ℕ → Act → Type 0
 StandsAt o (Realm rd root v) = rd ≡ o
 StandsAt o _ = Unit {0}
@@ -130,7 +130,7 @@ module _ (limits : Limits) (w : World) (o : ℕ) (sound : AllCells o w) where
   frees_good [] = tt
   frees_good (g ∷ gs) = (tt, frees_good gs)
 
-  -- a REC changed, one more, one less
+  -- a realm stays sound when a REC is changed, added or removed
   rec_kept : (d : RealmRow) (n : ℕ) (rec new : RecRow) → IsSoundRealm d → get d.recs n ≡ Some rec → IsSoundRealm (record d { recs = insert d.recs n new })
   rec_kept d n rec new h there = record {
     width = h.width;
@@ -170,12 +170,12 @@ module _ (limits : Limits) (w : World) (o : ℕ) (sound : AllCells o w) where
     ] (sym (get-remove nat_cmp_total d.recs n k) ∙ e);
   }
 
-  -- other rows
+  -- a realm stays sound with other rows, if these satisfy `IsSoundRows`, `IsFull` and `HasEmptyRows`
   rows_put : (d : RealmRow) (rows : Rows) (m : List ℕ) → IsSoundRealm d → IsSoundRows d.root.width (mapping_at rows) → IsFull d.root.width (mapping_at rows) → HasEmptyRows d.root.width rows
       → IsSoundRealm (record d { rows = rows; measurement = m })
   rows_put d rows m h sound full empty = record { width = h.width; aligned = h.aligned; rows = sound; full = full; empty = empty; recs = h.recs }
 
-  -- a row of the last level
+  -- a realm stays sound when a row of level 3 for a protected IPA granule is replaced by one of a valid shape
   leaf_put : (d : RealmRow) (ipa : ℕ) (old new : Row) (m : List ℕ) → IsSoundRealm d → is_protected d ipa ≡ true → row_at d.rows 3 ipa ≡ Some old → is_table_kind (Some (mapping_of_row old)) ≡ false
       → IsShaped 3 (Some (mapping_of_row new)) → is_table_kind (Some (mapping_of_row new)) ≡ false → IsSoundRealm (record d { rows = put_row d.rows 3 ipa new; measurement = m })
   leaf_put d ipa old new m h protected there plain shaped leaf =

@@ -74,7 +74,7 @@ unfolding fits
 all_stand w o all (Realm rd root vmid) realm gs none fit g = sound_anywhere o rd g (cell_at w.machine g) (all g) (none (none_is realm fit) g)
 all_stand w o all _ realm gs none fit g = all g
 
--- a step of the build, in its part
+-- a step of the build preserves `IsSoundPart`, if no granule has a realm's row while the build has no realm
 part_step : (limits : Limits) (b : ℕ) (w v : World) (act : Act) → IsSoundPart w → (realm_of b w ≡ None → (g : ℕ) → (cell_at w.machine g).descriptor ≡ None)
     → step limits w (by b act) ≡ Some v → IsSoundPart v
 unfolding step

@@ -203,7 +203,7 @@ module _ {width : ℕ} (old : Rows) (level ipa : ℕ) (above : Row) (sound : IsS
   unfolding with_table
   with_table_sound granule ripas plain = made_sound granule ripas plain
 
-  -- each row afterwards: the new TABLE row, a new UNASSIGNED row, or as before
+  -- after a table is added, each row is the new TABLE row, a new UNASSIGNED row, or as before
   pub with_table_cases : (granule : ℕ) (ripas : Ripas) (q : ℕ × ℕ) → is_table above ≡ false
       → ((q ≡ up) × (mapping_at (with_table old level ipa granule ripas) q ≡ Some (mapping Table (Some granule))) × (row_target (mapping_at old q) ≡ None))
       ⊎ ((mapping_at (with_table old level ipa granule ripas) q ≡ Some (mapping Unassigned None)) × (mapping_at old q ≡ None)) ⊎ (mapping_at (with_table old level ipa granule ripas) q ≡ mapping_at old q)
@@ -222,7 +222,7 @@ module _ {width : ℕ} (old : Rows) (level ipa : ℕ) (above : Row) (sound : IsS
     | inr new ↦ let under = fresh_under granule ripas plain q new in inr (inl (new.0, none_under plain q under.0 under.1))
   ]
 
-  -- afterwards the row above is TABLE, and the rows below are UNASSIGNED
+  -- after a table is added, the row above the table is TABLE, and the table's rows are UNASSIGNED
   pub mapping_at-with_table : (granule : ℕ) (ripas : Ripas) → is_table above ≡ false → mapping_at (with_table old level ipa granule ripas) up ≡ Some (mapping Table (Some granule))
   unfolding with_table
   mapping_at-with_table granule ripas plain = up_look granule ripas plain
@@ -274,7 +274,7 @@ module _ {width : ℕ} (old : Rows) (level ipa : ℕ) (above : Row) (sound : IsS
     under_up : (q : ℕ × ℕ) → under q ≡ true → first_covered (level - 1) q.1 ≡ ipa
     under_up q u = at.from_among q.1 (subst (λ l. is_among level ipa (512 * covered_count level) (l, q.1) ≡ true) (under_level q u) u)
 
-    -- the rows of the table lead nowhere
+    -- the rows of a table that is removed lead nowhere
     under_target : (q : ℕ × ℕ) → under q ≡ true → row_target (mapping_at old q) ≡ None
     under_target q u = of_look (mapping_at old q) refl
       where
@@ -291,7 +291,7 @@ module _ {width : ℕ} (old : Rows) (level ipa : ℕ) (above : Row) (sound : IsS
     from_under : (q : ℕ × ℕ) → q.0 ≡ level → first_covered (level - 1) q.1 ≡ ipa → under q ≡ true
     from_under q same h = subst (λ l. is_among level ipa (512 * covered_count level) (l, q.1) ≡ true) (sym same) (at.among q.1 h)
 
-    -- the table above a row that stays, stays
+    -- a TABLE row directly above a place stays TABLE when a table is removed, unless the place is in that table
     parent_stays : (l i : ℕ) → under (l, i) ≡ false → (l == 1) ≡ false → is_table_kind (mapping_at old (l - 1, first_covered (l - 1) i)) ≡ true
         → is_table_kind (mapping_at left_rows (l - 1, first_covered (l - 1) i)) ≡ true
     parent_stays l i out deep h =
@@ -352,7 +352,7 @@ module _ {width : ℕ} (old : Rows) (level ipa : ℕ) (above : Row) (sound : IsS
   unfolding without_table
   without_table_sound unused = left_sound unused
 
-  -- each row afterwards: UNASSIGNED above the table, removed in the table, or as before
+  -- after a table is removed, the row above it is UNASSIGNED, the table's rows are gone, and any other row is as before
   pub without_table_cases : is_table_unused old level ipa ≡ true → (q : ℕ × ℕ) → ((q ≡ up) × (mapping_at (without_table old level ipa) q ≡ Some (mapping Unassigned None)))
       ⊎ ((mapping_at (without_table old level ipa) q ≡ None) × (row_target (mapping_at old q) ≡ None)) ⊎ ((mapping_at (without_table old level ipa) q ≡ mapping_at old q) × (is_place q up ≡ false))
   unfolding without_table
@@ -388,7 +388,7 @@ module _ {width : ℕ} (rows : Rows) (sound : IsSoundRows width (mapping_at rows
           let found = all_rows_at (λ row. not (is_table row)) rows 1 0 (512 * start_count width) k.0 no_root_table k.1 in
           ap is_table_kind (sym e ∙ ap (λ n. mapping_at rows (1, n)) k.2 ∙ ap (option_map mapping_of_row) found.1) ∙ not_true _ found.2
 
-  -- a row below level 1 would be below a TABLE row
+  -- level 2 has no row, since each of its rows needs a TABLE row of level 1 above it, and level 1 has no TABLE row
   no_second : (i : ℕ) → mapping_at rows (2, i) ≡ None
   no_second i = absent (mapping_at rows (2, i)) (λ some. true_false _ (sound.below (2, i) some) (first_plain (first_covered 1 i)))
 
@@ -426,7 +426,7 @@ module _ {width : ℕ} (rows : Rows) (sound : IsSoundRows width (mapping_at rows
             ] refl
           ] refl
 
--- rows that become RAM
+-- sound rows stay sound when UNASSIGNED rows of level 3 become RAM
 pub with_ram_sound : {width : ℕ} (rows : Rows) (ipa n : ℕ) → IsSoundRows width (mapping_at rows) → all_rows is_unassigned rows 3 ipa n ≡ true → IsSoundRows width (mapping_at (with_ram rows ipa n))
 unfolding with_ram
 with_ram_sound rows ipa n sound all = sound_same _ _ sound (same_rows rows ipa n all)

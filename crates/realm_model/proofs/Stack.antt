@@ -12,7 +12,7 @@ use Rattle.realm_model.specs.Act.{reverse_of, is_reverse, is_paired}
 use Rattle.realm_model.specs.History.{is_balanced, has_nearer, is_matched, unmatched}
 use Rattle.realm_model.proofs.Lists.{front, take-front}
 
--- no operation both has a reverse and is one
+-- an operation that has a reverse is not a reverse itself
 paired_apart : (act : Act) → is_paired act ≡ true → is_reverse act ≡ false
 unfolding reverse_of is_reverse
 paired_apart (UnTake order first) h = cc
@@ -23,7 +23,7 @@ paired_apart (UnData granule ipa) h = cc
 paired_apart (UnRec granule auxiliaries number) h = cc
 paired_apart _ h = refl
 
--- the stack after one more operation, by its kind
+-- a paired operation is pushed on the stack, a reverse removes the top, and any other operation changes nothing
 pub pushed_paired : (stack : List Act) (act : Act) → is_paired act ≡ true → pushed stack act ≡ stack ++ act ∷ []
 unfolding pushed
 pushed_paired stack act p = ap (λ t. cond t (stack ++ act ∷ []) (cond (is_reverse act) (take (length stack - 1) stack) stack)) p
@@ -48,7 +48,8 @@ is_zero (suc n) = false
 abbrev opened_step : Bool → Act → ℕ → List Act → List Act
 opened_step p x n rest = cond (p && is_zero n) (x ∷ rest) rest
 
--- one more, if there is nothing to match
+-- the number `n` of reverses without a match in a list, after one more reverse: `n + 1` if the list has no unmatched
+-- operation, and otherwise `n`
 abbrev more : List Act → ℕ → ℕ
 more [] n = suc n
 more (x ∷ xs) n = n
@@ -93,12 +94,12 @@ near_step false false F G k n t apart h c next = next k h c
 
 -- ---- lists
 
--- the number of paired operations before the list that its reverses match
+-- the number of the list's reverses that match no operation in the list, but operations before it
 abbrev need : List Act → ℕ
 need [] = 0
 need (x ∷ xs) = need_step (is_paired x) (is_reverse x) (need xs)
 
--- the unmatched operations, by these numbers
+-- the unmatched operations of a list: the paired ones for which `need` of the operations after them is 0
 abbrev opened : List Act → List Act
 opened [] = []
 opened (x ∷ xs) = opened_step (is_paired x) x (need xs) (opened xs)
@@ -177,7 +178,7 @@ kind x = elim (is_paired x) as (λ t. is_paired x ≡ t → Kind x) [
 
 module _ (between rest : List Act) (a : Act) (k : ℕ) (n : need between ≡ 0) (c : pairs between ≡ backs between + k)
     (next : (j : ℕ) → need (between ++ a ∷ []) ≡ 0 → pairs (between ++ a ∷ []) ≡ backs (between ++ a ∷ []) + j → is_matched (between ++ a ∷ []) rest ≡ is_below j (need rest)) where
-  -- counts with the operation
+  -- the count of paired operations grows by one if the operation `a` at the end is paired
   pairs_push : pairs (between ++ a ∷ []) ≡ pairs between + cond (is_paired a) 1 0
   pairs_push = length_push is_paired between a
 
@@ -237,7 +238,7 @@ unmatched-opened (x ∷ xs) =
 
 -- ---- the stack
 
--- one more operation
+-- an operation at the end of a list changes the unmatched operations as `pushed` changes a stack
 pub unmatched_push : (xs : List Act) (a : Act) → unmatched (xs ++ a ∷ []) ≡ pushed (unmatched xs) a
 unmatched_push xs a =
     unmatched-opened (xs ++ a ∷ [])
@@ -248,7 +249,7 @@ unmatched_push xs a =
     ]
     ∙ ap (λ o. pushed o a) (sym (unmatched-opened xs))
 
--- all operations, from an empty stack
+-- the unmatched operations of `xs ++ ys` are those of `xs`, changed by `pushed` for each operation of `ys`
 unmatched_all : (xs ys : List Act) → unmatched (xs ++ ys) ≡ fold pushed (unmatched xs) ys
 unmatched_all xs [] = ap unmatched (append-nil xs)
 unmatched_all xs (y ∷ ys) =

@@ -29,7 +29,7 @@ asked limits b w v act s =
     let first = and_parts _ _ ranged.0 in
     record { below = first.0; leases = first.1; range = ranged.1; fit = outer.1 }
 
--- the effect of a step, if the updates of its command have the property P
+-- if the updates of a command have the property P, a step with the command makes updates that have it
 pub done : (limits : Limits) (b : ℕ) (w v : World) (act : Act) (P : List Update → Type 0)
     → Yields P (outcome_of limits.vmids limits.aux (used_vmids w.machine) act (realm_of b w) (map (seen w.machine) (named act))) → step limits w (by b act) ≡ Some v
     → (us : List Update) × P us × (updated_all b us w ≡ Some v)
@@ -41,7 +41,7 @@ done limits b w v act P yields s =
     of_plan (Ok us) yields e = (us, yields.where_ok us refl, e)
     of_plan (Err rmi) yields e = cc
 
--- the effect of a step, by the list of updates that is its outcome
+-- if the outcome of an operation is a list of updates, a step with the operation makes these updates
 pub planned : (limits : Limits) (b : ℕ) (w v : World) (act : Act) (us : List Update)
     → outcome_of limits.vmids limits.aux (used_vmids w.machine) act (realm_of b w) (map (seen w.machine) (named act)) ≡ Ok us → step limits w (by b act) ≡ Some v → updated_all b us w ≡ Some v
 unfolding step

@@ -46,7 +46,7 @@ freed_leases b (g ∷ gs) leases = freed_leases b gs (set leases g None)
 same_Ok : (us vs : List Update) → ◌≡◌ {A = Outcome} (Ok us) (Ok vs) → us ≡ vs
 same_Ok us vs e = cc
 
--- the leases after the updates of an operation
+-- after the updates of an operation, the leases are those that `leases_after` gives
 leases_of : (limits : Limits) (used : List ℕ) (b : ℕ) (w v : World) (act : Act) (realm : Option Seen) (us : List Update)
     → outcome_of limits.vmids limits.aux used act realm (map (seen w.machine) (named act)) ≡ Ok us → updated_all b us w ≡ Some v
     → v.leases ≡ leases_after b act w.leases
@@ -138,7 +138,7 @@ same_step limits w x y event h k =
     let leases : x.leases ≡ y.leases = h.leases ∙ sym k.leases in
     λ i. record { machine = machine i; leases = leases i }
 
--- if a guest's write reaches a granule of its build
+-- `step` and `IsStep` agree on an event if any guest write in it reaches a granule of its build
 pub step_says : (limits : Limits) (w : World) (event : Event) → ReachesOwn limits event.build w event.act (realm_of event.build w) → StepIsExact limits w event
 step_says limits w event reach v = (
   step_is limits w v event,

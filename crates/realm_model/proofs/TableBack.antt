@@ -13,7 +13,8 @@ use Rattle.realm_model.proofs.Booleans.{false_from, true_false}
 use Rattle.realm_model.proofs.Maps.{place_total, same_place}
 use Rattle.realm_model.proofs.Rows.{is_among, get-drop_rows, get-put_rows_other, get-put_row_other, among_put, differs}
 
--- if rows own the same as rows with a new table, then without the table they own the same as the rows before it
+-- if `rows` are equal, up to RIPAS, to `old` with a new table, then `rows` without the table are equal to `old`, up to
+-- RIPAS
 module _ (old rows : Rows) (level ipa granule : ℕ) (ripas : Ripas) (above : Row)
     (was : get old (level - 1, first_covered (level - 1) ipa) ≡ Some above) (free : mapping_of_row above ≡ mapping Unassigned None)
     (none_below : (q : ℕ × ℕ) → is_among level ipa (512 * covered_count level) q ≡ true → get old q ≡ None)

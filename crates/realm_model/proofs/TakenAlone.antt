@@ -33,7 +33,7 @@ alone_again b (e ∷ es) =
       | false ↦ λ other. alone_again b es
     ] refl
 
--- the build's operations are those that it has among others
+-- a build has the same operations in its events alone as in the whole history
 acts_of-alone : (b c : ℕ) (es : List Event) → c ≡ b → acts_of c (events_of b es) ≡ acts_of c es
 acts_of-alone b c es same = subst (λ n. acts_of n (events_of b es) ≡ acts_of n es) (sym same) (ap (map (λ (x : Event). x.act)) (alone_again b es))
 

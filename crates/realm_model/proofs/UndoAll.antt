@@ -31,7 +31,7 @@ use Rattle.realm_model.proofs.LeftOut.{noninterference}
 use Rattle.realm_model.proofs.FreeSets.{free_set-without, part_of-without}
 use Rattle.realm_model.proofs.ZeroPages.{kept_reached}
 
--- a reverse operation is a reverse, and has none
+-- the operation is the reverse of another, and has no reverse itself
 abbrev Back : Act → Type 0
 Back r = (is_paired r ≡ false) × (is_reverse r ≡ true)
 
@@ -54,7 +54,7 @@ events b st = map (by b) (reverses st)
 events_more : (b : ℕ) (act r : Act) (st : List Act) → reverse_of act ≡ Some r → events b (act ∷ st) ≡ by b r ∷ events b st
 events_more b act r st e = ap (map (by b)) (ap (λ o. elim o [ Some r ↦ r ∷ reverses st | None ↦ reverses st ]) e)
 
--- histories from a base world on, above the operations that are open there
+-- histories that go on from a world `base`, in which the build has the operations `below` open
 module _ (limits : Limits) (b : ℕ) (base : World) (below : List Act) where
   abbrev pub KeptOver : List Act → List Event → World → Type 0
   KeptOver st history w = Kept limits b (SameFor b) (IsSound b) (laws limits b) base below st history w
@@ -95,7 +95,7 @@ pub erase_own : (b : ℕ) (acts : List Act) → erase b (map (by b) acts) ≡ []
 erase_own b [] = refl
 erase_own b (act ∷ acts) = ap (λ t. cond (not t) (by b act ∷ erase b (map (by b) acts)) (erase b (map (by b) acts))) (eq-eqb b b refl) ∙ erase_own b acts
 
--- reverses of the build are no events of others
+-- reverses of a build's operations at the end of a history change nothing in the history without the build
 pub erase_events : (b : ℕ) (history : List Event) (st : List Act) → erase b (history ++ events b st) ≡ erase b history
 erase_events b history st =
     filter-append (λ (x : Event). not (x.build == b)) history (events b st) ∙ ap (λ es. erase b history ++ es) (erase_own b (reverses st)) ∙ append-nil (erase b history)

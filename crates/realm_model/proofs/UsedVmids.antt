@@ -16,7 +16,7 @@ use Rattle.realm_model.specs.Command.Check.{is_in}
 use Rattle.realm_model.proofs.Lists.{is_in_head, is_in_more}
 use Rattle.realm_model.proofs.Outcomes.{Yields-Ok, Yields-check, check_true}
 
--- the VMIDs with that of the realm, if there is one
+-- the list of VMIDs, with the realm's VMID in front if there is a realm
 abbrev with_vmid : Option RealmRow → List ℕ → List ℕ
 with_vmid o used = cons_option (option_map (λ (r : RealmRow). r.vmid) o) used
 
@@ -52,7 +52,7 @@ used_by v (c ∷ machine) e = of_row c.descriptor refl (used_by v machine) e
       | false ↦ λ other e. later (rest e)
     ] refl e
 
--- a realm that is seen with some builds hidden exists
+-- each realm that is seen while some builds are hidden is there also when none is
 row_shown : (p : Option ℕ → Bool) (leases : List (Option ℕ)) (machine : Machine) (k : ℕ) (d : RealmRow) → (cell_at (each (hidden p) leases machine) k).descriptor ≡ Some d
     → (cell_at machine k).descriptor ≡ Some d
 row_shown p [] machine k d is = cc
@@ -60,13 +60,13 @@ row_shown p (l ∷ leases) [] k d is = cc
 row_shown p (l ∷ leases) (c ∷ machine) zero d is = elim (p l) as (λ t. (cond t blank c).descriptor ≡ Some d → c.descriptor ≡ Some d) [ true ↦ λ is. cc | false ↦ λ is. is ] is
 row_shown p (l ∷ leases) (c ∷ machine) (suc k) d is = row_shown p leases machine k d is
 
--- no more VMIDs are in use with some builds hidden
+-- each VMID that is in use while some builds are hidden is in use also when none is
 pub used-hidden : (p : Option ℕ → Bool) (leases : List (Option ℕ)) (machine : Machine) (v : ℕ) → is_in v (used_vmids (each (hidden p) leases machine)) ≡ true → is_in v (used_vmids machine) ≡ true
 used-hidden p leases machine v e =
     let user = used_by v (each (hidden p) leases machine) e in
     ap (λ n. is_in n (used_vmids machine)) (sym user.same) ∙ used_at machine user.at user.realm (row_shown p leases machine user.at user.realm user.there)
 
--- a command that is not refused has the same updates if no more VMIDs are in use
+-- a command that is accepted has the same updates if only some of the VMIDs are in use
 pub outcome_of-fewer : (limits : Limits) (used fewer : List ℕ) → ((v : ℕ) → is_in v fewer ≡ true → is_in v used ≡ true) → (act : Act) (realm : Option Seen) (gs : List Seen) (us : List Update)
     → outcome_of limits.vmids limits.aux used act realm gs ≡ Ok us → outcome_of limits.vmids limits.aux fewer act realm gs ≡ Ok us
 unfolding outcome_of

@@ -42,7 +42,7 @@ module _ (limits : Limits) (w : World) (Made : ℕ → RealmRow → Type 0) wher
   abbrev now : ℕ → Cell
   now k = cell_at w.machine k
 
-  -- a realm at a granule has the VMID of the one that was there, or it is made
+  -- in world `w` the granule has a realm with the VMID of `e`, or `Made` says that the realm `e` is new
   abbrev pub From : ℕ → RealmRow → Type 0
   From k e = ((d : RealmRow) × ((now k).descriptor ≡ Some d) × (d.vmid ≡ e.vmid)) ⊎ Made k e
 
@@ -83,11 +83,11 @@ module _ (limits : Limits) (w : World) (Made : ℕ → RealmRow → Type 0) wher
   vmid_frees [] = tt
   vmid_frees (g ∷ gs) = (tt, vmid_frees gs)
 
-  -- a realm that changes, but not its VMID
+  -- `From` holds of a realm's RD and a changed row of the realm, if the VMID is the same
   realm_vmid : (rd : Seen) (d : RealmRow) → now rd.number ≡ rd.cell → rd.cell.descriptor ≡ Some d → (e : RealmRow) → d.vmid ≡ e.vmid → From rd.number e
   realm_vmid rd d at is e same = inl (d, ap (λ (c : Cell). c.descriptor) at ∙ is, same)
 
-  -- the realm that an operation makes, if it makes one
+  -- if the operation creates a realm and the realm can be made, `Made` holds of its RD and its row
   abbrev Makes : Act → Type 0
   Makes (Realm rd root v) = (e : RealmRow) → e.vmid ≡ v → CanBeMade limits.vmids (used_vmids w.machine) w.machine rd root v → Made rd e
   Makes _ = Unit {0}
@@ -160,7 +160,7 @@ pub record HasVmids (limits : Limits) (w : World) : Type 0 where
   pub range : (k : ℕ) (d : RealmRow) → (cell_at w.machine k).descriptor ≡ Some d → (1 ≤ d.vmid) × (d.vmid ≤ limits.vmids)
   pub apart : (k h : ℕ) (d e : RealmRow) → (cell_at w.machine k).descriptor ≡ Some d → (cell_at w.machine h).descriptor ≡ Some e → d.vmid ≡ e.vmid → k ≡ h
 
--- the realm of an operation that makes one
+-- the operation creates a realm with the RD `k` and the VMID of `e`, and this realm can be made
 abbrev pub IsMade : Limits → World → Act → ℕ → RealmRow → Type 0
 IsMade limits w (Realm rd root v) k e = (k ≡ rd) × (e.vmid ≡ v) × CanBeMade limits.vmids (used_vmids w.machine) w.machine rd root v
 IsMade limits w _ k e = ⊥
@@ -181,7 +181,7 @@ made_apart : (limits : Limits) (w : World) (act : Act) (k h : ℕ) (d e : RealmR
 made_apart limits w (Realm rd root v) k h d e is m = λ same. let new = m.2 in true_false _ (used_at w.machine k d is) (ap (λ n. is_in n (used_vmids w.machine)) (same ∙ m.1) ∙ new.free)
 made_apart limits w _ k h d e is m = absurd m
 
--- a realm after a step was there before with its VMID, or is made
+-- each realm after a step was there before the step with the same VMID, or the step creates it
 pub realm_before : (limits : Limits) (w v : World) (b : ℕ) (act : Act) → IsSquare w → step limits w (by b act) ≡ Some v
     → (k : ℕ) (e : RealmRow) → (cell_at v.machine k).descriptor ≡ Some e → From limits w (IsMade limits w act) k e
 realm_before limits w v b act square s k e is =
@@ -189,7 +189,8 @@ realm_before limits w v b act square s k e is =
     from_put limits w (IsMade limits w act) did.0 k (cell_at w.machine k) did.1 (from_now limits w (IsMade limits w act) k) e
     (ap (λ (c : Cell). c.descriptor) (sym (cell_put b did.0 w v square did.2 k)) ∙ is)
 
--- if there was no realm, an operation that makes none leaves none
+-- an operation that does not create a realm does not satisfy `IsMade`; so (`still_none`) it leaves no realm where there
+-- was none
 none_made : (limits : Limits) (w : World) (act : Act) (k : ℕ) (e : RealmRow) → makes_realm act ≡ false → IsMade limits w act k e → ⊥
 none_made limits w (Realm rd root v) k e plain made = cc
 none_made limits w _ k e plain made = made

@@ -31,7 +31,8 @@ use Rattle.realm_model.specs.VmidsUsed.{VmidsFollowSteps}
 
 -- ---- the VMIDs of open operations
 
--- the VMID of the realm that an operation made, and of the one that a reverse removes
+-- the VMID of the realm that an operation creates, or (`vmid_removed`) of the one that it destroys, alone in a list;
+-- the empty list if there is none
 abbrev vmid_made : Act → List ℕ
 vmid_made (Realm rd root vmid) = vmid ∷ []
 vmid_made _ = []
@@ -156,7 +157,8 @@ module _ (limits : Limits) (before : List Event) (w v : World) (legal : IsLegal 
   others_open : (c : ℕ) → (c ≡ b → ⊥) → vmids_open c later ≡ vmids_open c before
   others_open c apart = ap (flat_map vmid_made) (open_entries-other c before (by b act) (λ e. apart (sym e)))
 
-  -- a VMID that the build's list has or lacks as before is used as before
+  -- if the step does not change whether the build's open operations have a VMID, it does not change whether the VMID is
+  -- in use
   same_used : (x : ℕ) → is_in x (vmids_open b later) ≡ is_in x (vmids_open b before) → is_in x (used_vmids v.machine) ≡ is_in x (used_vmids w.machine)
   same_used x own =
       both_ways _ _
@@ -172,7 +174,7 @@ module _ (limits : Limits) (before : List Event) (w v : World) (legal : IsLegal 
   plain_follows : makes_realm act ≡ false → is_realm_destroy act ≡ false → (x : ℕ) → is_in x (used_vmids v.machine) ≡ is_in x (used_vmids w.machine)
   plain_follows plain stay x = same_used x (ap (is_in x) (same_open plain stay))
 
-  -- a VMID that is made is used, and the others are as before
+  -- a VMID that the step adds to those of the build's open operations is in use, and nothing changes for other VMIDs
   made_follows : (vmid : ℕ) → vmids_open b later ≡ vmids_open b before ++ vmid ∷ []
       → (is_in vmid (used_vmids v.machine) ≡ true) × ((x : ℕ) → (x ≡ vmid → ⊥) → is_in x (used_vmids v.machine) ≡ is_in x (used_vmids w.machine))
   made_follows vmid is = (

@@ -44,7 +44,7 @@ within_square w g lease square h = subst (λ n. g < n) square (slice_get_within 
 IsSquare-set : (b : ℕ) (u : Update) (w : World) → IsSquare w → IsSquare (updated b u w)
 IsSquare-set b u w square = length-set w.leases (granule_of u) (lease_after b u) ∙ square ∙ sym (length-set w.machine (granule_of u) (cell_after u (cell_at w.machine (granule_of u))))
 
--- the cell of each granule after updates
+-- after a build's updates, the cell of each granule is the one that `put_at` gives
 pub cell_put : (b : ℕ) (us : List Update) (w v : World) → IsSquare w → updated_all b us w ≡ Some v → (k : ℕ) → cell_at v.machine k ≡ put_at us k (cell_at w.machine k)
 unfolding updated_all
 cell_put b [] w v square e k = ap (λ (x : World). cell_at x.machine k) (sym (same_Some _ _ e))
@@ -94,7 +94,8 @@ pub seen-each_put : (m : Machine) (x : Cell) (gs : List ℕ) → map (put_seen x
 seen-each_put m x [] = refl
 seen-each_put m x (g ∷ gs) = ap (λ r. Put g x ∷ r) (seen-each_put m x gs)
 
--- a property that one more update in front keeps is kept by one update for each element of a list
+-- if a property of update lists stays true with `f x` in front, it stays true with one `f x` for each `x` of a list in
+-- front
 module _ {X : Type 0} (P : List Update → Type 0) (f : X → Update) (more : (x : X) (us : List Update) → P us → P (f x ∷ us)) where
   pub each_in_front : (xs : List X) (us : List Update) → P us → P (map f xs ++ us)
   each_in_front [] us h = h
@@ -104,7 +105,7 @@ module _ {X : Type 0} (P : List Update → Type 0) (f : X → Update) (more : (x
   each_alone [] h = h
   each_alone (x ∷ xs) h = more x (map f xs) (each_alone xs h)
 
--- a cell after a write
+-- after a cell is written at `g`, each granule has its old cell, or is `g` and has the new one
 pub set_cases : (m : Machine) (g : ℕ) (x : Cell) (k : ℕ) → (cell_at (set m g x) k ≡ cell_at m k) ⊎ ((k ≡ g) × (cell_at (set m g x) k ≡ x))
 set_cases [] g x k = inl refl
 set_cases (c ∷ m) zero x zero = inr (refl, refl)

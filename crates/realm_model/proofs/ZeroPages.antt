@@ -87,11 +87,11 @@ module _ (limits : Limits) (w : World) (linked : IsLinked (λ k. cell_at w.machi
   all : (us : List Update) → AllKeepZero us → Z us
   all us keeps k = zero_put us k (now k) keeps (zero k)
 
-  -- a realm's own granule, whatever its row
+  -- `IsZeroCell` holds of the cell of a realm's RD; this does not depend on the realm's row
   realm_zero : (rd : Seen) → now rd.number ≡ rd.cell → IsZeroCell rd.cell
   realm_zero rd at = λ s. ap (λ (c : Cell). c.bytes) (sym at) ∙ zero rd.number (ap (λ (c : Cell). is_zero_state c.state) at ∙ s)
 
-  -- a granule of data is written to
+  -- all cells still satisfy `IsZeroed` after a byte is written to a DATA granule
   poked : (g o v : ℕ) → (now g).state ≡ InData → Z (PutByte g o v ∷ [])
   poked g o v is k = elim (k == g) as (λ t. (k == g) ≡ t → IsZeroCell (cond t (cell_after (PutByte g o v) (now k)) (now k))) [
     | true ↦ λ here s. absurd (true_false _ s (ap is_zero_state (ap (λ j. (now j).state) (eqb-true k g here) ∙ is)))

@@ -47,7 +47,7 @@ pub record Cell : Type 0 where
 abbrev pub blank : Cell
 blank = record { state = Undelegated; realm = None; bytes = zero_page; descriptor = None }
 
--- a granule that has just left a realm or been delegated: DELEGATED, of no realm, and zero
+-- a DELEGATED granule that belongs to no realm, as after it leaves a realm or is delegated; its page is zero
 abbrev pub left : Cell
 left = record { state = Delegated; realm = None; bytes = zero_page; descriptor = None }
 

@@ -32,9 +32,9 @@ pub record IsUndoneNext (limits : Limits) (history : List Event) (build : ℕ) (
   pub legal : IsLegal limits (history ++ by build back ∷ [])
   pub left_open : open_entries build (history ++ by build back ∷ []) ++ act ∷ [] ≡ open_entries build history
 
--- All that a build has open is undone, by one reverse for each operation. The world is that of the history without the
--- build, the one before without what the build had. The build's pages are free, what was free is, what others have
--- stays.
+-- All that a build has open is undone, by one reverse for each operation. The history then leads to the same world as
+-- without the build's events, which is `world` without the build. The build's pages are free, free granules stay free,
+-- and each other build keeps its part.
 pub record IsUndone (limits : Limits) (history : List Event) (build : ℕ) (world : World) : Type 0 where
   pub legal : IsLegal limits (history ++ undoing build history)
   pub all : length (undoing build history) ≡ length (open_entries build history)

@@ -80,7 +80,7 @@ plan_as_written bytes p e = elim (cases_Bool (nat_lt 1048576 (length bytes))) [
       rw document (document_as_written found.0 p found.2)
 ]
 
--- the result of a call, if it is a plan
+-- if a call that meets `Gives` returns a plan, the plan's steps are spelled as in the document
 pub gives_as_written : (bytes : List ℕ) (r : Result code.Plan PlanError) → Gives plan_view r (plan_of bytes) → IfOk r (λ p. written_steps bytes ≡ Some (map (map spelling) (plan_view p).builds))
 gives_as_written bytes (Err e) gives = tt
 gives_as_written bytes (Ok p) gives = plan_as_written bytes (plan_view p) gives

@@ -18,15 +18,15 @@ use Rattle.realm_plan.specs.declared.fault.PlanFault.{PlanFault}
 use Rattle.realm_plan.specs.declared.fault.PlanError.{PlanError}
 use Rattle.realm_plan.specs.declared.fault.PlanError.TheVariants as errors
 
--- the items found so far in front of those that are still to be read, if all of these are of the kind
+-- the items found so far, followed by the result for the items still to be read; none if that result is none
 abbrev pub with_front : {A : Type 0} → List A → Option (List A) → Option (List A)
 with_front front rest = option_map (λ more. front ++ more) rest
 
--- the same, if reading may end in a fault
+-- the items found so far, followed by the result for the entries still to be read; the fault if that result is a fault
 abbrev pub or_fault_with_front : {A : Type 0} → List A → Result (List A) PlanFault → Result (List A) PlanFault
 or_fault_with_front front rest = rest >>= (λ more. Ok (front ++ more))
 
--- at first, nothing is in front
+-- if no item was found so far, the whole result is that for the items still to be read
 pub starts : {A : Type 0} (front : List A) (rest whole : Option (List A)) → front ≡ [] → rest ≡ whole → with_front front rest ≡ whole
 starts front None whole none same = same
 starts front (Some more) whole none same = ap (λ before. Some (before ++ more)) none ∙ same
@@ -37,7 +37,7 @@ or_fault_starts front (Ok more) none = ap (λ before. Ok (before ++ more)) none
 
 -- ---- items of a document
 
--- each of the items, in their order
+-- `all` applies `one` to each item of a document in sequence, and has no result if `one` has none for some item
 pub record ReadsEach {A : Type 0} (one : Data → Option A) (all : Items → Option (List A)) : Type 0 where
   pub none_left : all no_items ≡ Some []
   pub one_more : (value : Data) (more : Items) → all (item value more) ≡ option_and_then (λ a. option_map (λ found. a ∷ found) (all more)) (one value)
@@ -67,7 +67,8 @@ module _ {A : Type 0} (one : Data → Option A) (all : Items → Option (List A)
 
 -- ---- numbered entries, of which the first that is wrong is a fault
 
--- each of the entries, in their order, from that number on
+-- `all` applies `one` to each entry in sequence, with the entry's number; its result is the first fault, if there is
+-- any
 pub record ReadsOrFault {X A : Type 0} (one : ℕ → X → Result A PlanFault) (all : ℕ → List X → Result (List A) PlanFault) : Type 0 where
   pub none_left : (k : ℕ) → all k [] ≡ Ok []
   pub one_more : (k : ℕ) (x : X) (xs : List X) → all k (x ∷ xs) ≡ one k x >>= (λ a. all (k + 1) xs >>= (λ found. Ok (a ∷ found)))

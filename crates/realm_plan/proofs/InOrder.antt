@@ -14,7 +14,7 @@ pub fails_first : {A B : Type 0} (f : A → Result B PlanFault) (r : Result A Pl
 fails_first f r errors.Memory fails = tt
 fails_first f r (errors.Fault fault) wrong = rw wrong refl
 
--- the reading after that of the steps, one bind after another
+-- the stages in which a plan's contents are checked after the steps: the schedule, the integers and the lengths
 module _ (c : Contents) where
   abbrev pub made : List (List PlanStep) → List ℕ → Numbers → Plan
   made builds order n = record { pages = n.pages; vmids = n.vmids; aux = n.aux; history = n.history; builds = builds; order = order; gives_up = false }

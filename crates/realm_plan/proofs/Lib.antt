@@ -3,7 +3,7 @@ pub mod Documents
 pub mod Fronts
 pub mod InOrder
 pub mod Views
--- words and their numbers
+-- the words of steps and their numbers
 pub mod Auxiliaries
 pub mod StepMeans
 pub mod StepSpells

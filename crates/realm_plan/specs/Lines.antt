@@ -8,7 +8,7 @@ use Rattle.realm_model.specs.declared.states.RealmState.{RealmState}
 use Rattle.realm_model.specs.declared.states.RealmState.TheVariants as realm
 use Rattle.realm_plan.specs.Answers.{then_number}
 
--- the line of a turn for which the build has no step left
+-- the line of a turn whose build has no step left
 abbrev pub idle_line : ℕ → List ℕ
 idle_line build = decimal build ++ codes " - idle\n"
 

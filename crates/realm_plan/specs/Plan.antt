@@ -73,8 +73,8 @@ pub record Plan : Type 0 where
   pub order : List ℕ
   pub gives_up : Bool
 
--- The plan that the contents make, or their first fault: in the steps, then in the schedule, then in the limits. No
--- document says that a plan gives up.
+-- The plan that the contents make, or their first fault: in the steps, then in the schedule, then in the limits. The
+-- plan does not give up, since no key of a document sets that.
 unfoldable pub plan_of_contents : Contents → Result Plan PlanFault
 plan_of_contents c =
     builds_of 0 c.builds >>= (λ builds.

@@ -37,7 +37,7 @@ module _ (xs ys : List Check) (none : first_that_holds (xs ++ ys) ≡ None) wher
   none_right : first_that_holds ys ≡ None
   none_right = sym (first_passes xs ys none_left) ∙ none
 
--- so none does of the pages of a command
+-- if a command is not refused, no check of its pages finds a missing page
 no_page_missing : (host : HostView) (build : ℕ) (cmd : Cmd) → refusal_of host build (Ask cmd) ≡ None → first_that_holds (page_checks (summary_of host) build (operands cmd)) ≡ None
 unfolding refusal_of checks_of
 no_page_missing host build cmd none =
@@ -49,7 +49,7 @@ no_page_missing host build cmd none =
 -- ---- the granules that are named
 
 module _ (pages : List ℕ) (few : All (λ page. page < 4096) pages) where
-  -- each page of the build has a granule
+  -- the granule of each page of the build is below 4,096, so the check of this bound returns the granule
   granule_there : (page granule : ℕ) → slice_get pages page ≡ Some granule → option_and_then (λ number. if nat_lt number 4096 then Some number else None) (Some granule) ≡ Some granule
   granule_there page granule is =
       let inside = slice_get_within pages page granule is in
@@ -57,7 +57,7 @@ module _ (pages : List ℕ) (few : All (λ page. page < 4096) pages) where
       ap (λ t. if t then Some granule else None) (lt-ltb granule 4096 below)
 
 module _ (host : HostView) (build : ℕ) (few : All (λ page. page < 4096) (pages_of build host.history)) where
-  -- the granules that are named are those of the pages, each of them there
+  -- if no check finds a missing page, the granules that the host finds for page numbers are those of all these pages
   are_granules : (numbers : List ℕ) → first_that_holds (page_checks (summary_of host) build numbers) ≡ None
       → AreGranules (pages_of build host.history) numbers (filter_map (λ page. granule_of_page host build page) numbers)
   are_granules [] none = refl

@@ -38,7 +38,7 @@ reports_more workers reports after worker report are is grows =
 
 -- ---- a run
 
--- there are as many after it as before
+-- there are as many workers after a run as before it
 pub same_length : (opened : HostView) (passes stops : ℕ → ℕ → Type 0) (old new : List WorkerView) → AreRun opened passes stops old new → length new ≡ length old
 unfolding AreRun
 same_length opened passes stops old new are = sym (length_all_zip (λ (before after : WorkerView). IsWorkerRun opened (passes before.seat.build) (stops before.seat.build) before after) old new are)
@@ -58,11 +58,11 @@ module _ (plan : Plan) (passes stops : ℕ → ℕ → Type 0) (opened : HostVie
   ended_run : IsEndedRun plan passes stops opened host left.workers
   ended_run = record { run = left.run; ended = left.ended; given_back = subst (IsHostGivenBack opened host) left.seats_are back }
 
-  -- a host that is not closed
+  -- if the host can't be closed with the seats of a run, the run is a mismatch
   pub not_closed : (fault : CloseFault) → IsFault fault host seats → IsMismatch plan passes stops opened
   not_closed fault bad = record { host = host; workers = left.workers; is_run = ended_run; differs = inl (fault, subst (IsFault fault host) left.seats_are bad) }
 
-  -- a report that does not fit
+  -- if not all reports of a run match the history, the run is a mismatch
   pub misfit : (All (ReportFits host.history) reports → ⊥) → IsMismatch plan passes stops opened
   misfit bad = record {
     host = host;
@@ -71,7 +71,7 @@ module _ (plan : Plan) (passes stops : ℕ → ℕ → Type 0) (opened : HostVie
     differs = inr (λ fit. bad (reports_fit host.history left.workers reports left.reports_are fit));
   }
 
-  -- the text
+  -- if the host is closed and all reports match, the reports, the map and the audit line are the run's text
   pub is_text : (text : List ℕ) → IsClosed host seats → All (ReportFits host.history) reports
       → text ≡ flat_map (report_lines plan) reports ++ (map_text host ++ audit_line) → IsWorkersText plan passes stops opened text
   is_text text closed fit whole = record {

@@ -12,7 +12,7 @@ use Rattle.realm_program.specs.Fault.{fault_of_plan}
 use Rattle.realm_program.specs.Whole.{kept_of}
 use Rattle.realm_program.specs.declared.fault.Fault.TheVariants as told
 
--- one more than the most are kept, so too many stay too many
+-- an input of more than `most` bytes still has more than `most` if only its first `most + 1` bytes are kept
 long_still : (most : ℕ) (xs : List ℕ) → ltb most (length xs) ≡ true → ltb most (length (take (suc most) xs)) ≡ true
 long_still most xs long =
     let above : most < length xs = ltb-true most (length xs) long in
@@ -21,7 +21,7 @@ long_still most xs long =
 all_kept : (most : ℕ) (xs : List ℕ) → ltb most (length xs) ≡ false → take (suc most) xs ≡ xs
 all_kept most xs short = take_all (suc most) xs (grind (arith, lt-ltb most (length xs), short))
 
--- the plan of an input is that of what is kept of it
+-- parsing the kept bytes of an input gives the same plan or fault as parsing all its bytes
 pub plan_of-kept_of : (bytes : List ℕ) → plan_of (kept_of bytes) ≡ plan_of bytes
 unfolding plan_of kept_of
 plan_of-kept_of bytes = elim (cases_Bool (ltb 1048576 (length bytes))) [
@@ -29,7 +29,7 @@ plan_of-kept_of bytes = elim (cases_Bool (ltb 1048576 (length bytes))) [
   | inr short ↦ ap plan_of (all_kept 1048576 bytes short)
 ]
 
--- what is read of the bytes that were kept is read of the whole input, if that is known
+-- the result of parsing the kept bytes of an input is that of parsing the whole input, if the input is known
 pub plan_from_kept : (known : Option (List ℕ)) (bytes : List ℕ) (read : Result Plan PlanFault) → IfSome known (λ xs. bytes ≡ kept_of xs) → plan_of bytes ≡ read → IfSome known (λ xs. plan_of xs ≡ read)
 plan_from_kept None bytes read kept is = tt
 plan_from_kept (Some xs) bytes read kept is = sym (plan_of-kept_of xs) ∙ ap plan_of (sym kept) ∙ is

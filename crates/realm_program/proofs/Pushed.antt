@@ -6,7 +6,7 @@ use Rattle.std.proofs.lemmas.List.{map-append, length-map}
 use Rattle.realm_program.specs.Fitting.{granule_of_number, ArePushed, HaveNoGranules}
 
 module _ (pages : List ℕ) where
-  -- one more page
+  -- `ArePushed` still holds after one more page, whose granule is added at the end
   pub pushed_more : (numbers before now after : List ℕ) (number granule : ℕ) → ArePushed pages numbers before now
       → granule_of_number pages number ≡ Some granule → after ≡ now ++ granule ∷ [] → ArePushed pages (numbers ++ number ∷ []) before after
   pushed_more numbers before now after number granule pushed is after_is = (
@@ -19,7 +19,7 @@ module _ (pages : List ℕ) where
     ),
   )
 
-  -- as many granules more as pages
+  -- the list grows by one granule for each page
   pub pushed_count : (numbers before after : List ℕ) → ArePushed pages numbers before after → length after ≡ length before + length numbers
   pushed_count numbers before after pushed =
       ap length pushed.1.1

@@ -23,16 +23,17 @@ use Rattle.build_seats.specs.declared.report.Answer.TheVariants.{Replied, Undone
 use Rattle.build_seats.specs.declared.report.ReportLine.{ReportLine}
 use Rattle.realm_program.specs.Fitting.{AnswerFits, LineFits, DoesFit, accepted_count}
 
--- a line fits what is open and the build's next event
+-- a line matches the build's open operations and its next event
 abbrev pub FitsHere : List Step → List Act → Option Event → ReportLine → Type 0
 FitsHere steps opened next line = IsSomeAnd (question_at steps line.asked) (λ asked. AnswerFits (flat_map pages_held opened) opened next asked line.answer)
 
--- so with the same acts in a slice
+-- a result that says whether `FitsHere` holds for a list of operations also says it for an equal list
 pub fits_here_of : (steps : List Step) (acts opened : List Act) (next : Option Event) (line : ReportLine) (r : Bool) → acts ≡ opened → IsTrue r
     ↔ FitsHere steps acts next line → IsTrue r ↔ FitsHere steps opened next line
 fits_here_of steps acts opened next line r same says = subst (λ (xs : List Act). IsTrue r ↔ FitsHere steps xs next line) same says
 
--- `count` events of the build are followed: its next one is at `next` in the history, and `opened` is open.
+-- The first `count` events of the build are passed, and `opened` are the operations that these leave open. The build's
+-- next event is at index `next` of the history; if it has none, `next` is the history's end.
 pub record IsAt (build : ℕ) (history : List Event) (count next : ℕ) (opened : List Act) : Type 0 where
   pub within : next ≤ length history
   pub rest : drop count (events_of build history) ≡ events_of build (drop next history)
@@ -40,7 +41,7 @@ pub record IsAt (build : ℕ) (history : List Event) (count next : ℕ) (opened 
   pub enough : count ≤ length (events_of build history)
   pub opened_is : opened ≡ open_entries build (take count (events_of build history))
 
--- `count` lines are read, each of them fits, and the events of the accepted ones are followed.
+-- The first `count` lines are read, and each of them matches. One event of the build is passed for each accepted line.
 pub record IsReadTo (build : ℕ) (steps : List Step) (lines : List ReportLine) (history : List Event) (count next : ℕ) (opened : List Act) : Type 0 where
   pub at : IsAt build history (accepted_count (take count lines)) next opened
   pub fit : (place : ℕ) → place < count → (line : ReportLine) → slice_get lines place ≡ Some line → LineFits build steps history (accepted_count (take place lines)) line
@@ -61,7 +62,7 @@ module _ (build : ℕ) where
   first_own (event ∷ rest) own = ap (λ events. slice_get events 0) (own_first event rest own)
 
 module _ {build : ℕ} {history : List Event} {count next : ℕ} {opened : List Act} (at : IsAt build history count next opened) where
-  -- it is the one after those that are followed
+  -- the build's next event is the event at index `next` of the history
   pub next_is : slice_get (events_of build history) count ≡ slice_get history next
   next_is =
       slice_get-drop (events_of build history) count
@@ -69,7 +70,7 @@ module _ {build : ℕ} {history : List Event} {count next : ℕ} {opened : List 
       ∙ first_own build (drop next history) (subst (λ o. IfSome o (λ event. event.build ≡ build)) (slice_get-drop history next) at.own)
       ∙ sym (slice_get-drop history next)
 
-  -- a line fits there if it fits what is open and the next event
+  -- a line that matches the open operations and the next event matches after `count` events of the build
   pub fits_from : (steps : List Step) (line : ReportLine) → FitsHere steps opened (slice_get history next) line → LineFits build steps history count line
   fits_from steps line here =
       subst (λ acts. FitsHere steps acts (slice_get (events_of build history) count) line) at.opened_is
@@ -80,7 +81,7 @@ module _ {build : ℕ} {history : List Event} {count next : ℕ} {opened : List 
       subst (λ event. FitsHere steps opened event line) next_is
       (subst (λ acts. FitsHere steps acts (slice_get (events_of build history) count) line) (sym at.opened_is) fits)
 
-  -- one more event is followed
+  -- one more event is passed: it changes the open operations, and the build's event after it is at index `later`
   pub at_more : (event : Event) (later : ℕ) (more : List Act) → slice_get history next ≡ Some event → more ≡ pushed opened event.act → later ≤ length history
       → events_of build (drop later history) ≡ events_of build (drop (next + 1) history) → IfSome (slice_get history later) (λ after. after.build ≡ build)
       → IsAt build history (count + 1) later more
@@ -105,7 +106,7 @@ module _ {build : ℕ} {history : List Event} {count next : ℕ} {opened : List 
             ∙ ap (open_entries build) (sym grown);
       }
 
-  -- at the end of the history all events are followed, and only there
+  -- `next` is the end of the history if and only if all events of the build are passed
   pub all_followed : (nat_eq next (length history) ≡ true) ↔ (count ≡ length (events_of build history))
   all_followed = (
     (λ t.
@@ -124,7 +125,7 @@ module _ {build : ℕ} {history : List Event} {count next : ℕ} {opened : List 
 
 -- ---- lines
 
--- an accepted answer that fits has an event
+-- if an accepted answer matches, the build has a next event
 answer_has : (pages : List ℕ) (opened : List Act) (next : Option Event) (asked : Question) (answer : Answer) → AnswerFits pages opened next asked answer
     → is_done answer ≡ true → (event : Event) × (next ≡ Some event)
 answer_has pages opened (Some event) asked answer fits done = (event, refl)
@@ -149,7 +150,7 @@ next_there steps opened history next line fits done =
     let has = asked_has (flat_map pages_held opened) opened (slice_get history next) (question_at steps line.asked) line.answer fits done in
     slice_get_within history next has.0 has.1
 
--- one more line is accepted, or not
+-- one more line adds one to the count of accepted lines if its answer is accepted, and nothing otherwise
 accepted_more : (lines : List ReportLine) (count : ℕ) (line : ReportLine) (done : Bool) → count < length lines → line ≡ get_or lines count line → is_done line.answer ≡ done
     → accepted_count (take (count + 1) lines) ≡ accepted_count (take count lines) + cond done 1 0
 accepted_more lines count line done inside is done_is =
@@ -157,7 +158,7 @@ accepted_more lines count line done inside is done_is =
     ∙ ap (λ (one : ReportLine). accepted_count (take count lines) + cond (is_accepted one) 1 0) (sym is)
     ∙ ap (λ t. accepted_count (take count lines) + cond t 1 0) done_is
 
--- before the first line
+-- `IsReadTo` holds before the first line, with no operation open and no event of the build before index `next`
 pub read_none : (build : ℕ) (steps : List Step) (lines : List ReportLine) (history : List Event) (next : ℕ) (opened : List Act) → next ≤ length history
     → events_of build (drop next history) ≡ events_of build (drop 0 history) → IfSome (slice_get history next) (λ event. event.build ≡ build) → opened ≡ []
     → IsReadTo build steps lines history 0 next opened
@@ -168,13 +169,13 @@ read_none build steps lines history next opened within same own none = record {
 }
 
 module _ {build : ℕ} {steps : List Step} {lines : List ReportLine} {history : List Event} {count next : ℕ} {opened : List Act} (read : IsReadTo build steps lines history count next opened) where
-  -- a line that does not fit
+  -- if the next line does not match, the report does not match the history
   pub read_stop : (line : ReportLine) (r : Bool) → count < length lines → line ≡ get_or lines count line → IsTrue r ↔ FitsHere steps opened (slice_get history next) line → r ≡ false
       → DoesFit build steps lines history → ⊥
   read_stop line r inside is says fails does =
       true_false r (says.1 (fits_here read.at steps line (does.each count line (slice_get_read lines (length lines) count line refl inside is)))) fails
 
-  -- one more line that fits
+  -- if the next line matches, each of the first `count + 1` lines matches
   fit_more : (line : ReportLine) → count < length lines → line ≡ get_or lines count line → FitsHere steps opened (slice_get history next) line
       → (place : ℕ) → place < count + 1 → (one : ReportLine) → slice_get lines place ≡ Some one → LineFits build steps history (accepted_count (take place lines)) one
   fit_more line inside is fits =
@@ -201,7 +202,7 @@ module _ {build : ℕ} {steps : List Step} {lines : List ReportLine} {history : 
         fit = fit_more line inside is fits;
       }
 
-  -- after the last line
+  -- after the last line, the report matches the history if and only if `next` is the end of the history
   pub read_all : length lines ≤ count → (nat_eq next (length history) ≡ true) ↔ DoesFit build steps lines history
   read_all past =
       let all : accepted_count (take count lines) ≡ accepted_count lines = ap accepted_count (take_all count lines past) in

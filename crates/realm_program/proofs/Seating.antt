@@ -13,7 +13,7 @@ middle : {X : Type 0} (xs ys : List X) (x d : X) → get_or (xs ++ x ∷ ys) (le
 middle [] ys x d = refl
 middle (y ∷ xs) ys x d = middle xs ys x d
 
--- the seats of `count` builds, of which some were taken, then this one, and others are left
+-- the list of the new seats of `count` builds: those already taken, then `seat`, and then those left
 module _ (count : ℕ) (taken left : List SeatView) (seat : SeatView) (are : taken ++ seat ∷ left ≡ map new_seat (range_with_len 0 count)) where
   longer : length taken < length (taken ++ seat ∷ left)
   longer = let long = length-append taken (seat ∷ left) in omega arith
@@ -25,7 +25,7 @@ module _ (count : ℕ) (taken left : List SeatView) (seat : SeatView) (are : tak
   is_next = sym (middle taken left seat seat) ∙ ap (λ (l : List SeatView). get_or l (length taken) seat) are
       ∙ get_or-map-range_with_len new_seat 0 count (length taken) (length taken) seat is_there (zero-add (length taken))
 
--- a worker more
+-- the new workers of `count` builds, followed by the one of the next build, are those of `count + 1` builds
 pub one_more : (plan : Plan) (count : ℕ) (workers after : List WorkerView) (worker : WorkerView) → workers ≡ map (new_worker plan) (range_with_len 0 count)
     → worker ≡ new_worker plan count → after ≡ workers ++ worker ∷ [] → after ≡ map (new_worker plan) (range_with_len 0 (count + 1))
 one_more plan count workers after worker so_far is grows =

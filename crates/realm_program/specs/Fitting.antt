@@ -84,8 +84,8 @@ AnswerFits pages opened next asked Nothing = Unit {0}
 AnswerFits pages opened next asked (Refused refusal) = Unit {0}
 AnswerFits pages opened next asked answer = ⊥
 
--- A line matches after `count` events of its build: it has a question, and its answer matches the build's pages, open
--- operations and next event at that point.
+-- A line matches the history after the first `count` events of its build. It has a question, and its answer matches the
+-- build's pages, open operations and next event there.
 abbrev pub LineFits : ℕ → List Step → List Event → ℕ → ReportLine → Type 0
 LineFits build steps history count line =
     let before = take count (events_of build history) in

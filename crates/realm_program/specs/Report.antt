@@ -31,8 +31,8 @@ abbrev pub ends_step : Asked → Option ReportLine → Bool
 ends_step this None = true
 ends_step this (Some next) = not (is_same_step this next.asked)
 
--- The answer that the text of a report line shows, given the worker's answer and whether an abort or a `back` ends with
--- the line.
+-- The answer that the text of a report line shows, given the worker's answer. `ends` is whether the line is the last
+-- one of an abort or a `back`.
 abbrev pub answer_of_line : Answer → Bool → TurnAnswer
 answer_of_line (answer.Replied reply) ends = tells.Replied reply
 answer_of_line (answer.Undone undone) ends = if ends then tells.Ended undone.kind else tells.Undone undone.kind

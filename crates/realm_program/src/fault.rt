@@ -21,7 +21,7 @@ pub enum Fault {
     /// A failed allocation.
     #[error("memory")]
     Memory,
-    /// A build whose worker thread the scheduler did not let continue.
+    /// A build whose worker waited in vain for its next turn.
     #[error("thread")]
     Stuck(BuildId),
     /// A contradiction between the records that are kept of a run. In a run in threads: the history does not match a

@@ -13,7 +13,7 @@ use builders::{Answer, Asked, ReportLine};
 use host_commands::{Cmd, Step};
 use realm_model::{Act, Event};
 
-/// Returns whether an answer says that the host accepted a command or an undo. Only such an answer has an event.
+/// Returns whether an answer says that the host accepted a command or an undo. Only such an answer goes with an event.
 pub(crate) fn is_done(answer: &Answer) -> bool
     ensures { result ≡ is_done answer.now }
 {

@@ -102,7 +102,7 @@ fn run_with<
 
 /// Runs each build of a plan in its own thread, and returns the output text. A worker runs each build, on a host whose
 /// history is empty. The text is complete in memory: the lines of the reports by build, the host's map, and `audit ok`.
-/// Runs in which each build got the same have the same map, in whatever sequence the builds took the lock.
+/// Runs that leave the builds the same seats have the same map, in whatever sequence the builds took the lock.
 ///
 /// Errors. `Stuck`: the worker of this build, and of no lower one, waited in vain for a turn of the gate. `Mismatch`:
 /// the host is not closed, or a report does not match its history. `Memory`: allocation failed.

@@ -43,7 +43,7 @@ pub extern "C" fn rhm_begin_abort(
 }
 
 /// Aborts a build in one call: undoes all its reversible operations that are not undone yet. The newest is undone
-/// first. Returns 0, with the number of operations in `value`.
+/// first. Returns 0, with the number of undone operations in `value`.
 ///
 /// Else nothing changes: 1 and 8 are the refusals, and 14 a closed handle.
 #[unsafe(no_mangle)]

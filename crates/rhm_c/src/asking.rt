@@ -32,7 +32,8 @@ fn ask_raw(host: &mut PlainHost, build: u64, raw: &RawCommand) -> CallAnswer
     }
 }
 
-/// Performs a build's command in one call. Returns 0, with the reply in `value`, and one event ends the history.
+/// Performs a build's command in one call. If the host performs it, appends one event to the history, and returns 0,
+/// with the reply in `value`.
 ///
 /// Else nothing changes. A status from 1 to 13 is the number of the refusal, and `value` is the page, the order or the
 /// RMM's result word that the refusal has. 14 is returned for a closed handle, and 15 if there is no such command.

@@ -164,8 +164,9 @@ fn commit_undo(
 /// Performs a prepared command of a build if the RMM answered as the model predicts. `answer` has the registers of the
 /// RMM's answer. If they agree with the model's answer, does and returns what `rhm_ask` would.
 ///
-/// Else nothing changes. 16: X0 is not the model's, which is `value`: 0 if the model performs the call, and else the
-/// word of its refusal. 17: X0 is the model's, and X1 is not the output that the host knows.
+/// Else nothing changes. 16 means that X0 differs from the model's X0, which is in `value`. That is 0 if the model
+/// performs the call, or else the word of its refusal. 17 means that the RMM and the model perform the call, but X1 is
+/// not the output that the host knows.
 #[unsafe(no_mangle)]
 pub extern "C" fn rhm_commit(
     alloc: Global,

@@ -1,8 +1,8 @@
 //! The functions through which C programs use a host. They are those of `include/rhm.h`. The contract of a function
 //! states its result.
 //!
-//! C keeps a handle, and the handle owns a host on the heap. `rhm_open` alone takes memory. No call has a precondition
-//! but those of its pointers, which `include/rhm.h` has at each function.
+//! C keeps a handle, and the handle owns a host on the heap. `rhm_open` alone takes memory. The only preconditions of a
+//! call are those on its pointers. `include/rhm.h` states them at each function.
 //!
 //! A command of a build can be performed at once, or in two steps in front of an RMM. `rhm_prepare` gives the
 //! operations that the hypervisor performs there, and changes nothing. `rhm_commit` is given the answer, and performs

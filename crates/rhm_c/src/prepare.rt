@@ -72,8 +72,8 @@ fn prepare_undo(frame: Frame, host: &PlainHost, build: u64, into: &mut RawAction
 /// 0, or the word of its refusal.
 ///
 /// Else `actions` stays as it is. 1 to 12 is the number of the refusal that the host gives before it calls the RMM. 13
-/// means that an operand is one that no call has, 14 that the handle is closed, and 15 that the structure encodes no
-/// command.
+/// means that no RMM call has such an operand, no such REC exists, a page to fill or read is not UNDELEGATED, or a REC
+/// to exit is READY. 14 means that the handle is closed, and 15 that the structure encodes no command.
 #[unsafe(no_mangle)]
 pub extern "C" fn rhm_prepare(
     alloc: Global,

@@ -8,18 +8,21 @@ use Rattle.rmi_abi.specs.declared.call.Call.TheVariants.{RttCreate, RttDestroy, 
 use Rattle.rmi_abi.specs.declared.registers.Registers.{Registers}
 use Rattle.rmi_abi.specs.Call.{call_in, first_call_in, last_call_in, registers_of, operand_count, with_operands}
 
--- the registers are those of a call, as far as it has operands
+-- the registers have the call's encoding in X0 and in the registers of its operands; those after them may have any
+-- value
 abbrev pub Agrees : Registers → Call → Type 0
 Agrees r call = with_operands (operand_count call) r ≡ registers_of call
 
--- a function that is found, or is sought among others
+-- the registers agree with the decoded call, if they agree with `c` when X0 is `function`, and with any call that
+-- `rest` gives
 found : (r : Registers) (call c : Call) (rest : Option Call) (function : ℕ) → (r.x0 ≡ function → Agrees r c) → (rest ≡ Some call → Agrees r call)
     → (same : Bool) → (same ≡ true → r.x0 ≡ function) → cond same (Some c) rest ≡ Some call → Agrees r call
 found r call c rest function here more true same is = let it : c ≡ call = cc in subst (Agrees r) it (here (same refl))
 found r call c rest function here more false same is = more is
 
 module _ (r : Registers) (call : Call) where
-  -- the call of a function, before those of others
+  -- the registers agree with the decoded call, if `c` is the call of `function` with their operands, and they agree
+  -- with any call that `rest` gives
   one : (function : ℕ) (c : Call) (rest : Option Call) → record (with_operands (operand_count c) r) { x0 = function } ≡ registers_of c
       → (rest ≡ Some call → Agrees r call) → cond (r.x0 == function) (Some c) rest ≡ Some call → Agrees r call
   one function c rest agrees more =
@@ -57,7 +60,7 @@ module _ (r : Registers) (call : Call) where
       (one 0xC4000168 (RttInitRipas r.x1 r.x2 r.x3) _ refl
       (one 0xC4000169 (RttSetRipas r.x1 r.x2 r.x3 r.x4) _ refl none))))))))))
 
-  -- registers that are decoded as a call are its registers, as far as it has operands
+  -- registers agree with the call that is decoded from them
   pub decoded : call_in r ≡ Some call → Agrees r call
   decoded = either (nat_le r.x0 0xC400015C) (first_call_in r) (last_call_in r) first last
     where

@@ -6,7 +6,7 @@ use page_arena::word_in;
 
 /// The parameters with which a host creates a realm. RMM 1.0, RmiRealmParams.
 ///
-/// The starting level is the 64 bits of the page: a negative one is above 3.
+/// The starting level has the 64 bits of its field as an unsigned number, so a negative level is a number above 3.
 #[derive(Clone, Copy)]
 pub struct RealmParams {
     pub flags: u64,

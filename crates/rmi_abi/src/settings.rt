@@ -11,8 +11,8 @@ pub enum Layout {
     Eac5,
 }
 
-/// The settings of an RMM: its memory, its limits, and choices in its behavior. The default of a choice that the
-/// standard leaves open is the likeliest one.
+/// The settings of an RMM: its memory, its limits, and choices in its behavior. If the standard leaves a choice open,
+/// the default is the likeliest choice.
 #[derive(Clone, Copy)]
 pub struct RmmSettings {
     /// The address of the first granule of the machine's memory.

@@ -14,7 +14,7 @@ use Rattle.rmi_monitor.proofs.RealmAfter.{with_row_of}
 use Rattle.rmi_monitor.proofs.TableMoves.{whole_still, machine_still}
 use Rattle.rmi_monitor.proofs.RealmFound.{row_of, somewhere}
 
--- the fields with other attributes of a realm
+-- the fields with the given attributes for the realm whose RD is `rd`
 abbrev pub with_realm_at : Fields → ℕ → RealmAttributes → Fields
 with_realm_at fields rd realm = record fields { realms = set fields.realms rd (Some realm) }
 

@@ -46,7 +46,8 @@ module _ (limits : Limits) (history : List Event) (world : World) (monitor : Mon
   flags_long : length (map is_none world.leases) ≡ length world.leases
   flags_long = length-map world.leases is_none
 
-  -- an operation in turn that changes the RMM as its step changes the world is performed
+  -- an operation in turn that is a step of the model meets `IsPerformed`, if the step changes the leases as specified,
+  -- and the new RMM agrees with the world after the step
   performed_as : (act : Act) (new : MonitorView) (next : World) → IsInTurn history (by build act) → step limits world (by build act) ≡ Some next
       → new.vmids ≡ monitor.vmids → new.aux ≡ monitor.aux → new.machine ≡ next.machine → new.free ≡ map is_none next.leases
       → next.leases ≡ leases_after build act world.leases → IsPerformed limits history world build act new

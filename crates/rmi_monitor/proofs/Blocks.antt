@@ -96,7 +96,7 @@ module _ (monitor : MonitorView) (fields : Fields) (view_is : seen_as fields ≡
   descriptor_is : (g : ℕ) → descriptor_of new g ≡ descriptor_of fields g
   descriptor_is g = descriptor_stays fields new g refl refl (rows_stay fields new whole g (alone g))
 
-  -- a granule of the block
+  -- after the block is given back, the cell of each granule in it is blank
   cell_inside : (g : ℕ) → first ≤ g → g < first + count → cell_of new g ≡ blank
   cell_inside g low high = cell_of-host new g (sound g) (state_inside g low high) refl (page_inside g low high)
 
@@ -151,7 +151,7 @@ module _ (fields : Fields) (whole : IsWhole fields) where
   whole_pages : (pages : List (List ℕ)) (free : List Bool) → pages ≡ fields.pages → IsWhole (with_store fields.pages free) → IsWhole (with_store pages free)
   whole_pages pages free same after = subst (λ ps. IsWhole (with_store ps free)) (sym same) after
 
-  -- after a block is taken, or none is
+  -- the invariant holds after a free block is taken, or after none is, if the pages are unchanged
   pub whole_taken : (result : Option ℕ) (order : ℕ) (pages : List (List ℕ)) (free : List Bool) → IfSome result (IsFreeBlock fields.free order)
       → IfSome result (λ first. free ≡ with_taken fields.free order first) → IfNone result (free ≡ fields.free) → pages ≡ fields.pages → IsWhole (with_store pages free)
   whole_taken (Some first) order pages free block taken unchanged same =

@@ -42,12 +42,12 @@ use Rattle.rmi_monitor.proofs.RealmCreates.{CanStart, tables_delegated, whole_cr
 first_fails : (a b c d e f g : Bool) → a ≡ false → (a && b && c && d && e && f && g) ≡ false
 first_fails a b c d e f g h = ap (λ t. t && b && c && d && e && f && g) h
 
--- no realm has that width
+-- creating a realm is refused with an input error if no realm may have the given width
 pub create_no_width : (monitor : MonitorView) (rd first width vmid : ℕ) (given : Option ℕ) → given ≡ cond (is_width width) (Some width) None → given ≡ None
     → make_realm monitor rd (record { first = first; width = width }) vmid ≡ Err error_input
 create_no_width monitor rd first width vmid given e none = check_false _ _ _ (first_fails _ _ _ _ _ _ _ (test_failed (is_width width) width given e none))
 
--- the width that is given, if a realm may have it
+-- if the test gives a width, it is the width that was tested, and a realm may have it
 pub is_given : (width given : ℕ) (place : Option ℕ) → place ≡ cond (is_width width) (Some width) None → place ≡ Some given → (is_width given ≡ true) × (given ≡ width)
 is_given width given place e is = let held = test_held (is_width width) width given place e is in (ap is_width held.1 ∙ held.0, held.1)
 
@@ -55,7 +55,7 @@ pub by_width : (monitor : MonitorView) (rd first vmid given width : ℕ) → giv
     → make_realm monitor rd (record { first = first; width = given }) vmid ≡ make_realm monitor rd (record { first = first; width = width }) vmid
 by_width monitor rd first vmid given width same = ap (λ w. make_realm monitor rd (record { first = first; width = w }) vmid) same
 
--- a taken granule is put in another state
+-- `IsBacked` still holds after the state and the realm of a taken granule change
 backed_put : (pages : List (List ℕ)) (free : List Bool) (granules : List Granule) → IsBacked pages free granules → (g : ℕ) (to : Granule) → is_free free g ≡ false
     → IsBacked pages free (set granules g to)
 backed_put pages free granules backed g to taken = record {
@@ -84,7 +84,7 @@ module _ (monitor : MonitorView) (fields : Fields) (view_is : seen_as fields ≡
 
   -- ---- what the command sees
 
-  -- a granule is DELEGATED only inside the machine
+  -- the tests for DELEGATED in the machine and in the fields agree, also for a number that no granule has
   delegated_seen : (table : ℕ) → is_delegated (seen_in monitor table) ≡ is_delegated_at fields.granules table
   delegated_seen table = ⊎_elim
       (λ (within : table < length monitor.machine). ap delegated_test (ap (λ (c : Cell). c.state) (cell_is monitor fields view_is whole table within)))
@@ -137,7 +137,7 @@ module _ (monitor : MonitorView) (fields : Fields) (view_is : seen_as fields ≡
         unfolding check
         create_done = by_fit ∙ (λ i. check (fit i && not (unused i)) error_input (Ok updates))
 
-        -- the results of the checks of the granules
+        -- the tests that the first table's number is a multiple of the number of tables, and that the RD is DELEGATED
         abbrev both : Bool
         both = root.first % start_count root.width == 0 && is_delegated_at fields.granules rd
 
@@ -169,13 +169,13 @@ module _ (monitor : MonitorView) (fields : Fields) (view_is : seen_as fields ≡
                 absurd (let differ : undelegated.state ≡ Delegated = ap (λ (x : Granule). x.state) (sym (get_or_past fields.granules table undelegated past)) ∙ was in cc))
                 (cases_lt table (length fields.granules))
 
-        -- the RD is moved, since it was DELEGATED
+        -- after the call, granule `rd` is the realm's RD, since it was DELEGATED
         pub create_shifted : (done : Bool) (shifted : List Granule) → (IsTrue done ↔ ((granule_at fields.granules rd).state ≡ Delegated))
             → OnTrue done (shifted ≡ with_state fields.granules rd InRd (Some rd)) → shifted ≡ with_state fields.granules rd InRd (Some rd)
         create_shifted true shifted answer is = is
         create_shifted false shifted answer is = absurd (let told = answer.1 rd_was in cc)
 
-        -- after the RD is moved
+        -- after the RD is in state RD
         module _ (shifted : List Granule) (shift : shifted ≡ with_state fields.granules rd InRd (Some rd)) where
           pub create_backed : IsBacked fields.pages fields.free shifted
           create_backed =
@@ -185,7 +185,7 @@ module _ (monitor : MonitorView) (fields : Fields) (view_is : seen_as fields ≡
           pub create_delegated : All (λ table. IsIn shifted table Delegated None) tables
           create_delegated = subst (λ gs. All (λ table. IsIn gs table Delegated None) tables) (sym shift) (tables_delegated fields whole rd root rd_inside rd_was starts)
 
-          -- after the starting tables are moved too
+          -- after the starting tables are in state RTT too
           module _ (realm : RealmAttributes) (realm_vmid : realm.vmid ≡ vmid) (realm_root : realm.root ≡ root) (fresh : realm_row realm empty (root_rows root.width) ≡ new_realm vmid root)
               (granules : List Granule) (pages : List (List ℕ)) (free : List Bool) (moved : granules ≡ with_states shifted tables InRtt (Some rd))
               (cleared : pages ≡ set_each zero_page tables fields.pages) (translation : rows pages root ≡ root_rows root.width)

@@ -42,7 +42,7 @@ module _ (old : Fields) (whole : IsWhole old) (rd page offset value : ℕ) (is :
   elsewhere : (g : ℕ) → g ≢ page → page_at new.pages g ≡ page_at old.pages g
   elsewhere g differs = get_or-set_other old.pages page g (set (page_at old.pages page) offset value) [] differs
 
-  -- a granule that is not in state DATA is another one
+  -- a granule that is not in state DATA keeps its page
   page_stays : (g : ℕ) → (granule_at old.granules g).state ≢ InData → page_at new.pages g ≡ page_at old.pages g
   page_stays g other = elsewhere g (λ s. other (ap (λ h. (granule_at old.granules h).state) s ∙ state_is))
 

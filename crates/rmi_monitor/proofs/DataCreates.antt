@@ -35,7 +35,7 @@ use Rattle.rmi_monitor.proofs.RealmAfter.{Keeps}
 use Rattle.rmi_monitor.proofs.RealmPlaces.{no_table}
 use Rattle.rmi_monitor.proofs.RealmFound.{row_of, nowhere, somewhere, measured_there}
 
--- the granules that the command names
+-- the three granules that the command names are taken
 abbrev pub AreNamed : MonitorView → ℕ → ℕ → ℕ → Type 0
 AreNamed monitor rd g source = record { rd_taken : IsTaken monitor rd; page_taken : IsTaken monitor g; source_taken : IsTaken monitor source }
 
@@ -55,7 +55,7 @@ module _ {monitor : MonitorView} {fields : Fields} (has : HasFields monitor fiel
   abbrev may_copy : Bool
   may_copy = is_delegated_at fields.granules g && is_undelegated_at fields.granules source
 
-  -- the granules are fit, as the command sees them
+  -- a page that is DELEGATED and a source that is UNDELEGATED in the fields are so in the machine
   pub fit_seen : may_copy ≡ true → (is_delegated (seen_in monitor g) && is_undelegated (seen_in monitor source)) ≡ true
   fit_seen h = (λ k. delegated_seen k && undelegated_seen k) ∙ h
 

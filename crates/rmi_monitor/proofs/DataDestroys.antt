@@ -90,7 +90,7 @@ module _ (monitor : MonitorView) (rd ipa : ℕ) where
       leads : LeadsTo old_rows 3 ipa page
       leads = (found.row, found.at, led.1)
 
-      -- the row leads to no other page
+      -- the IPA granule's row of level 3 leads to no granule but `page`
       leads_once : (g : ℕ) → LeadsTo old_rows 3 ipa g → g ≡ page
       leads_once g l =
           let same : l.0 ≡ found.row = same_Some l.0 found.row (sym l.1 ∙ found.at) in

@@ -90,7 +90,8 @@ pub record StayRecs (old new : Fields) : Type 0 where
   pub granule : (g : ℕ) → (granule_at old.granules g).state ≡ InRec → granule_at new.granules g ≡ granule_at old.granules g
   pub auxiliary : (g : ℕ) → (granule_at old.granules g).state ≡ InRecAux → granule_at new.granules g ≡ granule_at old.granules g
 
--- The RECs after a command: their invariant holds, each realm but one has the same RECs, and counts are those of RECs.
+-- The RECs after a command: their invariant holds, each realm but `rd` has the same RECs, and the count kept for each
+-- realm is the number of its RECs.
 pub record LeavesRecs (old new : Fields) (rd : ℕ) : Type 0 where
   pub has : HasRecs new
   pub others : (r : ℕ) → r ≢ rd → recs_of new.granules new.recs r ≡ recs_of old.granules old.recs r
@@ -118,7 +119,7 @@ module _ (old new : Fields) (stay : StayRecs old new) (whole : IsWhole old) wher
         | None ↦ λ e. rec_of-none new.granules new.recs rd g (stay.rec g ∙ e) ∙ sym (rec_of-none old.granules old.recs rd g e)
       ] refl
 
-  -- the invariant of RECs holds, if each realm that has one still exists
+  -- the invariant of RECs holds, if each realm that had a REC still exists, with no smaller next REC number
   HasRecs_stay : ((g rd : ℕ) (rec : RecAttributes) (realm : RealmAttributes) → rec_at old g ≡ Some rec → (granule_at old.granules g).realm ≡ Some rd → realm_at old rd ≡ Some realm
       → (now : RealmAttributes) × (realm_at new rd ≡ Some now) × (realm.next ≤ now.next))
       → HasRecs new
@@ -152,7 +153,8 @@ module _ (old new : Fields) (stay : StayRecs old new) (whole : IsWhole old) wher
           let after = there g before.rd rec before.realm at before.of before.there in
           record { rd = before.rd; of = realm_same g rec at ∙ before.of; realm = after.0; there = after.1; below = nat_within rec.number before.realm.next after.0.next before.below after.2 }
 
-  -- the counts of RECs are right
+  -- `LeavesRecs` holds for any realm, if the counts stay, and each realm that had a REC still exists, with no smaller
+  -- next REC number
   pub recs_stay : new.rec_counts ≡ old.rec_counts
       → ((g rd : ℕ) (rec : RecAttributes) (realm : RealmAttributes) → rec_at old g ≡ Some rec → (granule_at old.granules g).realm ≡ Some rd → realm_at old rd ≡ Some realm
       → (now : RealmAttributes) × (realm_at new rd ≡ Some now) × (realm.next ≤ now.next))
@@ -171,7 +173,7 @@ recs_beside old whole pages free =
 
 -- ---- tables
 
--- A realm whose tables are left alone has them still, and its rows.
+-- A realm whose tables are left alone still has these tables, and its rows stay the same.
 module _ (old new : Fields) (whole : IsWhole old) (rd : ℕ) (alone : LeavesAlone rd old.pages old.granules new.pages new.granules)
     (realm : RealmAttributes) (there : realm_at old rd ≡ Some realm) where
   pub tables_stay : HasTables new.pages new.granules rd realm.root
@@ -182,8 +184,8 @@ module _ (old new : Fields) (whole : IsWhole old) (rd : ℕ) (alone : LeavesAlon
 
 -- ---- all together
 
--- One realm may be created, changed or destroyed, and if it exists it has its tables. The granules that are touched are
--- sound, and the other realms are left alone.
+-- One realm may be created, changed or destroyed, and if it exists afterwards, it has its tables. The granules that are
+-- touched are sound, and the other realms are left alone.
 pub record Leaves (old new : Fields) (rd : ℕ) (touched : ℕ → Bool) : Type 0 where
   pub stays : Stays old new touched
   pub realm_places : length new.realms ≡ length old.realms
@@ -218,7 +220,7 @@ module _ (old new : Fields) (rd : ℕ) (touched : ℕ → Bool) (leaves : Leaves
         tables_stay old new whole g (leaves.alone g differs) realm (sym (leaves.realms g differs) ∙ at)
   ] refl
 
-  -- the invariant holds afterwards
+  -- the invariant holds after a change that meets `Leaves`
   pub whole_after : IsWhole new
   whole_after = record {
     backed = leaves.backed;
@@ -232,7 +234,7 @@ module _ (old new : Fields) (rd : ℕ) (touched : ℕ → Bool) (leaves : Leaves
     vmids_used = leaves.vmids_used;
   }
 
-  -- the cells of granules that are not touched are the same, but for the RD's
+  -- a granule that is neither touched nor the RD has the same cell as before
   pub cell_after : (g : ℕ) → touched g ≡ false → g ≢ rd → cell_of new g ≡ cell_of old g
   cell_after g e differs =
       cell_stays old new g (leaves.stays.granule g e) (leaves.stays.page g e)

@@ -20,7 +20,7 @@ use Rattle.rmi_monitor.proofs.Machines.{length-machine_of, cell_at-machine_of, s
 use Rattle.rmi_monitor.proofs.HostMoves.{cell_of-host}
 use Rattle.granule_addr.proofs.Same.{same_each}
 
--- the fields when nothing has happened
+-- the fields of an RMM with `n` granules that has just been built
 abbrev pub new_fields : ℕ → ℕ → List Bool → ℕ → Fields
 new_fields vmids aux used n =
     fields_of vmids aux used (replicate n undelegated) (replicate n zero_page) (replicate n true) (replicate n None) (replicate n 0) (replicate n None)

@@ -10,17 +10,19 @@ use Rattle.std.proofs.lemmas.Option.{same_Some, none-some}
 use Rattle.rmi_monitor.specs.Gathered.{added, gathered, IsOnce}
 
 module _ {A : Type 0} where
-  -- a number is found after it is put, and the others stay
+  -- after an insert, the map has the new value at its key
   get-insert_same : (map : FinMap nat_cmp A) (key : ℕ) (a : A) → get (insert map key a) key ≡ Some a
   get-insert_same map key a = get-insert nat_cmp_total map key a key ∙ ap (λ t. cond t (Some a) (get map key)) (unsigned_tied key key ∙ eq-eqb key key refl)
 
+  -- an insert changes no value at another key
   get-insert_other : (map : FinMap nat_cmp A) (key : ℕ) (a : A) (q : ℕ) → q ≢ key → get (insert map key a) q ≡ get map q
   get-insert_other map key a q ne = get-insert nat_cmp_total map key a q ∙ ap (λ t. cond t (Some a) (get map q)) (unsigned_tied q key ∙ ne_eqb q key ne)
 
-  -- a number that is taken out is not found
+  -- after a remove, the map has no value at the key
   get-remove_same : (map : FinMap nat_cmp A) (key : ℕ) → get (remove map key) key ≡ None
   get-remove_same map key = get-remove nat_cmp_total map key key ∙ ap (λ t. cond t None (get map key)) (unsigned_tied key key ∙ eq-eqb key key refl)
 
+  -- a remove changes no value at another key
   get-remove_other : (map : FinMap nat_cmp A) (key q : ℕ) → q ≢ key → get (remove map key) q ≡ get map q
   get-remove_other map key q ne = get-remove nat_cmp_total map key q ∙ ap (λ t. cond t None (get map q)) (unsigned_tied q key ∙ ne_eqb q key ne)
 
@@ -47,7 +49,7 @@ module _ {A : Type 0} where
       by true = omega arith
       by false = omega arith
 
-  -- there are no more entries than places
+  -- the map gathered from the first `n` indexes has at most `n` entries
   pub len-gathered : (f : ℕ → Option (ℕ × A)) (n : ℕ) → len (gathered f n) ≤ n
   unfolding gathered
   len-gathered f zero = let none = len-empty nat_cmp A in omega (arith, none)
@@ -71,20 +73,20 @@ module _ {A : Type 0} where
 
   -- ---- all places
 
-  -- places that have the same entries
+  -- functions with the same entries at the first `n` indexes have the same gathered map
   pub gathered-same : (f g : ℕ → Option (ℕ × A)) (n : ℕ) → ((i : ℕ) → i < n → f i ≡ g i) → gathered f n ≡ gathered g n
   unfolding gathered
   gathered-same f g zero same = refl
   gathered-same f g (suc n) same =
       ap (λ o. added o (gathered f n)) (same n (omega arith)) ∙ ap (added (g n)) (gathered-same f g n (λ i lt. same i (omega arith)))
 
-  -- places that have none
+  -- the map gathered from indexes without entries is empty
   pub gathered-none : (f : ℕ → Option (ℕ × A)) (n : ℕ) → ((i : ℕ) → i < n → f i ≡ None) → gathered f n ≡ empty
   unfolding gathered
   gathered-none f zero none = refl
   gathered-none f (suc n) none = ap (λ o. added o (gathered f n)) (none n (omega arith)) ∙ gathered-none f n (λ i lt. none i (omega arith))
 
-  -- a number that only one place has is found with the entry of that place
+  -- if no two indexes have the same key, the gathered map has the value of each index's entry at its key
   pub get-gathered : (f : ℕ → Option (ℕ × A)) (n i key : ℕ) (a : A) → IsOnce f n → i < n → f i ≡ Some (key, a) → get (gathered f n) key ≡ Some a
   unfolding gathered
   get-gathered f zero i key a once lt there = absurd (omega arith)
@@ -97,7 +99,7 @@ module _ {A : Type 0} where
       apart : i ≢ n → (entry : ℕ × A) → f n ≡ Some entry → entry.0 ≢ key
       apart ne entry e same = ne (once i n key a entry.1 lt (omega arith) there (e ∙ ap (λ k. Some (k, entry.1)) same))
 
-  -- an entry that is found is that of a place
+  -- each entry of the gathered map is the entry of an index below `n`
   pub gathered-get : (f : ℕ → Option (ℕ × A)) (n key : ℕ) (a : A) → get (gathered f n) key ≡ Some a → (i : ℕ) × (i < n) × (f i ≡ Some (key, a))
   unfolding gathered
   gathered-get f zero key a is = absurd (none-some a (sym (get-empty nat_cmp key) ∙ is))
@@ -119,7 +121,7 @@ module _ {A : Type 0} where
       earlier : (i : ℕ) × (i < n) × (f i ≡ Some (key, a)) → (i : ℕ) × (i < suc n) × (f i ≡ Some (key, a))
       earlier found = (found.0, omega arith, found.2)
 
-  -- a number that no place has is not found
+  -- the gathered map has no value at a key that no index below `n` has
   pub gathered-get-none : (f : ℕ → Option (ℕ × A)) (n key : ℕ) → ((i : ℕ) (a : A) → i < n → f i ≡ Some (key, a) → ⊥) → get (gathered f n) key ≡ None
   gathered-get-none f n key out =
       elim (get (gathered f n) key) as (λ o. get (gathered f n) key ≡ o → o ≡ None) [
@@ -129,7 +131,7 @@ module _ {A : Type 0} where
 
   -- ---- one place that changes
 
-  -- the numbers that neither entry has stay
+  -- if only one index's entry changes, the map keeps its value at each key that is neither the old nor the new entry's
   get-gathered_other : (f g : ℕ → Option (ℕ × A)) (n i q : ℕ) → ((entry : ℕ × A) → f i ≡ Some entry → entry.0 ≢ q) → ((entry : ℕ × A) → g i ≡ Some entry → entry.0 ≢ q)
       → ((j : ℕ) → j < n → j ≢ i → g j ≡ f j) → get (gathered g n) q ≡ get (gathered f n) q
   unfolding gathered
@@ -147,11 +149,12 @@ module _ {A : Type 0} where
           ∙ rest
           ∙ sym (get-added_other (f n) (gathered f n) q (λ entry e. before entry (sym (ap f s) ∙ e)))
 
-  -- an entry has no other number than its own
+  -- if an option is an entry with key `key`, and `q` is another number, its entry does not have key `q`
   own_number : (o : Option (ℕ × A)) (key : ℕ) (a : A) (q : ℕ) → o ≡ Some (key, a) → q ≢ key → (entry : ℕ × A) → o ≡ Some entry → entry.0 ≢ q
   own_number o key a q there ne entry e same = ne (sym same ∙ ap (λ x. x.0) (same_Some _ _ (sym e ∙ there)))
 
-  -- an entry is put at a place that had no entry of another number
+  -- an entry put at an index that had no entry with another key is inserted into the map, if keys are distinct
+  -- afterwards
   pub gathered-put : (f g : ℕ → Option (ℕ × A)) (n i key : ℕ) (a : A) → IsOnce g n → i < n → g i ≡ Some (key, a) → ((old : ℕ × A) → f i ≡ Some old → old.0 ≡ key)
       → ((j : ℕ) → j < n → j ≢ i → g j ≡ f j) → gathered g n ≡ insert (gathered f n) key a
   gathered-put f g n i key a once lt there own others =
@@ -169,7 +172,7 @@ module _ {A : Type 0} where
           get-gathered_other f g n i q (λ old e same. ne (sym same ∙ own old e)) (own_number (g i) key a q there ne) others
           ∙ sym (get-insert_other (gathered f n) key a q ne)
 
-  -- an entry is taken from a place
+  -- taking an index's entry away removes its key from the map, if keys were distinct before
   pub gathered-drop : (f g : ℕ → Option (ℕ × A)) (n i key : ℕ) (a : A) → IsOnce f n → i < n → f i ≡ Some (key, a) → g i ≡ None
       → ((j : ℕ) → j < n → j ≢ i → g j ≡ f j) → gathered g n ≡ remove (gathered f n) key
   gathered-drop f g n i key a once lt there gone others =

@@ -28,7 +28,7 @@ states_apart granules g h delegated undelegated same =
     ∙ delegated_state (granule_at granules g).state delegated in
     cc
 
--- the fields of an RMM
+-- `monitor` is the view of the fields, and their invariant holds
 pub record HasFields (monitor : MonitorView) (fields : Fields) : Type 0 where
   pub view_is : seen_as fields ≡ monitor
   pub whole : IsWhole fields
@@ -52,14 +52,16 @@ module _ (monitor : MonitorView) (fields : Fields) (view_is : seen_as fields ≡
   pub cell_is : (g : ℕ) → g < length monitor.machine → cell_at monitor.machine g ≡ cell_of fields g
   cell_is g h = ap (λ m. cell_at m g) (sym machine_is) ∙ cell_at-machine_of fields g (subst (λ n. g < n) as_many_granules h)
 
-  -- the RMM after a command, by the machine after it
+  -- fields that have the machine after a command, and the same settings and free flags as before, are seen as the RMM
+  -- after the command
   pub after_by : (outcome : Outcome) (new : Fields) → new.vmids ≡ fields.vmids → new.aux ≡ fields.aux → new.free ≡ fields.free
       → machine_of new ≡ machine_after_command outcome monitor.machine → seen_as new ≡ after_command outcome monitor
   after_by outcome new vmids aux free made =
       (λ i. record { vmids = vmids i; aux = aux i; machine = made i; free = free i })
       ∙ ap (λ (m : MonitorView). record m { machine = machine_after_command outcome monitor.machine }) view_is
 
-  -- the RMM after a command, by its updates
+  -- fields that have the machine after a successful command's updates, and the same settings and free flags as before,
+  -- are seen as the RMM after the command
   pub after_done : (new : Fields) (updates : List Update) (outcome : Outcome) → outcome ≡ Ok updates → new.vmids ≡ fields.vmids → new.aux ≡ fields.aux → new.free ≡ fields.free
       → machine_of new ≡ machine_after_all updates monitor.machine → seen_as new ≡ after_command outcome monitor
   after_done new updates outcome e vmids aux free made = after_by outcome new vmids aux free (made ∙ ap (λ o. machine_after_command o monitor.machine) (sym e))
@@ -83,22 +85,25 @@ module _ (monitor : MonitorView) (fields : Fields) (view_is : seen_as fields ≡
     pub seen_undelegated : is_undelegated (seen_in monitor g) ≡ is_undelegated_at fields.granules g
     seen_undelegated = ap undelegated_test state_is
 
-    -- a DELEGATED one belongs to no realm
+    -- a DELEGATED granule belongs to no realm
     pub in_delegated : is_delegated_at fields.granules g ≡ true → IsIn fields.granules g Delegated None
     in_delegated h =
         let was : (granule_at fields.granules g).state ≡ Delegated = delegated_state (granule_at fields.granules g).state h in
         record { inside = in_granules; is = λ i. record { state = was i; realm = (whole.each g).host (ap is_host_state was) i } }
 
-    -- the checks of the commands, by the granule's state
+    -- an UNDELEGATED granule passes a command's test for UNDELEGATED
     pub is_undelegated_there : (granule_at fields.granules g).state ≡ Undelegated → is_undelegated (seen_in monitor g) ≡ true
     is_undelegated_there was = ap undelegated_test (state_is ∙ was)
 
+    -- a granule that is not UNDELEGATED fails a command's test for UNDELEGATED
     pub is_not_undelegated : ((granule_at fields.granules g).state ≡ Undelegated → ⊥) → is_undelegated (seen_in monitor g) ≡ false
     is_not_undelegated was = seen_undelegated ∙ not_undelegated (granule_at fields.granules g).state was
 
+    -- a DELEGATED granule passes a command's test for DELEGATED
     pub is_delegated_there : (granule_at fields.granules g).state ≡ Delegated → is_delegated (seen_in monitor g) ≡ true
     is_delegated_there was = ap delegated_test (state_is ∙ was)
 
+    -- a granule that is not DELEGATED fails a command's test for DELEGATED
     pub is_not_delegated : ((granule_at fields.granules g).state ≡ Delegated → ⊥) → is_delegated (seen_in monitor g) ≡ false
     is_not_delegated was = seen_delegated ∙ not_delegated (granule_at fields.granules g).state was
 
@@ -113,7 +118,8 @@ module _ (monitor : MonitorView) (fields : Fields) (view_is : seen_as fields ≡
       pub whole_after : (new : Fields) → new ≡ moved fields g state page → IsWhole new
       whole_after new e = subst IsWhole (sym e) (whole_moved fields whole g in_granules not_free state page was is zero)
 
-      -- the RMM after a command whose check holds, and which puts that one granule
+      -- fields with only granule `g` moved are seen as the RMM after a command whose check holds and which puts the
+      -- granule's new cell
       pub moved_after : (new : Fields) → new ≡ moved fields g state page → (holds : Bool) (cell : Cell) → holds ≡ true → host_cell state page ≡ cell
           → seen_as new ≡ after_command (check holds error_input (Ok (Put g cell ∷ []))) monitor
       unfolding machine_after_all

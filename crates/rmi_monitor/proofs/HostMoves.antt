@@ -26,7 +26,7 @@ moved fields g state page = record fields {
   pages = set fields.pages g page;
 }
 
--- a granule of no realm
+-- the cell of a granule that belongs to no realm, with the given state and page
 abbrev pub host_cell : GranuleState → List ℕ → Cell
 host_cell state page = record { state = state; realm = None; bytes = page; descriptor = None }
 
@@ -42,7 +42,7 @@ not_rec Undelegated h = refl
 not_rec Delegated h = refl
 not_rec _ h = cc
 
--- the cell of an UNDELEGATED or DELEGATED granule
+-- the cell of an UNDELEGATED or DELEGATED granule has the granule's state and page, no realm and no descriptor
 pub cell_of-host : (fields : Fields) (g : ℕ) → IsSoundAt fields g → {state : GranuleState} → (granule_at fields.granules g).state ≡ state → is_host_state state ≡ true
     → {page : List ℕ} → page_at fields.pages g ≡ page → cell_of fields g ≡ host_cell state page
 cell_of-host fields g sound {state} at is {page} page_is =
@@ -136,7 +136,7 @@ module _ (old : Fields) (whole : IsWhole old) (g : ℕ) (inside : g < length old
   cell_is : cell_of new g ≡ host_cell state page
   cell_is = cell_of-host new g sound state_is is page_is
 
-  -- the machine has that one granule in its place
+  -- a move of one granule sets the granule's cell in the machine, and changes no other cell
   pub machine_of-moved : machine_of (moved old g state page) ≡ set (machine_of old) g (host_cell state page)
   machine_of-moved =
       one_put old new stays.granule_count g (host_cell state page) inside cell_is

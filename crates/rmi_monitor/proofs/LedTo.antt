@@ -34,7 +34,7 @@ page_said Assigned ripas None h is = absurd is
 page_said Assigned ripas (Some g) h is = (g, refl)
 page_said Table ripas granule h is = cc
 
--- the table of an entry that is there
+-- if a lookup through an optional table gives a row, there is a table, and the row is its entry at the index
 entry_in : (entries : Entries) (index : ℕ) (o : Option ℕ) (row : Row) → option_and_then (λ table. Some (entries table index)) o ≡ Some row
     → (table : ℕ) × (o ≡ Some table) × (row ≡ entries table index)
 entry_in entries index None row e = let differ : None ≡ Some row = e in cc
@@ -48,14 +48,14 @@ module _ (pages : List (List ℕ)) (granules : List Granule) (rd : ℕ) (root : 
       entry_in (entries_of pages) (entry_index level ipa) (table_at (entries_of pages) root level ipa) row
       (sym (row_at-rows_in (entries_of pages) root level ipa inside) ∙ at)
 
-  -- a TABLE row leads to one of its tables
+  -- a TABLE row of a level below 3 leads to one of the realm's tables
   pub table_led : level < 3 → is_table row ≡ true → (table : ℕ) × (row.granule ≡ Some table) × IsIn granules table InRtt (Some rd)
   table_led high is =
       let there = entry_there in
       let said = table_said row.state row.ripas row.granule is (rows_said pages root level ipa row at) in
       (said.0, said.1, child_in pages granules rd root level ipa there.0 said.0 row tables inside high there.1 there.2 (table_of-table row is ∙ said.1))
 
-  -- an ASSIGNED row leads to one of its pages of data
+  -- an ASSIGNED row leads to one of the realm's pages of data
   pub page_led : is_assigned row ≡ true → (page : ℕ) × (row.granule ≡ Some page) × IsIn granules page InData (Some rd)
   page_led is =
       let there = entry_there in

@@ -11,7 +11,7 @@ pub mod Checks
 -- the entries of granules among a realm's RECs, and the RECs
 pub mod RecEntries
 pub mod RealmRecs
--- machines over the fields, and fields that stay
+-- the machine that an RMM's fields represent, and the parts of the fields that stay unchanged
 pub mod Machines
 pub mod Frames
 pub mod Puts
@@ -67,7 +67,7 @@ pub mod Walked
 -- operations that are performed
 pub mod OnRecs
 pub mod Pages
--- beside a history
+-- an RMM that agrees with the world of a history
 pub mod Flags
 pub mod Ranges
 pub mod FreshMirror

@@ -20,7 +20,7 @@ use Rattle.rmi_monitor.proofs.Granules.{HasFields}
 use Rattle.rmi_monitor.proofs.Protected.{protected_inside}
 use Rattle.rmi_monitor.proofs.RealmFound.{row_of, realm_found, descriptor_there}
 
--- the result of the code for an IPA granule, by the realm's root that the code reads
+-- the result of the code's check that an IPA granule is protected in the realm whose root the code has read
 module _ (realm : RealmAttributes) (ipa : ℕ) (root : Root) (read : root ≡ realm.root) where
   pub unprotected : None ≡ cond (is_protected_at ipa root.width) (Some ipa) None → is_protected_at ipa realm.root.width ≡ false
   unprotected tested = ap (λ (r : Root). is_protected_at ipa r.width) (sym read) ∙ test_failed (is_protected_at ipa root.width) ipa None tested refl
@@ -31,13 +31,13 @@ module _ (realm : RealmAttributes) (ipa : ℕ) (root : Root) (read : root ≡ re
       let held = test_held (is_protected_at ipa root.width) ipa given (Some given) tested refl in
       record { tables = tables; same = held.1; protected = ap (λ (r : Root). is_protected_at ipa r.width) (sym read) ∙ held.0 }
 
--- the answer if there is none
+-- a lookup whose answer is `None` meets the conditions of both cases, if it meets that of `None`
 pub none_located : (Found : Tables × ℕ → Type 0) {None_there : Type 0} (answer : Option (Tables × ℕ)) → answer ≡ None → None_there
     → record { some : IfSome answer Found; none : IfNone answer None_there }
 none_located Found {None_there} answer is there =
     subst (λ (o : Option (Tables × ℕ)). record { some : IfSome o Found; none : IfNone o None_there }) (sym is) (record { some = tt; none = there })
 
--- the preconditions of a call on the tables
+-- the realm has the located tables, and these serve the located IPA granule
 module _ {realm : RealmAttributes} {rd ipa : ℕ} {at : Tables × ℕ} (there : IsLocated realm rd ipa at) where
   pub located_tables : {fields : Fields} → IsWhole fields → realm_at fields rd ≡ Some realm → HasTables fields.pages fields.granules at.0.rd at.0.root
   located_tables {fields} whole stands =
@@ -50,7 +50,7 @@ module _ {realm : RealmAttributes} {rd ipa : ℕ} {at : Tables × ℕ} (there : 
 
 -- ---- in the fields of an RMM
 
--- the realm that a command goes on with
+-- the fields have a realm with RD `rd`, and `at` has its tables and the protected IPA granule
 pub record Stands (fields : Fields) (rd ipa : ℕ) (at : Tables × ℕ) : Type 0 where
   pub realm : RealmAttributes
   pub there : realm_at fields rd ≡ Some realm
@@ -72,10 +72,11 @@ module _ {monitor : MonitorView} {fields : Fields} (kept : HasFields monitor fie
           };
         }
 
-    -- the preconditions of a call on the tables
+    -- the fields have the located tables
     pub its_tables : HasTables fields.pages fields.granules at.0.rd at.0.root
     its_tables = located_tables stands.located kept.whole stands.there
 
+    -- the located tables serve the located IPA granule
     pub its_space : at.1 < served_space at.0.root.width
     its_space = located_inside stands.located
 

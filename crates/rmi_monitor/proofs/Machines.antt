@@ -30,7 +30,8 @@ same_machine m n as_many same = ext_get_or blank m n as_many same
 -- ---- fields before and after a command
 
 module _ (old new : Fields) (as_many : length new.granules ≡ length old.granules) where
-  -- a machine of the same length that has each cell of the new fields is theirs
+  -- a machine with as many granules as the new fields, and the same cell for each, is the machine that the fields
+  -- represent
   is_machine : (machine : Machine) → length machine ≡ length old.granules → ((g : ℕ) → g < length old.granules → cell_of new g ≡ cell_at machine g)
       → machine_of new ≡ machine
   is_machine machine long same =
@@ -38,7 +39,7 @@ module _ (old new : Fields) (as_many : length new.granules ≡ length old.granul
       let inside : g < length new.granules = subst (λ n. g < n) (length-machine_of new) h in
       cell_at-machine_of new g inside ∙ same g (subst (λ n. g < n) as_many inside))
 
-  -- one granule is changed
+  -- if the new fields differ in one granule's cell alone, their machine is the old one with that cell set
   pub one_put : (a : ℕ) (cell : Cell) → a < length old.granules → cell_of new a ≡ cell
       → ((g : ℕ) → g < length old.granules → (g ≡ a → ⊥) → cell_of new g ≡ cell_of old g)
       → machine_of new ≡ set (machine_of old) a cell
@@ -55,7 +56,7 @@ module _ (old new : Fields) (as_many : length new.granules ≡ length old.granul
             other g h differs ∙ sym (cell_at-machine_of old g h) ∙ sym (get_or-set_other (machine_of old) a g cell blank differs)
       ] refl)
 
-  -- two granules are changed
+  -- if the new fields differ in the cells of two granules alone, their machine is the old one with both cells set
   pub two_put : (a b : ℕ) (x y : Cell) → a < length old.granules → b < length old.granules → (a ≡ b → ⊥) → cell_of new a ≡ x → cell_of new b ≡ y
       → ((g : ℕ) → g < length old.granules → (g ≡ a → ⊥) → (g ≡ b → ⊥) → cell_of new g ≡ cell_of old g)
       → machine_of new ≡ set (set (machine_of old) a x) b y
@@ -116,7 +117,7 @@ module _ (old new : Fields) (g : ℕ) where
       same (Some r) = refl
       same None = refl
 
--- the cell of a granule that is no realm's RD
+-- the cell of a granule that is no RD has the granule's state, realm and bytes, and no descriptor
 pub cell_plain : (fields : Fields) (g : ℕ) (granule : Granule) (page : List ℕ) → granule_at fields.granules g ≡ granule → page_at fields.pages g ≡ page → realm_at fields g ≡ None
     → cell_of fields g ≡ record { state = granule.state; realm = granule.realm; bytes = bytes_of granule.state page; descriptor = None }
 cell_plain fields g granule page at page_is none i = record {
@@ -126,7 +127,7 @@ cell_plain fields g granule page at page_is none i = record {
   descriptor = option_map (λ (r : RealmAttributes). realm_row r (recs_of fields.granules fields.recs g) (rows fields.pages r.root)) (none i);
 }
 
--- the page of a granule that is no table
+-- the bytes of a granule's page are those of its cell, unless the granule is a table
 pub IsPageOf-cell_of : (fields : Fields) (g : ℕ) (bytes : List ℕ) → bytes ≡ page_at fields.pages g → IsPageOf (cell_of fields g) bytes
 IsPageOf-cell_of fields g bytes e not_table = e ∙ same (granule_at fields.granules g).state not_table
   where

@@ -61,11 +61,11 @@ is_rec_there : (monitor : MonitorView) (rd number granule : ℕ) (o : Option Rea
 is_rec_there monitor rd number granule None there is = cc
 is_rec_there monitor rd number granule (Some realm) there is = is_rec_of monitor rd number granule realm (get realm.recs number) there refl is
 
--- the granule of a number is the REC of that number
+-- a granule that the lookup of a number gives is the realm's REC with that number
 pub is_rec : (monitor : MonitorView) (rd number granule : ℕ) → Some granule ≡ rec_granule (realm_on monitor (Some rd)) number → IsRec monitor.machine rd number granule
 is_rec monitor rd number granule is = is_rec_there monitor rd number granule (cell_at monitor.machine rd).descriptor refl is
 
--- the command on a REC that performs an operation
+-- the command that performs an operation on a REC
 abbrev pub command_of : Act → Seen → ℕ → Outcome
 command_of (UnRec granule auxiliaries n) rd number = rec_destroy rd number
 command_of (Enter n) rd number = rec_enter rd number
@@ -73,7 +73,7 @@ command_of (Exit n) rd number = rec_exit rd number
 command_of (Poke n ipa offset value) rd number = guest_write rd number ipa offset value
 command_of _ rd number = Err error_input
 
--- the outcome of the command on the REC is that of the operation
+-- if a call on a REC's granule meets `IsOnRec`, its answer and the new RMM are as the command on the REC says
 done_on : (old new : MonitorView) (result : Result (Unit {0}) Rmi) (rd number granule : ℕ) (command : Seen → ℕ → Outcome)
     → Some granule ≡ rec_granule (realm_on old (Some rd)) number → IsOnRec command old granule result new → IsDone old (command (seen_in old rd) number) result new
 done_on old new result rd number granule command is on =

@@ -18,7 +18,7 @@ answers_err A rmi outcome e = subst (λ (o : Outcome). Answers {A = A} (Err rmi)
 pub answers_ok : {A : Type 0} (value : A) (updates : List Update) (outcome : Outcome) → outcome ≡ Ok updates → Answers (Ok value) outcome
 answers_ok value updates outcome e = subst (λ (o : Outcome). Answers (Ok value) o) (sym e) tt
 
--- a refusal whose error is that of a call
+-- a call that is refused with an error gives the answer of a command whose outcome is that error
 pub answers_refused : {A : Type 0} (answer : Result A Rmi) (rmi : Rmi) (outcome : Outcome) → IsErrAnd answer (λ e. e ≡ rmi) → outcome ≡ Err rmi → Answers answer outcome
 answers_refused (Ok value) rmi outcome said e = absurd said
 answers_refused {A} (Err refusal) rmi outcome said e = answers_err A refusal outcome (e ∙ ap (λ (r : Rmi). Err r) (sym said))
@@ -35,7 +35,8 @@ module _ {monitor : MonitorView} {outcome : Outcome} where
   pub refusal : {rmi : Rmi} → outcome ≡ Err rmi → Says monitor outcome (Err rmi) monitor
   refusal {rmi} e = record { answer = answers_err (Unit {0}) rmi outcome e; machine = after_err monitor rmi outcome e }
 
-  -- a refusal whose error is that of a call changes nothing
+  -- a call that is refused with an error meets the postcondition of a command whose outcome is that error, if nothing
+  -- changes
   pub refusal_of : {rmi : Rmi} (answer : Result (Unit {0}) Rmi) → IsErrAnd answer (λ e. e ≡ rmi) → outcome ≡ Err rmi → Says monitor outcome answer monitor
   refusal_of {rmi} answer said e = record { answer = answers_refused answer rmi outcome said e; machine = after_err monitor rmi outcome e }
 
@@ -45,12 +46,12 @@ module _ {monitor : MonitorView} {outcome : Outcome} where
 
 -- ---- what is refused
 
--- a granule that is no RD
+-- a command that needs a realm is refused with an input error at a granule that is no RD
 pub realm_absent : (rd : Seen) (f : RealmRow → Outcome) → rd.cell.descriptor ≡ None → with_realm rd f ≡ Err error_input
 unfolding with_realm
 realm_absent rd f e = ap (λ o. elim o [ Some realm ↦ f realm | None ↦ Err error_input ]) e
 
--- no realm passes the test of what a command is given
+-- a command is refused with an input error if no realm at the granule passes the test of the command's inputs
 pub input_refused : (rd : Seen) (test : RealmRow → Bool) (f : RealmRow → Outcome) → ((row : RealmRow) → rd.cell.descriptor ≡ Some row → test row ≡ false)
     → with_realm rd (λ row. check (test row) error_input (f row)) ≡ Err error_input
 unfolding with_realm

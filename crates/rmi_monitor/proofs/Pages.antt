@@ -5,7 +5,7 @@ use Rattle.realm_model.specs.Command.Check.{check, error_input, is_undelegated}
 use Rattle.realm_model.specs.Command.Granule.{host_peek}
 use Rattle.rmi_monitor.specs.View.{MonitorView, seen_in, after_command}
 
--- a page that is read changes nothing
+-- the read of a byte changes nothing, whether or not it is refused
 pub after_peek : (monitor : MonitorView) (granule : ℕ) → monitor ≡ after_command (host_peek (seen_in monitor granule)) monitor
 unfolding check machine_after_all
 after_peek monitor granule = by_test (is_undelegated (seen_in monitor granule))

@@ -14,12 +14,12 @@ use Rattle.rmi_monitor.specs.Inside.{Fields, cell_of, machine_of}
 use Rattle.rmi_monitor.proofs.Machines.{length-machine_of, cell_at-machine_of, same_machine}
 use Rattle.rmi_monitor.proofs.Comparisons.{either}
 
--- a number that is none of a list's
+-- a number that differs from `x` and is not in a list is not in the list with `x` in front
 pub out_of : (h x : ℕ) (xs : List ℕ) → h ≢ x → is_in h xs ≡ false → is_in h (x ∷ xs) ≡ false
 out_of h x xs differs out = ap (λ t. t || is_in h xs) (ne_eqb h x differs) ∙ out
 
 module _ {X : Type 0} (y : X) where
-  -- the places that are not set
+  -- `set_each` leaves an element unchanged if its index is not among those that are set
   pub set_each_out : (places : List ℕ) (xs : List X) (k : ℕ) (d : X) → is_in k places ≡ false → get_or (set_each y places xs) k d ≡ get_or xs k d
   unfolding set_each
   set_each_out [] xs k d out = refl
@@ -27,7 +27,7 @@ module _ {X : Type 0} (y : X) where
       let parts = or_parts (k == p) (is_in k places) out in
       set_each_out places (set xs p y) k d parts.1 ∙ get_or-set_other xs p k y d (eqb-false k p parts.0)
 
-  -- the places that are set
+  -- after `set_each`, each index that is set, and is inside the list, has the new element
   pub set_each_in : (places : List ℕ) (xs : List X) (k : ℕ) (d : X) → k < length xs → is_in k places ≡ true → get_or (set_each y places xs) k d ≡ y
   unfolding set_each
   set_each_in [] xs k d within there = cc
@@ -41,7 +41,7 @@ module _ {X : Type 0} (y : X) where
             ∙ get_or-set_same xs p y d (subst (λ j. j < length xs) same within)
       ] refl
 
--- a list with one element at a place, and another at each of some others
+-- the list with `x` put at index `g`, and then `y` at each index in `others`
 abbrev pub put_all : {X : Type 0} → List X → ℕ → List ℕ → X → X → List X
 put_all xs g others x y = set_each y others (set xs g x)
 
@@ -60,20 +60,20 @@ module _ {X : Type 0} (xs : List X) (g : ℕ) (others : List ℕ) (x y d : X) wh
       let parts = or_parts (h == g) (is_in h others) out in
       set_each_out y others (set xs g x) h d parts.1 ∙ get_or-set_other xs g h x d (eqb-false h g parts.0)
 
--- the machine after puts of one cell, and other updates after these
+-- puts of one cell at several granules set it at each of them, before the updates that follow
 pub after_puts : (places : List ℕ) (y : Cell) (updates : List Update) (machine : Machine)
     → machine_after_all (map (λ a. Put a y) places ++ updates) machine ≡ machine_after_all updates (set_each y places machine)
 unfolding machine_after_all set_each
 after_puts [] y updates machine = refl
 after_puts (p ∷ places) y updates machine = after_puts places y updates (set machine p y)
 
--- the machine after puts of one cell alone
+-- puts of one cell at several granules set it at each of them
 pub after_each : (places : List ℕ) (y : Cell) (machine : Machine) → machine_after_all (map (λ a. Put a y) places) machine ≡ set_each y places machine
 unfolding machine_after_all set_each
 after_each [] y machine = refl
 after_each (p ∷ places) y machine = after_each places y (set machine p y)
 
--- one granule is put, and then others alike
+-- granule `g` gets the cell `x`, and then each granule in `others` gets the cell `y`
 module _ (old new : Fields) (as_many : length new.granules ≡ length old.granules) (g : ℕ) (others : List ℕ) (x y : Cell)
     (inside : g < length old.granules)
     (each : (h : ℕ) → h < length old.granules → is_in h others ≡ true → cell_of new h ≡ y)
@@ -110,7 +110,7 @@ module _ (old new : Fields) (as_many : length new.granules ≡ length old.granul
       cell_at-machine_of new h (subst (λ n. h < n) (length-machine_of new) lt) ∙ put_at h within)
       ∙ sym (after_each others y started)
 
--- one granule is put, then others alike, and then one more
+-- granule `g` gets the cell `x`, then each granule in `others` gets `y`, and at last granule `rd` gets `z`
 module _ (old new : Fields) (as_many : length new.granules ≡ length old.granules) (g rd : ℕ) (others : List ℕ) (x y z : Cell)
     (inside : g < length old.granules) (rd_inside : rd < length old.granules)
     (last : cell_of new rd ≡ z)

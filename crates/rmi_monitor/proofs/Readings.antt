@@ -14,7 +14,7 @@ use Rattle.rmi_monitor.proofs.Granules.{cell_is}
 use Rattle.rmi_monitor.proofs.RealmFound.{realm_found}
 
 module _ (monitor : MonitorView) (fields : Fields) (view_is : seen_as fields ≡ monitor) (whole : IsWhole fields) (rd : ℕ) (inside : rd < length monitor.machine) where
-  -- the attributes of the realm with that RD
+  -- the fields and the machine have the same attributes of the realm with RD `rd`, or both have no such realm
   pub attributes_there : realm_at fields rd ≡ option_map attributes_of (cell_at monitor.machine rd).descriptor
   attributes_there =
       same (realm_at fields rd)

@@ -47,7 +47,7 @@ module _ (limits : Limits) (history : List Event) (world : World) (monitor : Mon
       All-cons (IsTaken monitor) g gs (taken g (All-head (λ g. slice_get world.leases g ≡ Some (Some build)) g gs all))
       (all_taken gs (All-tail (λ g. slice_get world.leases g ≡ Some (Some build)) g gs all))
 
-  -- a REC of a realm is leased as its RD is
+  -- the lease of a REC's granule is the same as that of the realm's RD
   rec_lease : (rd number granule : ℕ) → IsRec monitor.machine rd number granule → slice_get world.leases granule ≡ slice_get world.leases rd
   rec_lease rd number granule is =
       let sound = reachable_worlds limits history world mirror.world_is in
@@ -77,7 +77,7 @@ module _ (limits : Limits) (history : List Event) (world : World) (monitor : Mon
   pub realm_taken : IsTakenAt monitor (rd_of build world)
   realm_taken = realm_taken_at (realm_of build world) (IsHeld-realm_of build world)
 
-  -- the number of a realm's next REC is at most that of its build's events
+  -- a realm has a number for one more REC, if its build has fewer than 65,535 events
   next_number_at : length (acts_of build history) < 65535 → (realm : Option Seen) → realm_of build world ≡ realm → IsAt world.machine realm
       → HasNextNumber monitor (option_map (λ (rd : Seen). rd.number) realm)
   next_number_at few None is at = tt

@@ -31,17 +31,17 @@ use Rattle.rmi_monitor.proofs.Listed.{put_back}
 abbrev pub with_call : Fields → List Granule → List (List ℕ) → List Bool → List (Option RealmAttributes) → Fields
 with_call fields granules pages free realms = record fields { granules = granules; pages = pages; free = free; realms = realms }
 
--- a call that is refused
+-- a call that changes nothing leaves the fields as they were
 pub nothing_moved : (fields : Fields) (granules : List Granule) (pages : List (List ℕ)) (free : List Bool) (realms : List (Option RealmAttributes))
     → granules ≡ fields.granules → pages ≡ fields.pages → free ≡ fields.free → realms ≡ fields.realms → with_call fields granules pages free realms ≡ fields
 nothing_moved fields granules pages free realms a b c d i = with_call fields (a i) (b i) (c i) (d i)
 
--- the RMM after a command that is done
+-- the condition after a command that succeeds: the invariant holds, and the RMM is as the command's outcome says
 pub record Done (monitor : MonitorView) (outcome : Outcome) (new : Fields) : Type 0 where
   pub whole : IsWhole new
   pub says : Says monitor outcome (Ok (tt {0})) (seen_as new)
 
--- the RMM after a command whose call is refused, which leaves pages and granules as they were
+-- a command whose call on the realm's tables is refused keeps the invariant, and leaves the RMM unchanged
 module _ {fields : Fields} {granules : List Granule} {pages : List (List ℕ)} {free : List Bool} where
   pub whole_refused : IsWhole fields → (pages ≡ fields.pages) × (granules ≡ fields.granules) → free ≡ fields.free → IsWhole (with_call fields granules pages free fields.realms)
   whole_refused whole same flags = subst IsWhole (sym (nothing_moved fields granules pages free fields.realms same.1 same.0 flags refl)) whole
@@ -54,7 +54,8 @@ module _ {fields : Fields} {granules : List Granule} {pages : List (List ℕ)} {
     machine = ap seen_as (nothing_moved fields granules pages free fields.realms same.1 same.0 flags refl) ∙ kept.view_is ∙ after_err monitor rmi outcome e;
   }
 
--- the RMM after a command that is refused after the realm's place is written unchanged
+-- a refused command that writes the realm's attributes back as they were keeps the invariant, and leaves the RMM
+-- unchanged
 module _ {monitor : MonitorView} {fields : Fields} (kept : HasFields monitor fields) (number : ℕ) {x y : Option RealmAttributes}
     (read : x ≡ get_or fields.realms number x) (is : x ≡ y) where
   back : record fields { realms = set fields.realms number y } ≡ fields
@@ -67,7 +68,7 @@ module _ {monitor : MonitorView} {fields : Fields} (kept : HasFields monitor fie
   refused_back {rmi} {outcome} e = record { answer = answers_err (Unit {0}) rmi outcome e; machine = ap seen_as back ∙ kept.view_is ∙ after_err monitor rmi outcome e }
 
 module _ (monitor : MonitorView) (fields : Fields) (view_is : seen_as fields ≡ monitor) (whole : IsWhole fields) (rd : ℕ) (taken : IsTaken monitor rd) where
-  -- a command that puts the realm's row
+  -- if the RD's cell has the new row, the fields are seen as the RMM after a command that puts this row
   pub after_put : (outcome : Outcome) (new : Fields) → new.vmids ≡ fields.vmids → new.aux ≡ fields.aux → new.free ≡ fields.free → (made row : RealmRow) → made ≡ row
       → outcome ≡ Ok (put_realm (seen_in monitor rd) row ∷ []) → machine_of new ≡ set (machine_of fields) rd (with_row_of (cell_of fields rd) made)
       → seen_as new ≡ after_command outcome monitor
@@ -77,7 +78,7 @@ module _ (monitor : MonitorView) (fields : Fields) (view_is : seen_as fields ≡
       (machine ∙ (λ i. set (machine_is monitor fields view_is whole i) rd (with_row_of (sym (cell_is monitor fields view_is whole rd taken.inside) i) (made_is i))))
 
   module _ (realm : RealmAttributes) (there : realm_at fields rd ≡ Some realm) where
-    -- a call that moves a granule
+    -- a call that moves granule `m`, and may change the realm's attributes and tables
     module _ (now : RealmAttributes) (keeps : Keeps realm now)
         (granules : List Granule) (pages : List (List ℕ)) (free : List Bool) (realms : List (Option RealmAttributes)) (put : realms ≡ set fields.realms rd (Some now))
         (flags : free ≡ fields.free) (backed : IsBacked pages free granules) (tables : HasTables pages granules rd realm.root)
@@ -95,7 +96,7 @@ module _ (monitor : MonitorView) (fields : Fields) (view_is : seen_as fields ≡
           subst (λ (rs : List (Option RealmAttributes)). IsWhole (with_now rs)) (sym put)
           (whole_moved_to fields whole rd realm now there keeps granules pages free flags backed tables alone m inside state owner moved was is host zero page_stays)
 
-      -- the RMM after a command that puts that granule and the realm's row
+      -- after the move, the fields are seen as the RMM after a command that puts the granule's cell and the realm's row
       pub seen_after_move : (outcome : Outcome) (cell : Cell) (row : RealmRow)
           → record { state = state; realm = owner; bytes = bytes_of state (page_at pages m); descriptor = None } ≡ cell
           → realm_row now (recs_of fields.granules fields.recs rd) (rows pages realm.root) ≡ row
@@ -110,7 +111,8 @@ module _ (monitor : MonitorView) (fields : Fields) (view_is : seen_as fields ≡
 
 -- ---- a call that moves a granule to or from a realm
 
--- After the call the granule is in that state, and no page but its own and those of the realm's tables is changed.
+-- The call moves granule `g`, whose new state and realm are those of `to`. The call changes no pages but the granule's
+-- own page and those of the realm's tables.
 pub record Moves (fields : Fields) (rd : ℕ) (root : Root) (g : ℕ) (to : Granule) (granules : List Granule) (pages : List (List ℕ)) (free : List Bool) : Type 0 where
   pub inside : g < length fields.granules
   pub was : is_moved_state (granule_at fields.granules g).state ≡ true
@@ -121,7 +123,8 @@ pub record Moves (fields : Fields) (rd : ℕ) (root : Root) (g : ℕ) (to : Gran
   pub others : (h : ℕ) → (h ≡ g → ⊥) → (IsTableOf fields.pages root h → ⊥) → page_at pages h ≡ page_at fields.pages h
   pub keeps : KeepsTables rd root fields.pages fields.free fields.granules pages free granules
 
--- the same if the granule leaves the realm
+-- a call that leaves a realm's granule DELEGATED and zero meets `Moves`, if it changes no other page but those of the
+-- realm's tables
 pub left_by : {fields : Fields} {rd : ℕ} {root : Root} {g : ℕ} {state : GranuleState} {granules : List Granule} {pages : List (List ℕ)} {free : List Bool}
     → IsIn fields.granules g state (Some rd) → is_moved_state state ≡ true → granules ≡ set fields.granules g (record { state = Delegated; realm = None })
     → page_at pages g ≡ zero_page → ((h : ℕ) → (h ≡ g → ⊥) → (IsTableOf fields.pages root h → ⊥) → page_at pages h ≡ page_at fields.pages h)
@@ -140,7 +143,7 @@ left_by at was moved cleared others keeps = record {
 module _ {monitor : MonitorView} {fields : Fields} (kept : HasFields monitor fields) {rd : ℕ} (taken : IsTaken monitor rd)
     {realm : RealmAttributes} (there : realm_at fields rd ≡ Some realm)
     {g : ℕ} {to : Granule} {granules : List Granule} {pages : List (List ℕ)} {free : List Bool} (moves : Moves fields rd realm.root g to granules pages free) where
-  -- a command that puts that granule and the realm's row
+  -- after the move, a command that puts the granule's cell and the realm's row is `Done`
   pub moves_done : {now : RealmAttributes} → Keeps realm now → {realms : List (Option RealmAttributes)} → realms ≡ set fields.realms rd (Some now)
       → (outcome : Outcome) {cell : Cell} {row : RealmRow}
       → record { state = to.state; realm = to.realm; bytes = bytes_of to.state (page_at pages g); descriptor = None } ≡ cell
@@ -161,7 +164,7 @@ module _ {monitor : MonitorView} {fields : Fields} (kept : HasFields monitor fie
     };
   }
 
-  -- a command that puts that granule, and leaves the realm's attributes
+  -- after the move, a command that puts the granule's cell, and changes only the rows of the realm, is `Done`
   pub rows_done : (outcome : Outcome) {cell : Cell} {translation : Rows}
       → record { state = to.state; realm = to.realm; bytes = bytes_of to.state (page_at pages g); descriptor = None } ≡ cell → rows pages realm.root ≡ translation
       → outcome ≡ Ok (Put g cell ∷ put_realm (seen_in monitor rd) (record (row_of fields rd realm) { rows = translation }) ∷ [])

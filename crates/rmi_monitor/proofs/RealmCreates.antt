@@ -36,7 +36,7 @@ use Rattle.rmi_monitor.proofs.RealmPlaces.{no_realm_there}
 use Rattle.rmi_monitor.proofs.RealmRecs.{recs_of-none}
 use Rattle.rmi_monitor.proofs.UsedVmids.{used-create}
 
--- the state that the granules are in before
+-- the state is DELEGATED
 abbrev is_delegated_state : GranuleState → Bool
 is_delegated_state Delegated = true
 is_delegated_state _ = false
@@ -58,10 +58,11 @@ module _ (old : Fields) (whole : IsWhole old) (rd : ℕ) (root : Root) (rd_insid
   abbrev table_granule : Granule
   table_granule = record { state = InRtt; realm = Some rd }
 
-  -- the granules after the RD is moved, and after the starting tables are
+  -- the granules after the RD is in state RD
   abbrev with_rd : List Granule
   with_rd = set old.granules rd rd_granule
 
+  -- the granules after the RD is in state RD, and the starting tables are in state RTT
   abbrev with_tables : List Granule
   with_tables = put_all old.granules rd tables rd_granule table_granule
 
@@ -86,7 +87,7 @@ module _ (old : Fields) (whole : IsWhole old) (rd : ℕ) (root : Root) (rd_insid
   with_rd_other : (g : ℕ) → g ≢ rd → granule_at with_rd g ≡ granule_at old.granules g
   with_rd_other g differs = get_or-set_other old.granules rd g rd_granule undelegated differs
 
-  -- the precondition of creating the starting tables
+  -- after the RD is in state RD, the starting tables are still DELEGATED, and belong to no realm
   pub tables_delegated : All (λ table. IsIn with_rd table Delegated None) tables
   tables_delegated = each_in (λ table. IsIn with_rd table Delegated None) tables (λ table e.
       let start = starts table e in
@@ -128,7 +129,7 @@ module _ (old : Fields) (whole : IsWhole old) (rd : ℕ) (root : Root) (rd_insid
       rec = λ g e. refl;
     }
 
-    -- a granule of another state is none of them
+    -- a granule that was not DELEGATED is neither the new RD nor a starting table
     not_delegated : (wanted : GranuleState) → is_delegated_state wanted ≡ false → (g : ℕ) → (granule_at old.granules g).state ≡ wanted → is_in g (rd ∷ tables) ≡ false
     not_delegated wanted other g at =
         out_of g rd tables (λ e. away (ap (λ k. (granule_at old.granules k).state) e ∙ rd_was)) (false_from (is_in g tables) (λ e. away (starts g e).was))
@@ -136,7 +137,7 @@ module _ (old : Fields) (whole : IsWhole old) (rd : ℕ) (root : Root) (rd_insid
         away : (granule_at old.granules g).state ≡ Delegated → ⊥
         away was = let differ : true ≡ false = ap is_delegated_state (sym was ∙ at) ∙ other in cc
 
-    -- another realm is left alone
+    -- each realm other than the new one is left alone
     alone_from : (g : ℕ) → g ≢ rd → LeavesAlone g old.pages old.granules pages with_tables
     alone_from g differs = record {
       page = λ h is. (alone g differs).page h (early h InRtt refl is);
@@ -181,7 +182,7 @@ module _ (old : Fields) (whole : IsWhole old) (rd : ℕ) (root : Root) (rd_insid
       auxiliary = λ g at. granule_other g (not_delegated InRecAux refl g at);
     }
 
-    -- a realm that existed before is another one
+    -- a realm that existed before has another RD than the new realm
     not_new : (g : ℕ) (r : RealmAttributes) → realm_at old g ≡ Some r → g ≢ rd
     not_new g r at e = let differ : None ≡ Some r = sym no_realm_rd ∙ ap (realm_at old) (sym e) ∙ at in cc
 

@@ -66,10 +66,11 @@ module _ (old : Fields) (whole : IsWhole old) (rd : ℕ) (realm : RealmAttribute
   abbrev left_granule : Granule
   left_granule = record { state = Delegated; realm = None }
 
-  -- the starting tables are DELEGATED first, and then the RD
+  -- the granules after the starting tables are DELEGATED
   abbrev without_tables : List Granule
   without_tables = with_states old.granules tables Delegated None
 
+  -- the granules after the starting tables and the RD are DELEGATED
   abbrev without_all : List Granule
   without_all = with_state without_tables rd Delegated None
 
@@ -96,10 +97,11 @@ module _ (old : Fields) (whole : IsWhole old) (rd : ℕ) (realm : RealmAttribute
       get_or-set_other without_tables rd g left_granule undelegated (eqb-false g rd parts.0)
       ∙ set_each_out left_granule tables old.granules g undelegated parts.1
 
-  -- the pages after all are cleared
+  -- the pages after the starting tables are cleared
   abbrev pages_without_tables : List (List ℕ)
   pages_without_tables = set_each zero_page tables old.pages
 
+  -- the pages after the starting tables and the RD are cleared
   abbrev pages_without : List (List ℕ)
   pages_without = set pages_without_tables rd zero_page
 
@@ -143,13 +145,13 @@ module _ (old : Fields) (whole : IsWhole old) (rd : ℕ) (realm : RealmAttribute
       rec = λ g e. refl;
     }
 
-    -- a granule of another state is none of them
+    -- a granule that was neither in state RD nor in state RTT is neither the RD nor a starting table
     not_realm : (wanted : GranuleState) → is_realm_state wanted ≡ false → (g : ℕ) → (granule_at old.granules g).state ≡ wanted → is_in g (rd ∷ tables) ≡ false
     not_realm wanted other g at = out_of g rd tables
         (λ e. let differ : true ≡ false = ap is_realm_state (sym rd_was ∙ ap (λ k. (granule_at old.granules k).state) (sym e) ∙ at) ∙ other in cc)
         (false_from (is_in g tables) (λ e. let differ : true ≡ false = ap is_realm_state (sym (table_was g e) ∙ at) ∙ other in cc))
 
-    -- another realm's table is none of them
+    -- another realm's table is neither the RD nor a starting table of this realm
     not_own : (g h : ℕ) → g ≢ rd → IsIn old.granules h InRtt (Some g) → is_in h (rd ∷ tables) ≡ false
     not_own g h differs is = out_of h rd tables
         (λ e. let differ : InRd ≡ InRtt = sym rd_was ∙ ap (λ k. (granule_at old.granules k).state) (sym e) ∙ ap (λ (x : Granule). x.state) is.is in cc)

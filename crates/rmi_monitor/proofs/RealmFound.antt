@@ -18,30 +18,30 @@ use Rattle.rmi_monitor.proofs.Outcomes.{realm_absent}
 use Rattle.rmi_monitor.proofs.RealmPlaces.{realm_inside}
 use Rattle.rmi_monitor.proofs.Comparisons.{some_map}
 
--- the row of a realm
+-- the row of a realm of the fields
 abbrev pub row_of : Fields → ℕ → RealmAttributes → RealmRow
 row_of fields rd realm = realm_row realm (recs_of fields.granules fields.recs rd) (rows fields.pages realm.root)
 
 module _ (monitor : MonitorView) (fields : Fields) (view_is : seen_as fields ≡ monitor) (whole : IsWhole fields) (rd : ℕ) where
-  -- a realm of the fields is in the machine
+  -- a realm of the fields is in the machine, with its row
   pub descriptor_there : (realm : RealmAttributes) → realm_at fields rd ≡ Some realm → (cell_at monitor.machine rd).descriptor ≡ Some (row_of fields rd realm)
   descriptor_there realm there =
       ap (λ (c : Cell). c.descriptor) (cell_is monitor fields view_is whole rd (in_machine monitor fields view_is whole rd (realm_inside fields whole rd realm there)))
       ∙ ap (option_map (row_of fields rd)) there
 
-  -- a realm of the machine is in the fields
+  -- a realm of the machine is in the fields, with the same row
   pub realm_found : (row : RealmRow) → (cell_at monitor.machine rd).descriptor ≡ Some row → (realm : RealmAttributes) × (realm_at fields rd ≡ Some realm) × (row_of fields rd realm ≡ row)
   realm_found row e = ⊎_elim
       (λ h. some_map (row_of fields rd) (realm_at fields rd) row (sym (ap (λ (c : Cell). c.descriptor) (cell_is monitor fields view_is whole rd h)) ∙ e))
       (λ h. absurd (none-some row (sym (ap (λ (c : Cell). c.descriptor) (get_or_past monitor.machine rd blank h)) ∙ e)))
       (cases_lt rd (length monitor.machine))
 
-  -- a command goes on with the realm's row
+  -- if the fields have the realm, a command that needs a realm has the outcome that it gives for this realm's row
   pub somewhere : (realm : RealmAttributes) → realm_at fields rd ≡ Some realm → (f : RealmRow → Outcome) → with_realm (seen_in monitor rd) f ≡ f (row_of fields rd realm)
   somewhere realm there f = realm_there (seen_in monitor rd) f (row_of fields rd realm) (descriptor_there realm there)
 
   module _ (inside : rd < length monitor.machine) where
-    -- a granule that is no RD
+    -- if the fields have no realm at the granule, a command that needs a realm is refused with an input error
     pub nowhere : realm_at fields rd ≡ None → (f : RealmRow → Outcome) → with_realm (seen_in monitor rd) f ≡ Err error_input
     nowhere none f =
         realm_absent (seen_in monitor rd) f (ap (λ (c : Cell). c.descriptor) (cell_is monitor fields view_is whole rd inside) ∙ ap (option_map (row_of fields rd)) none)
@@ -58,7 +58,7 @@ module _ {monitor : MonitorView} {fields : Fields} (kept : HasFields monitor fie
   pub realm_read : {x y : Option RealmAttributes} → x ≡ get_or fields.realms n x → x ≡ y → realm_at fields rd ≡ y
   realm_read {x} {y} read is = read_at fields.realms n rd None x y same rd_place read is
 
-  -- the realm there after its measurement is extended
+  -- the attributes that the code writes back are the realm's, with the measurement extended
   pub measured_there : {x now : Option RealmAttributes} → x ≡ get_or fields.realms n x → (event : List ℕ) → now ≡ option_map (measured_by event) x
       → {realm : RealmAttributes} → realm_at fields rd ≡ Some realm → set fields.realms n now ≡ set fields.realms rd (Some (measured_by event realm))
   measured_there {x} read event made there =

@@ -11,7 +11,8 @@ use Rattle.rmi_monitor.proofs.Gathered.{gathered-none, get-gathered, gathered-ge
 use Rattle.rmi_monitor.proofs.RecEntries.{rec_of-none, rec_of-other, rec_of-some, of_other}
 
 module _ (granules : List Granule) (recs : List (Option RecAttributes)) (rd number granule : ℕ) where
-  -- the REC of that number, if no other granule has it
+  -- a granule with a REC of the realm meets `IsRecAt` for that REC's number, if no two RECs of the realm have the same
+  -- number
   pub IsRecAt-there : (rec : RecAttributes) → IsNumbered granules recs rd → granule < length granules → is_of_realm granules rd granule ≡ true
       → get_or recs granule None ≡ Some rec → rec.number ≡ number → IsRecAt granules recs rd number granule
   unfolding recs_of
@@ -25,7 +26,7 @@ module _ (granules : List Granule) (recs : List (Option RecAttributes)) (rd numb
         found = get-gathered (rec_of granules recs rd) (length granules) granule number (rec_row granule rec) numbered inside at;
       }
 
--- a number that no granule has is not found
+-- the map of a realm's RECs has no entry for a number that no REC of the realm has
 pub recs_of-without : (granules : List Granule) (recs : List (Option RecAttributes)) (rd number : ℕ)
     → ((granule : ℕ) → granule < length granules → (row : RecRow) → rec_of granules recs rd granule ≡ Some (number, row) → ⊥)
     → get (recs_of granules recs rd) number ≡ None
@@ -33,7 +34,7 @@ unfolding recs_of
 recs_of-without granules recs rd number out = gathered-get-none (rec_of granules recs rd) (length granules) number (λ granule row lt at. out granule lt row at)
 
 module _ (fields : Fields) (whole : IsWhole fields) (rd : ℕ) where
-  -- if there is no such realm, it has no REC
+  -- if no realm has RD `rd`, the map of its RECs is empty
   pub recs_of-none : realm_at fields rd ≡ None → recs_of fields.granules fields.recs rd ≡ empty
   unfolding recs_of
   recs_of-none none = gathered-none (rec_of fields.granules fields.recs rd) (length fields.granules) (λ g inside. at g)

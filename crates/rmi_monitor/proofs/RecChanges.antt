@@ -40,7 +40,7 @@ module _ (old : Fields) (whole : IsWhole old) (granule : ℕ) (rec : RecAttribut
   elsewhere : (g : ℕ) → g ≢ granule → rec_at new g ≡ rec_at old g
   elsewhere g differs = get_or-set_other old.recs granule g (Some now) None differs
 
-  -- a REC that exists existed before, with that number and those auxiliaries
+  -- the REC existed before, with the same number and the same auxiliaries
   record Was (g : ℕ) (other : RecAttributes) : Type 0 where
     before : RecAttributes
     at : rec_at old g ≡ Some before
@@ -114,7 +114,7 @@ module _ (old : Fields) (whole : IsWhole old) (granule : ℕ) (rec : RecAttribut
           let e : is_of_realm old.granules other g ≡ false = ap (is_of_realm old.granules other) s ∙ not_of in
           rec_of-other new.granules new.recs other g e ∙ sym (rec_of-other old.granules old.recs other g e)
 
-  -- the RECs of the REC's own realm have the other row
+  -- the RECs of the REC's own realm change only in the REC's row
   own_recs : recs_of new.granules new.recs rd ≡ insert (recs_of old.granules old.recs rd) rec.number (rec_row granule now)
   unfolding recs_of
   own_recs =
@@ -173,7 +173,7 @@ module _ (old : Fields) (whole : IsWhole old) (granule : ℕ) (rec : RecAttribut
     abbrev row : RealmRow
     row = row_of old rd realm
 
-    -- the RMM is as after the command that puts the row
+    -- the fields with the REC changed are seen as the RMM after a command that puts the REC's new row
     pub rec_put : (monitor : MonitorView) → seen_as old ≡ monitor → seen_as (with_recs old recs)
         ≡ after_command (Ok (put_rec (seen_in monitor rd) (row_of old rd realm) rec.number (rec_row granule now) ∷ [])) monitor
     unfolding machine_after_all
@@ -185,7 +185,7 @@ module _ (old : Fields) (whole : IsWhole old) (granule : ℕ) (rec : RecAttribut
         (sym (cell_is monitor old view_is whole rd (in_machine monitor old view_is whole rd (realm_inside old whole rd realm kept.there))))
         ∙ ap (λ m. set m rd (record (seen_in monitor rd).cell { descriptor = Some (record row { recs = insert row.recs rec.number (rec_row granule now) }) })) (machine_is monitor old view_is whole))
 
--- the REC's place is written unchanged
+-- the invariant holds after a REC's attributes are written back as they were read
 pub whole_rec_unmoved : (fields : Fields) → IsWhole fields → (number : ℕ) (x y : Option RecAttributes) → x ≡ get_or fields.recs number x → x ≡ y
     → IsWhole (with_recs fields (set fields.recs number y))
 whole_rec_unmoved fields whole number x y read is =

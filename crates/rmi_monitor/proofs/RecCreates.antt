@@ -86,7 +86,7 @@ module _ {monitor : MonitorView} {fields : Fields} (has : HasFields monitor fiel
   pub inside_by : {list : List ℕ} → list ≡ others → All (λ h. h < length fields.granules) list
   inside_by {list} same = subst (λ l. All (λ h. h < length fields.granules) l) (sym same) others_inside
 
-  -- the answer of a call that checks the granules
+  -- the answer of the call that checks the granules is `fit`
   pub fit_by : {list : List ℕ} {answer wanted : Bool} → list ≡ others → answer ≡ are_fit_for_rec fields.granules g list fields.aux → answer ≡ wanted → fit ≡ wanted
   fit_by same e is = ap (λ l. are_fit_for_rec fields.granules g l fields.aux) (sym same) ∙ sym e ∙ is
 
@@ -121,7 +121,7 @@ module _ {monitor : MonitorView} {fields : Fields} (has : HasFields monitor fiel
     pub next_is : (other : RealmRow) → (cell_at monitor.machine rd).descriptor ≡ Some other → realm.next ≡ other.next
     next_is other e = ap (λ (r : RealmRow). r.next) (same_Some row other (sym row_is ∙ e))
 
-    -- the updates, by how their parts are written
+    -- the updates of the command, from the puts of the auxiliaries, their numbers, and the cell of the RD
     abbrev updates_by : List Update → List ℕ → Cell → List Update
     updates_by puts auxiliaries cell =
         Put g (held InRec rd) ∷ puts ++ Put rd (record cell {
@@ -166,7 +166,7 @@ module _ {monitor : MonitorView} {fields : Fields} (has : HasFields monitor fiel
       pub g_delegated : (granule_at fields.granules g).state ≡ Delegated
       g_delegated = all_delegated g (is_in_head g others)
 
-      -- after the REC's granule is moved, the auxiliaries are DELEGATED still
+      -- after the REC's granule has changed, the auxiliaries are still DELEGATED
       pub others_stand : (granule : Granule) {then : List Granule} {list : List ℕ} → list ≡ others → then ≡ set fields.granules g granule → All (IsInState then Delegated) list
       others_stand granule {then} {list} same made =
           subst (λ l. All (IsInState then Delegated) l) (sym same) (subst (λ gs. All (IsInState gs Delegated) others) (sym made) (λ k d lt.
@@ -178,7 +178,7 @@ module _ {monitor : MonitorView} {fields : Fields} (has : HasFields monitor fiel
                 ∙ all_delegated x (is_in_more x g others there);
           }))
 
-      -- the REC's granule is moved
+      -- the call changes the REC's granule, since this granule was DELEGATED
       pub shifted_by : (answer : Bool) (granule : Granule) {then : List Granule} → ((granule_at fields.granules g).state ≡ Delegated → IsTrue answer)
           → OnTrue answer (then ≡ set fields.granules g granule) → then ≡ set fields.granules g granule
       shifted_by answer granule says made = OnTrue_at (says g_delegated) made
@@ -205,7 +205,7 @@ module _ {monitor : MonitorView} {fields : Fields} (has : HasFields monitor fiel
 
 -- ---- the fields as calls leave them
 
--- the realm's attributes
+-- the realm's attributes after the code's changes are those of `with_rec_more`
 pub more_by : {realm then now : RealmAttributes} {number : ℕ} {event : List ℕ} → number ≡ realm.next → then ≡ record realm { next = realm.next + 1 } → event ≡ rec_event number
     → now ≡ record then { measurement = measurement_after then.measurement event } → now ≡ with_rec_more realm
 more_by numbered raised events measured = measured ∙ (λ i. record (raised i) { measurement = measurement_after (raised i).measurement ((events ∙ ap rec_event numbered) i) })
@@ -213,7 +213,8 @@ more_by numbered raised events measured = measured ∙ (λ i. record (raised i) 
 abbrev fields_with : Fields → List Granule → List (Option RealmAttributes) → List ℕ → List (Option RecAttributes) → Fields
 fields_with fields granules realms rec_counts recs = record fields { granules = granules; realms = realms; rec_counts = rec_counts; recs = recs }
 
--- the RMM after a command that is done, and the number that it returns
+-- the condition after the command succeeds: the invariant holds, the RMM is as the outcome says, and the returned
+-- number was that of the realm's next REC
 pub record Created (monitor : MonitorView) (rd g : ℕ) (others : List ℕ) (number : ℕ) (new : Fields) : Type 0 where
   pub whole : IsWhole new
   pub says : record {

@@ -90,7 +90,7 @@ module _ (fields : Fields) (whole : IsWhole fields) (g : ℕ) (rec : RecAttribut
 
 module _ (monitor : MonitorView) (fields : Fields) (view_is : seen_as fields ≡ monitor) (whole : IsWhole fields) (g : ℕ)
     (rec : RecAttributes) (rd : ℕ) (realm : RealmAttributes) (kept : IsKept fields g rec rd realm) where
-  -- the updates, by the cell of the RD
+  -- the updates of the command, given the cell of the RD
   abbrev updates_by : Cell → List Update
   updates_by cell =
       Put g left ∷ map (λ a. Put a left) rec.auxiliaries

@@ -26,13 +26,13 @@ module _ (granules : List Granule) (rd granule : ℕ) where
       same (Some n) e = ap Some (eqb-true n rd e)
       same None e = cc
 
--- the test of a granule's realm
+-- the code's test of a granule's realm agrees with `is_of_realm`
 pub is_of_realm-test : (granules : List Granule) (rd number granule : ℕ) (realm : Option ℕ) (test answer : Bool) → granule ≡ number → realm ≡ (granule_at granules granule).realm
     → test ≡ option_eq nat_eq realm (Some rd) → test ≡ answer → is_of_realm granules rd number ≡ answer
 is_of_realm-test granules rd number granule realm test answer same realm_is test_is is =
     ap (is_of_realm granules rd) (sym same) ∙ ap (λ r. option_eq nat_eq r (Some rd)) (sym realm_is) ∙ sym test_is ∙ is
 
--- the REC of an entry
+-- the granule holds a REC of the realm, with this number and this row
 pub record IsEntry (granules : List Granule) (recs : List (Option RecAttributes)) (rd granule number : ℕ) (row : RecRow) : Type 0 where
   pub of : (granule_at granules granule).realm ≡ Some rd
   pub rec : RecAttributes
@@ -52,7 +52,7 @@ module _ (granules : List Granule) (rd granule : ℕ) where
       record { of = realm_of granules rd granule parts.0; rec = found.0; at = found.1; numbered = ap (λ x. x.0) found.2; is = ap (λ x. x.1) found.2 }
 
 module _ (granules : List Granule) (recs : List (Option RecAttributes)) (rd granule : ℕ) where
-  -- a granule without a REC
+  -- a granule that holds no REC has no entry among the realm's RECs
   pub rec_of-none : get_or recs granule None ≡ None → rec_of granules recs rd granule ≡ None
   rec_of-none none = rw none (neither (is_of_realm granules rd granule))
     where
@@ -60,16 +60,16 @@ module _ (granules : List Granule) (recs : List (Option RecAttributes)) (rd gran
       neither true = refl
       neither false = refl
 
-  -- a granule that is not the realm's
+  -- a granule that does not belong to the realm has no entry among its RECs
   pub rec_of-other : is_of_realm granules rd granule ≡ false → rec_of granules recs rd granule ≡ None
   rec_of-other other = rw other
 
-  -- a REC of the realm
+  -- a granule that holds a REC of the realm has the REC's number and row as its entry
   pub rec_of-some : (rec : RecAttributes) → is_of_realm granules rd granule ≡ true → get_or recs granule None ≡ Some rec
       → rec_of granules recs rd granule ≡ Some (rec.number, rec_row granule rec)
   rec_of-some rec of there = rw (of, there)
 
-  -- the number of a REC of the realm
+  -- the number in a granule's entry is that of the REC that the granule holds
   pub rec_of-number : (rec : RecAttributes) (number : ℕ) (row : RecRow) → get_or recs granule None ≡ Some rec
       → rec_of granules recs rd granule ≡ Some (number, row) → rec.number ≡ number
   rec_of-number rec number row there is =

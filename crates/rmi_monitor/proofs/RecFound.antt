@@ -32,7 +32,7 @@ module _ (fields : Fields) (whole : IsWhole fields) where
   pub kept_at : (granule : ℕ) (rec : RecAttributes) (at : rec_at fields granule ≡ Some rec) → IsKept fields granule rec (whole.recs.of granule rec at).rd (whole.recs.of granule rec at).realm
   kept_at granule rec at = let is = whole.recs.of granule rec at in record { at = at; of = is.of; there = is.there }
 
-  -- a REC's realm has the REC, by its number
+  -- the map of a realm's RECs has the row of each REC of the realm, at the REC's number
   pub row_found : (granule : ℕ) (rec : RecAttributes) (rd : ℕ) (realm : RealmAttributes) → IsKept fields granule rec rd realm
       → get (recs_of fields.granules fields.recs rd) rec.number ≡ Some (rec_row granule rec)
   unfolding recs_of
@@ -43,7 +43,7 @@ module _ (fields : Fields) (whole : IsWhole fields) where
 -- ---- the fields and the machine
 
 module _ (monitor : MonitorView) (fields : Fields) (view_is : seen_as fields ≡ monitor) (whole : IsWhole fields) where
-  -- Each REC of the machine is in the fields, with that number.
+  -- Each REC of the machine is in the fields, with the same number.
   pub rec_found : (rd number granule : ℕ) → IsRec monitor.machine rd number granule → (rec : RecAttributes) × (realm : RealmAttributes) × IsKept fields granule rec rd realm × (rec.number ≡ number)
   unfolding recs_of
   rec_found rd number granule is =
@@ -61,7 +61,7 @@ module _ (monitor : MonitorView) (fields : Fields) (view_is : seen_as fields ≡
         place.numbered,
       )
 
-  -- a command on a REC goes on with the REC's row
+  -- a command on a REC has the outcome that it gives for the rows of the realm and the REC
   pub outcome_there : (granule : ℕ) (rec : RecAttributes) (rd : ℕ) (realm : RealmAttributes) → IsKept fields granule rec rd realm → (f : RealmRow → RecRow → Outcome)
       → with_realm (seen_in monitor rd) (λ row. with_rec row rec.number (f row)) ≡ f (row_of fields rd realm) (rec_row granule rec)
   outcome_there granule rec rd realm kept f =
@@ -71,7 +71,7 @@ module _ (monitor : MonitorView) (fields : Fields) (view_is : seen_as fields ≡
   -- ---- the outcome of a command on a REC
 
   module _ (command : Seen → ℕ → Outcome) (granule : ℕ) where
-    -- the outcome on a granule that is no REC
+    -- on a granule that holds no REC, a refusal with an input error meets `IsOnRec`, if nothing changes
     pub on_none : {A : Type 0} (new : MonitorView) → rec_at fields granule ≡ None → new ≡ monitor → IsOnRec {A = A} command monitor granule (Err error_input) new
     on_none new gone same = record {
       answer = λ rd number is. absurd (not_there rd number is);

@@ -21,7 +21,7 @@ use Rattle.rmi_monitor.proofs.RealmAfter.{keeps_all}
 use Rattle.rmi_monitor.proofs.Frames.{in_rec}
 use Rattle.rmi_monitor.proofs.Comparisons.{either}
 
--- a granule of no realm, as it is after
+-- a granule of a REC after the REC's removal: it is DELEGATED, and belongs to no realm
 abbrev pub left_granule : Granule
 left_granule = record { state = Delegated; realm = None }
 
@@ -54,7 +54,7 @@ module _ (old : Fields) (whole : IsWhole old) (rd g : ℕ) (rec : RecAttributes)
   pub not_own : (h : ℕ) → is_in h others ≡ true → h ≢ g
   not_own h e same = true_false _ (subst (λ k. is_in k others ≡ true) same e) own
 
-  -- a property of the REC's granule and of each auxiliary is one of all these granules
+  -- if a property holds for the REC's granule and for each auxiliary, it holds for all granules of `g ∷ others`
   both : (P : ℕ → Type 0) → P g → ((h : ℕ) → is_in h others ≡ true → P h) → (h : ℕ) → is_in h (g ∷ others) ≡ true → P h
   both P own_case aux_case h e = either (h == g) (is_in h others) e (λ same. subst P (sym (eqb-true h g same)) own_case) (aux_case h)
 
@@ -64,7 +64,7 @@ module _ (old : Fields) (whole : IsWhole old) (rd g : ℕ) (rec : RecAttributes)
   pub moved : (h : ℕ) → is_in h (g ∷ others) ≡ true → is_moved_state (granule_at old.granules h).state ≡ true
   moved = both (λ h. is_moved_state (granule_at old.granules h).state ≡ true) (ap is_moved_state (in_rec old g (whole.each g) rec is.at)) (λ h e. ap is_moved_state (aux_state h e))
 
-  -- each of them is taken
+  -- a granule of the machine that is not UNDELEGATED is taken
   taken_as : (h : ℕ) (state : GranuleState) → h < length old.granules → (granule_at old.granules h).state ≡ state → (state ≡ Undelegated → ⊥) → is_free old.free h ≡ false
   taken_as h state within at used = whole.backed.taken h within (λ e. used (sym at ∙ e))
 

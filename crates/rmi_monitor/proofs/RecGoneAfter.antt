@@ -36,7 +36,7 @@ module _ (old : Fields) (whole : IsWhole old) (rd g : ℕ) (rec : RecAttributes)
   abbrev move : RecMove old
   move = going old whole rd g rec realm is
 
-  -- a REC that is left is another one
+  -- a REC that exists afterwards is not in the granule of the removed REC
   differs : (h : ℕ) (other : RecAttributes) → rec_at new h ≡ Some other → h ≢ g
   differs h other e same = let clash : None ≡ Some other = sym (rec_first old whole move) ∙ ap (rec_at new) (sym same) ∙ e in cc
 
@@ -91,7 +91,7 @@ module _ (old : Fields) (whole : IsWhole old) (rd g : ℕ) (rec : RecAttributes)
       (rec_of-none new.granules new.recs rd g (rec_first old whole move))
       (λ h lt apart. rec_of_stays old whole move rd h apart)
 
-  -- the other realms had no REC at its granule
+  -- among the RECs of each other realm, the granule of the removed REC has the same entry as before
   elsewhere : (r : ℕ) → r ≢ rd → rec_of new.granules new.recs r g ≡ rec_of old.granules old.recs r g
   elsewhere r apart =
       rec_of-none new.granules new.recs r g (rec_first old whole move)

@@ -38,10 +38,11 @@ module _ (old : Fields) (whole : IsWhole old) (rd g : ℕ) (others : List ℕ) (
   g_realm : (granule_at new.granules g).realm ≡ Some rd
   g_realm = ap (λ (x : Granule). x.realm) (granule_first old whole move)
 
-  -- the new REC, and one that was there
+  -- after the command, the REC in granule `g` is the new one
   is_new : (h : ℕ) (rec : RecAttributes) → h ≡ g → rec_at new h ≡ Some rec → new_rec realm.next others ≡ rec
   is_new h rec same e = same_Some (new_rec realm.next others) rec (sym (rec_first old whole move) ∙ ap (rec_at new) (sym same) ∙ e)
 
+  -- after the command, a REC in any other granule existed before
   was_old : (h : ℕ) (rec : RecAttributes) → h ≢ g → rec_at new h ≡ Some rec → rec_at old h ≡ Some rec
   was_old h rec differs e = sym (rec_out old whole move h differs) ∙ e
 
@@ -130,7 +131,7 @@ module _ (old : Fields) (whole : IsWhole old) (rd g : ℕ) (others : List ℕ) (
   listed_new : (h : ℕ) (rec : RecAttributes) (i a : ℕ) → h ≡ g → rec_at new h ≡ Some rec → slice_get rec.auxiliaries i ≡ Some a → slice_get others i ≡ Some a
   listed_new h rec i a same e listed = subst (λ (x : RecAttributes). slice_get x.auxiliaries i ≡ Some a) (sym (is_new h rec same e)) listed
 
-  -- a granule that is an auxiliary already is not moved
+  -- an auxiliary of a REC that existed before is none of the new REC's granules
   aux_out : (h : ℕ) (rec : RecAttributes) (i a : ℕ) → rec_at old h ≡ Some rec → slice_get rec.auxiliaries i ≡ Some a → is_in a (g ∷ others) ≡ false
   aux_out h rec i a at listed = false_from _ (λ there.
       let clash : Delegated ≡ InRecAux = sym (can.delegated a there) ∙ ap (λ (x : Granule). x.state) (whole.recs.auxiliaries h rec i a at listed).is in cc)
@@ -193,7 +194,7 @@ module _ (old : Fields) (whole : IsWhole old) (rd g : ℕ) (others : List ℕ) (
       (λ h lt differs. rec_of_stays old whole move rd h differs)
       ∙ ap (λ n. insert (gathered (rec_of old.granules old.recs rd) n) realm.next (rec_row g (new_rec realm.next others))) (granule_count old whole move)
 
-  -- the other realms have no REC at its granule
+  -- among the RECs of each other realm, the granule of the new REC has the same entry as before
   elsewhere : (r : ℕ) → r ≢ rd → rec_of new.granules new.recs r g ≡ rec_of old.granules old.recs r g
   elsewhere r differs =
       rec_of-other new.granules new.recs r g (of_other new.granules r g rd g_realm (λ e. differs (sym e)))

@@ -36,8 +36,9 @@ is_moved_state InRec = true
 is_moved_state InRecAux = true
 is_moved_state _ = false
 
--- The new state of a REC's granule and its auxiliaries, and of the pages; the realm before and after, and the count of
--- its RECs; and the REC, or none. No auxiliary is a REC before.
+-- The creation or the removal of a REC. It has the REC's granule and auxiliaries with their new states, and the new
+-- pages. It has the realm's attributes before and after, the new count of its RECs, and the new REC, or none for a
+-- removal. No auxiliary was in state REC before.
 pub record RecMove (old : Fields) : Type 0 where
   pub rd : ℕ
   pub granule : ℕ
@@ -136,7 +137,7 @@ module _ (old : Fields) (whole : IsWhole old) (move : RecMove old) where
 
   -- ---- the RECs of realms
 
-  -- another granule makes the same entry
+  -- each granule but the REC's has the same entry among a realm's RECs as before
   pub rec_of_stays : (r g : ℕ) → g ≢ move.granule → rec_of new.granules new.recs r g ≡ rec_of old.granules old.recs r g
   rec_of_stays r g differs = elim (is_in g move.auxiliaries) as (λ t. is_in g move.auxiliaries ≡ t → rec_of new.granules new.recs r g ≡ rec_of old.granules old.recs r g) [
     | true ↦ λ e.
@@ -206,7 +207,7 @@ module _ (old : Fields) (whole : IsWhole old) (move : RecMove old) where
     recs = recs;
   }
 
--- the cell of a granule that is no RD and has a page of zeros
+-- a granule that is no RD and has a page of zeros has a cell with zero bytes and no descriptor
 pub zero_cell : (fields : Fields) (g : ℕ) (granule : Granule) → granule_at fields.granules g ≡ granule → page_at fields.pages g ≡ zero_page → realm_at fields g ≡ None
     → cell_of fields g ≡ record { state = granule.state; realm = granule.realm; bytes = zero_page; descriptor = None }
 zero_cell fields g granule at page none =

@@ -25,7 +25,7 @@ find_some test (y ∷ ys) x e = elim (test y) as (λ b. test y ≡ b → cond b 
   | false ↦ λ h is. find_some test ys x is
 ] refl e
 
--- a test that one of the numbers passes
+-- a search of a list finds a number, if a number in the list passes the test
 find_has : (test : ℕ → Bool) (ks : List ℕ) (k : ℕ) → list_any (eq_by_cmp nat_cmp k) ks ≡ true → test k ≡ true → is_some (find test ks) ≡ true
 find_has test [] k any passes = cc
 find_has test (q ∷ ks) k any passes = elim (test q) as (λ b. test q ≡ b → is_some (cond b (Some q) (find test ks)) ≡ true) [
@@ -55,7 +55,7 @@ abbrev named_in : Machine → ℕ → ℕ → Option (ℕ × ℕ)
 named_in machine granule rd = option_map (paired rd) (number_in machine granule rd)
 
 module _ (machine : Machine) (granule rd number : ℕ) where
-  -- the test of a realm and a number
+  -- a granule that holds the realm's REC with a number passes the test for that realm and number
   tests : IsRec machine rd number granule → is_rec_at machine granule rd number ≡ true
   unfolding is_rec_at
   tests is =
@@ -77,7 +77,7 @@ module _ (machine : Machine) (granule rd number : ℕ) where
       by (Some realm) there is = at realm there (get realm.recs number) refl is
       by None there is = cc
 
-  -- the number is among those of its realm
+  -- the number of a REC is among the REC numbers of its realm
   listed : IsRec machine rd number granule → list_any (eq_by_cmp nat_cmp number) (numbers_in machine rd) ≡ true
   unfolding numbers_in
   listed is =
@@ -87,7 +87,7 @@ module _ (machine : Machine) (granule rd number : ℕ) where
   inside : IsRec machine rd number granule → rd < length machine
   inside is = ⊎_elim (λ h. h) (λ h. absurd (none-some is.realm (sym (ap (λ (c : Cell). c.descriptor) (get_or_past machine rd blank h)) ∙ is.there))) (cases_lt rd (length machine))
 
-  -- the result of the search is the granule's REC
+  -- a REC that the search finds is the one that the granule holds
   pub named_some : rec_named machine granule ≡ Some (rd, number) → IsRec machine rd number granule
   unfolding rec_named number_in
   named_some e = by (find (λ r. is_some (number_in machine granule r)) (range_with_len 0 (length machine))) e

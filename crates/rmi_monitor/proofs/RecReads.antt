@@ -65,7 +65,7 @@ few_recs fields whole rd =
     let few = len-gathered (rec_of fields.granules fields.recs rd) (length fields.granules) in
     omega (arith, counted, few)
 
--- the count of RECs can be raised by one
+-- the count of a realm's RECs, raised by one, still fits in 16 bits
 pub one_more_fits : {fields : Fields} (rd : ℕ) {count pages : ℕ} → IsWhole fields → count ≡ rec_count_at fields rd → length fields.pages ≡ pages → pages ≤ 4096 → count + 1 ≤ 65535
 one_more_fits {fields} rd whole counted sized most =
     let few = few_recs fields whole rd in

@@ -18,7 +18,7 @@ use Rattle.rmi_monitor.proofs.RecChanges.{with_recs, rec_put}
 use Rattle.rmi_monitor.proofs.RealmFound.{row_of}
 use Rattle.rmi_monitor.proofs.Listed.{put_back}
 
--- a granule that is no REC: its place is written unchanged
+-- on a granule that holds no REC, a refusal with an input error meets `IsOnRec`, if what was read there is written back
 pub refused_none : {A : Type 0} {monitor : MonitorView} {fields : Fields} → HasFields monitor fields → {granule : ℕ} → granule < length monitor.machine → (command : Seen → ℕ → Outcome)
     → {i : ℕ} → i ≡ granule → {x : Option RecAttributes} → x ≡ get_or fields.recs i x → x ≡ None
     → IsOnRec {A = A} command monitor granule (Err error_input) (seen_as (with_recs fields (set fields.recs i x)))
@@ -38,14 +38,15 @@ module _ (monitor : MonitorView) (fields : Fields) (view_is : seen_as fields ≡
     abbrev rec_is : RecRow
     rec_is = rec_row granule rec
 
-    -- a command that is refused leaves the REC as it was
+    -- a refusal that writes the REC back unchanged meets `IsOnRec`, if the command's outcome is that refusal
     refused : {A : Type 0} (command : Seen → ℕ → Outcome) (rmi : Rmi) → recs ≡ set fields.recs granule (Some rec) → command (seen_in monitor rd) rec.number ≡ Err rmi
         → IsOnRec {A = A} command monitor granule (Err rmi) new
     refused command rmi back comes =
         on_rec monitor fields view_is whole command granule rec rd realm kept (Err rmi) (Err rmi) new comes refl
         (ap (λ rs. seen_as (with_recs fields rs)) (back ∙ put_back fields.recs granule None (Some rec) kept.at) ∙ view_is)
 
-    -- a command that is done puts the other row
+    -- a success that changes the REC to `now`, with the same number and auxiliary granules, meets `IsOnRec`, if the
+    -- command's outcome puts the REC's new row
     done : (command : Seen → ℕ → Outcome) (now : RecAttributes) → now.number ≡ rec.number → now.auxiliaries ≡ rec.auxiliaries → recs ≡ set fields.recs granule (Some now)
         → command (seen_in monitor rd) rec.number ≡ Ok (put_rec (seen_in monitor rd) row rec.number (rec_row granule now) ∷ [])
         → IsOnRec command monitor granule (Ok (tt {0})) new

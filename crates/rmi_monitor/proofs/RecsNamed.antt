@@ -17,7 +17,7 @@ first_of : (s t : Bool) → (s && t) ≡ true → s ≡ true
 first_of true t both = refl
 first_of false t both = both
 
--- the REC has that granule, and another test holds of it
+-- there is a REC, its granule is the given one, and the REC passes a further test
 abbrev is_rec_with : ℕ → (RecRow → Bool) → Option RecRow → Bool
 is_rec_with granule test found = elim found [ Some rec ↦ rec.granule == granule && test rec | None ↦ false ]
 

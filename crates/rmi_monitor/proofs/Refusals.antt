@@ -10,13 +10,13 @@ use Rattle.realm_model.specs.declared.rmi.Rmi.{Rmi}
 use Rattle.realm_model.proofs.Walks.{walk_at}
 use Rattle.realm_model.proofs.Outcomes.{check_true, end_there}
 
--- if a check is done, the check held, and the rest is done
+-- if a check's outcome is a success, its test passed, and the outcome of the rest is the same success
 pub check_done : (t : Bool) (rmi : Rmi) (rest : Outcome) (updates : List Update) → check t rmi rest ≡ Ok updates → (t ≡ true) × (rest ≡ Ok updates)
 unfolding check
 check_done true rmi rest updates e = (refl, e)
 check_done false rmi rest updates e = cc
 
--- the row at the required level, where the walk ended and which passes the test
+-- the walk ends at the required level, in a row that passes the test
 pub record Passes (rows : Rows) (ipa level : ℕ) (passes : Row → Bool) : Type 0 where
   pub row : Row
   pub walked : walk rows ipa level ≡ Some (record { level = level; row = row })
@@ -27,7 +27,7 @@ module _ (rows : Rows) (ipa level : ℕ) (passes : Row → Bool) (rest : Row →
   abbrev on_row : Outcome
   on_row = with_row rows ipa level (λ row. check (passes row) (error_rtt level) (rest row))
 
-  -- a command that is done has found such a row
+  -- a command that succeeds has found a row at the required level that passes the test, and the rest succeeds on it
   pub passed_row : (updates : List Update) → on_row ≡ Ok updates → (found : Passes rows ipa level passes) × (rest found.row ≡ Ok updates)
   unfolding with_end
   passed_row updates = found (walk rows ipa level) refl
@@ -49,7 +49,7 @@ module _ (rows : Rows) (ipa level : ℕ) (passes : Row → Bool) (rest : Row →
             passed.1,
           )
 
-  -- a command that finds such a row goes on with it
+  -- a command whose walk ends in a row that meets `Passes` has the outcome of the rest on that row
   pub row_passes : (found : Passes rows ipa level passes) → on_row ≡ rest found.row
   row_passes found =
       end_there rows ipa level (λ end. check (end.level == level) (error_rtt end.level) (check (passes end.row) (error_rtt level) (rest end.row))) _ found.walked

@@ -61,7 +61,7 @@ module _ (old : Fields) (whole : IsWhole old) (rd : ℕ) (realm now : RealmAttri
   page_count : length granules ≡ length old.granules → length pages ≡ length old.pages
   page_count same = sym backed.as_many ∙ same ∙ whole.backed.as_many
 
-  -- a realm that existed still exists
+  -- a realm that has a REC still exists, with no smaller next REC number
   survives : (g r : ℕ) (rec : RecAttributes) (a : RealmAttributes) → rec_at old g ≡ Some rec → (granule_at old.granules g).realm ≡ Some r → realm_at old r ≡ Some a
       → (after : RealmAttributes) × (realm_at new r ≡ Some after) × (a.next ≤ after.next)
   survives g r rec a at of is = still_there old new rd realm now there realm_is keeps realm_other r a is

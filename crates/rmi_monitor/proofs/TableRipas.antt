@@ -37,11 +37,12 @@ pub record RipasCall (at : Tables) (pages : List (List ℕ)) (free : List Bool) 
   pub others : ChangesTablesOnly at.root pages new_pages
   pub keeps : Keeps at.rd at.root pages free granules new_pages new_free granules
 
--- the pages are a run, and protected
+-- the `count` IPA granules from `ipa` on are a page run, and the first one is protected
 abbrev pub is_run : ℕ → ℕ → ℕ → Bool
 is_run ipa count width = is_page_run ipa count && is_protected_at ipa width
 
--- the result of the code for the pages, by the realm's root that the code reads
+-- the result of the code's check that the IPA granules are a protected page run of the realm whose root the code has
+-- read
 module _ (realm : RealmAttributes) (ipa count : ℕ) (root : Root) (read : root ≡ realm.root) where
   pub no_run : None ≡ cond (is_run ipa count root.width) (Some ipa) None → is_run ipa count realm.root.width ≡ false
   no_run tested = ap (λ (r : Root). is_run ipa count r.width) (sym read) ∙ test_failed (is_run ipa count root.width) ipa None tested refl

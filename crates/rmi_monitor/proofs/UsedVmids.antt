@@ -23,7 +23,7 @@ list_any-same : {A : Type 0} (p q : A → Bool) (xs : List A) → ((x : A) → p
 list_any-same p q [] same = refl
 list_any-same p q (x ∷ xs) same = ap (λ t. t || list_any p xs) (same x) ∙ ap (λ t. q x || t) (list_any-same p q xs same)
 
--- the test of an option's value, if there is one
+-- the test of an option's value; false if there is no value
 abbrev tests : {B : Type 0} → (B → Bool) → Option B → Bool
 tests p o = elim o [ Some y ↦ p y | None ↦ false ]
 
@@ -38,7 +38,7 @@ list_any-filter_map p f (x ∷ xs) = one_more p (f x) (filter_map f xs) (list_an
 eqb-swap : (n m : ℕ) → (n == m) ≡ (m == n)
 eqb-swap n m = ⊎_elim (λ (same : n ≡ m). eq-eqb n m same ∙ sym (eq-eqb m n (sym same))) (λ (ne : n ≢ m). ne_eqb n m ne ∙ sym (ne_eqb m n (λ e. ne (sym e)))) (cases_eq n m)
 
--- a list has the elements at its places
+-- the elements at all indexes of a list, in sequence, make up the list
 at_places : {A : Type 0} (xs : List A) (d : A) → map (λ i. get_or xs i d) (range_with_len 0 (length xs)) ≡ xs
 at_places xs d =
     let long = length-map-range_with_len (λ i. get_or xs i d) 0 (length xs) in
@@ -51,7 +51,7 @@ module _ {A : Type 0} (p : A → Bool) where
   count_more : (x : A) (xs : List A) → count_by p (x ∷ xs) ≡ cond (p x) 1 0 + count_by p xs
   count_more x xs = sum_by-cons (λ y. cond (p y) 1 0) x xs
 
-  -- if one element alone passes, or none
+  -- if the number of elements that pass is 1 or 0, some element passes exactly if the number is 1
   any-count : (xs : List A) (one : Bool) → count_by p xs ≡ cond one 1 0 → list_any p xs ≡ one
   any-count [] true e = absurd (omega (arith, e))
   any-count [] false e = refl
@@ -65,12 +65,12 @@ module _ {A : Type 0} (p : A → Bool) where
           some false h = absurd (omega (arith, h))
       by false h rest = rest (omega (arith, h))
 
-  -- no element passes
+  -- if an element fails the test, no element passes in a list of copies of it
   count-none : (n : ℕ) (x : A) → p x ≡ false → count_by p (replicate n x) ≡ 0
   count-none zero x e = refl
   count-none (suc n) x e = count_more x (replicate n x) ∙ (λ i. cond (e i) 1 0 + count-none n x e i)
 
-  -- lists that pass at the same places
+  -- two lists of the same length, whose elements pass at the same indexes, have equally many elements that pass
   count-alike : (xs ys : List A) (d : A) → length xs ≡ length ys → ((i : ℕ) → p (get_or xs i d) ≡ p (get_or ys i d)) → count_by p xs ≡ count_by p ys
   count-alike [] [] d long same = refl
   count-alike [] (y ∷ ys) d long same = absurd (omega (arith, long))
@@ -80,20 +80,20 @@ module _ {A : Type 0} (p : A → Bool) where
       ∙ (λ i. cond (same 0 i) 1 0 + count-alike xs ys d (omega (arith, long)) (λ k. same (suc k)) i)
       ∙ sym (count_more y ys)
 
-  -- one place that is written
+  -- writing one element lowers the count by one if the old element passed, and raises it by one if the new one passes
   count-set : (xs : List A) (i : ℕ) (y d : A) → i < length xs → count_by p (set xs i y) + cond (p (get_or xs i d)) 1 0 ≡ count_by p xs + cond (p y) 1 0
   count-set xs i y d inside = sum_by-set (λ x. cond (p x) 1 0) xs i y d inside
 
 -- ---- the VMIDs of an RMM
 
--- as many realms have each VMID as its flag says
+-- exactly one realm has each VMID that is marked as used, and no realm has any other VMID
 abbrev pub AreUsed : List (Option RealmAttributes) → List Bool → Type 0
 AreUsed realms used = (vmid : ℕ) → count_by (is_realm_with vmid) realms ≡ cond (is_used used vmid) 1 0
 
 pub used-none : (n : ℕ) (used : List Bool) → ((vmid : ℕ) → is_used used vmid ≡ false) → AreUsed (replicate n None) used
 used-none n used none vmid = count-none (is_realm_with vmid) n None refl ∙ sym (ap (λ t. cond t 1 0) (none vmid))
 
--- one realm has other attributes, but the same VMID
+-- `AreUsed` still holds after one realm gets other attributes and keeps its VMID
 pub used-kept : (old new : List (Option RealmAttributes)) (used : List Bool) → AreUsed old used → length new ≡ length old
     → (rd : ℕ) (realm now : RealmAttributes) → get_or old rd None ≡ Some realm → get_or new rd None ≡ Some now → now.vmid ≡ realm.vmid
     → ((g : ℕ) → g ≢ rd → get_or new g None ≡ get_or old g None) → AreUsed new used
@@ -116,7 +116,7 @@ module _ (realms : List (Option RealmAttributes)) (old new : List Bool) (was : A
   has_not : (vmid : ℕ) → vmid ≢ realm.vmid → is_realm_with vmid (Some realm) ≡ false
   has_not vmid other = ne_eqb realm.vmid vmid (λ e. other (sym e))
 
-  -- a realm is created, whose VMID was not used
+  -- `AreUsed` holds after a realm is created whose VMID was not used, and is now marked
   pub used-create : get_or realms rd None ≡ None → is_used old realm.vmid ≡ false → IsMarked old new realm.vmid true → AreUsed (set realms rd (Some realm)) new
   used-create none unused marked vmid = ⊎_elim
       (λ (s : vmid ≡ realm.vmid).
@@ -138,7 +138,7 @@ module _ (realms : List (Option RealmAttributes)) (old new : List Bool) (was : A
           ap (λ o. count_by (is_realm_with vmid) (set realms rd (Some realm)) + cond (is_realm_with vmid o) 1 0) (sym none)
           ∙ count-set (is_realm_with vmid) realms rd (Some realm) None inside
 
-  -- a realm is destroyed
+  -- `AreUsed` holds after a realm is destroyed, and its VMID is no longer marked
   pub used-destroy : get_or realms rd None ≡ Some realm → IsMarked old new realm.vmid false → AreUsed (set realms rd None) new
   used-destroy there marked vmid = ⊎_elim
       (λ (s : vmid ≡ realm.vmid).

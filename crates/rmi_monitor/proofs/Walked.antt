@@ -19,7 +19,7 @@ use Rattle.rmi_monitor.proofs.Comparisons.{test_held, test_failed}
 use Rattle.rmi_monitor.proofs.Granules.{HasFields, cell_is}
 use Rattle.rmi_monitor.proofs.RealmFound.{row_of, descriptor_there}
 
--- an address space of such a width has only IPA granules that its starting tables serve
+-- the starting tables serve each IPA granule of an address space whose width a realm may have
 space_served : (width ipa : ℕ) → is_width width ≡ true → is_in_space ipa width ≡ true → ipa < served_space width
 space_served width ipa wide inside = subst (λ n. ipa < n) (sym (served_is width wide)) (ltb-true ipa _ inside)
 
@@ -30,7 +30,7 @@ module _ {monitor : MonitorView} {fields : Fields} (kept : HasFields monitor fie
       ap (option_and_then (λ (r : RealmRow). walk_of r ipa level))
       (ap (λ (c : Cell). c.descriptor) (cell_is monitor fields kept.view_is kept.whole rd inside) ∙ ap (option_map (row_of fields rd)) none)
 
-  -- the root and the width that code reads of the realm
+  -- the realm's root and IPA width, as the code reads them
   module _ (realm : RealmAttributes) (there : realm_at fields rd ≡ Some realm) (root : Root) (read : root ≡ realm.root)
       (number : ℕ) (number_is : number ≡ root.width) (least : 39 ≤ number) (most : number ≤ 43) where
     width_is : number ≡ realm.root.width
@@ -65,10 +65,11 @@ module _ {monitor : MonitorView} {fields : Fields} (kept : HasFields monitor fie
           subst (λ (t : Tables). given < served_space t.root.width) (sym at_is)
           (subst (λ n. given < served_space n) width_is (subst (λ n. n < served_space number) (sym held.1) (space_served number ipa wide inside)))
 
-      -- the preconditions of a walk, and the entry at which it ends
+      -- the code's walk meets its preconditions
       pub walk_asks : HasTables fields.pages fields.granules at.rd at.root × (given < served_space at.root.width)
       walk_asks = (tables, space)
 
+      -- the code's walk ends as the walk in the machine
       pub walk_ends : (end : Walk) → walk (rows fields.pages at.root) given level ≡ Some end → Some end ≡ walk_in monitor.machine rd ipa level
       walk_ends end is =
           sym

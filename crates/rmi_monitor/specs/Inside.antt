@@ -20,9 +20,9 @@ use Rattle.rmi_monitor.specs.Gathered.{gathered, IsOnce}
 use Rattle.rmi_monitor.specs.Places.{is_realm_with}
 use Rattle.granule_addr.specs.Vmids.{is_used}
 
--- The fields of an RMM: two settings, the VMIDs in use, and lists with one element for each granule. The lists have its
--- state and realm, the bytes of its page, and whether it is free. They also have the realm or the REC that it is, and
--- the number of that realm's RECs.
+-- The fields of an RMM: two settings, the VMIDs in use, and lists with one element for each granule. The lists have the
+-- granule's state and realm, the bytes of its page, and whether it is free. They also have the realm whose RD it is,
+-- the number of that realm's RECs, and the REC that it holds.
 pub record Fields : Type 0 where
   pub vmids : ℕ
   pub aux : ℕ

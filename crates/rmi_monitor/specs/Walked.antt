@@ -8,7 +8,7 @@ use Rattle.realm_model.specs.Machine.{Machine, RealmRow, cell_at}
 abbrev pub walk_of : RealmRow → ℕ → ℕ → Option Walk
 walk_of realm ipa level = if is_in_space ipa realm.root.width then walk realm.rows ipa level else None
 
--- the end of the walk of an IPA granule in the realm whose RD is `rd`; none without such a realm or beyond its address
--- space
+-- the end of an IPA granule's walk in the realm with RD `rd`; none if there is no such realm, or if its address space
+-- lacks the IPA granule
 abbrev pub walk_in : Machine → ℕ → ℕ → ℕ → Option Walk
 walk_in machine rd ipa level = option_and_then (λ realm. walk_of realm ipa level) (cell_at machine rd).descriptor

@@ -70,8 +70,8 @@ impl<S: PageStore> Monitor<S> {
 
     /// Stops a RUNNING REC. It becomes READY.
     ///
-    /// RMM 1.0, REC exit; as a command of its own it is this profile's. The error is RMI_ERROR_INPUT if the granule is
-    /// not a REC, and RMI_ERROR_REC if the REC is not RUNNING.
+    /// RMM 1.0, REC exit; the command is this profile's own. The error is RMI_ERROR_INPUT if the granule is not a REC,
+    /// and RMI_ERROR_REC if the REC is not RUNNING.
     pub fn rec_exit(&mut self, rec: Gran) -> Result<(), Rmi>
         requires { IsTaken self.old rec }
         ensures { IsOnRec command.rec_exit self.old rec result self.new }

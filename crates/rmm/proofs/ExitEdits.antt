@@ -8,7 +8,7 @@ use Rattle.rmm_model.specs.Step.{rec_after_exit}
 use Rattle.rmm_granules.specs.RecEdits.{edited}
 use Rattle.rmm.specs.ExitEdits.{exit_edit}
 
--- the edit at an exit makes the attributes after it
+-- the edit of a REC at an exit gives the REC's attributes after the exit
 pub edited-exit : (step : GuestStep) (rec : RmmRec) → edited (exit_edit step) rec ≡ rec_after_exit rec step
 edited-exit (Write ipa value size) rec = refl
 edited-exit (Read ipa size) rec = refl

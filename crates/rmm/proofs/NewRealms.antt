@@ -16,13 +16,13 @@ module _ (m : Machine) (rd params : ℕ) where
   abbrev rd_checks : List Check
   rd_checks = delegated_checks RdAlign RdBound RdState m rd
 
-  -- a page that is not the host's decides
+  -- the first failed check of the parameter page decides the refusal
   pub source_fails : (r : FailedCondition) → Some r ≡ first_failing source_checks → Some r ≡ first_failing (realm_create rd params m).checks
   unfolding realm_create
   source_fails r fails = first_fails source_checks (params_checks m.settings (params_at m params) rd) rd_checks (free_checks m (params_at m params)) r fails
 
   module _ (p : RealmParams) (same : p ≡ params_at m params) (source : None ≡ first_failing source_checks) where
-    -- parameters that fail decide
+    -- if the checks of the page pass, the first failed check of the parameters decides the refusal
     pub params_fail : (r : FailedCondition) → Some r ≡ first_failing (params_checks m.settings p rd) → Some r ≡ first_failing (realm_create rd params m).checks
     unfolding realm_create
     params_fail r fails =
@@ -33,13 +33,13 @@ module _ (m : Machine) (rd params : ℕ) where
       abbrev right_there : None ≡ first_failing (params_checks m.settings (params_at m params) rd)
       right_there = right ∙ ap (λ (q : RealmParams). first_failing (params_checks m.settings q rd)) same
 
-      -- an RD that fails decides
+      -- if the earlier checks pass, the first failed check of the RD decides the refusal
       pub rd_fails : (r : FailedCondition) → Some r ≡ first_failing rd_checks → Some r ≡ first_failing (realm_create rd params m).checks
       unfolding realm_create
       rd_fails r fails =
           third_fails source_checks (params_checks m.settings (params_at m params) rd) rd_checks (free_checks m (params_at m params)) r source right_there fails
 
-      -- what the realm takes decides
+      -- if the earlier checks pass, those of the starting tables and the VMID decide whether the command is refused
       pub by_free : None ≡ first_failing rd_checks → first_failing (free_checks m p) ≡ first_failing (realm_create rd params m).checks
       unfolding realm_create
       by_free passes =

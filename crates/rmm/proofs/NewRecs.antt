@@ -26,35 +26,36 @@ module _ (m : Machine) (rd rec params : ℕ) where
   abbrev number : List Check
   number = number_checks m.settings (page_in m (number_of m params)) (realm_at m rd)
 
-  -- a page that is not the host's decides
+  -- the first failed check of the parameter page decides the refusal
   pub source_fails : (r : FailedCondition) → Some r ≡ first_failing source → Some r ≡ first_failing (rec_create rd rec params m).checks
   unfolding rec_create
   source_fails r fails = failed (source ++ granule ++ owner ++ aux) number r (first_fails source granule owner aux r fails)
 
   module _ (one : None ≡ first_failing source) where
-    -- a granule that is not DELEGATED decides
+    -- if the checks of the page pass, the first failed check of the REC's granule decides the refusal
     pub rec_fails : (r : FailedCondition) → Some r ≡ first_failing granule → Some r ≡ first_failing (rec_create rd rec params m).checks
     unfolding rec_create
     rec_fails r fails = failed (source ++ granule ++ owner ++ aux) number r (second_fails source granule owner aux r one fails)
 
     module _ (two : None ≡ first_failing granule) where
-      -- an RD that fails decides
+      -- if the earlier checks pass, the first failed check of the RD decides the refusal
       pub rd_fails : (r : FailedCondition) → Some r ≡ first_failing owner → Some r ≡ first_failing (rec_create rd rec params m).checks
       unfolding rec_create
       rd_fails r fails = failed (source ++ granule ++ owner ++ aux) number r (third_fails source granule owner aux r one two fails)
 
       module _ (three : None ≡ first_failing owner) where
-        -- auxiliary granules that fail decide
+        -- if the earlier checks pass, the first failed check of the auxiliary granules decides the refusal
         pub aux_fail : (r : FailedCondition) → Some r ≡ first_failing aux → Some r ≡ first_failing (rec_create rd rec params m).checks
         unfolding rec_create
         aux_fail r fails = failed (source ++ granule ++ owner ++ aux) number r (fails ∙ fourth_decides source granule owner aux one two three)
 
-        -- the number of the REC decides
+        -- if the earlier checks pass, those of the realm and the MPIDR decide whether the command is refused
         pub by_number : None ≡ first_failing aux → first_failing number ≡ first_failing (rec_create rd rec params m).checks
         unfolding rec_create
         by_number four = passed (source ++ granule ++ owner ++ aux) number (four ∙ fourth_decides source granule owner aux one two three)
 
-        -- and the number that is found with settings, a page and a realm which are those of the command
+        -- if the earlier checks pass, those of the realm and the MPIDR, made on settings, a page and a realm equal to
+        -- the command's, decide whether it is refused
         pub by_number_of : (s : RmmSettings) (page : List ℕ) (realm : RmmRealm) → s ≡ m.settings → page ≡ page_in m (number_of m params) → realm ≡ realm_at m rd → None ≡ first_failing aux
             → first_failing (number_checks s page realm) ≡ first_failing (rec_create rd rec params m).checks
         by_number_of s page realm settings there same four =

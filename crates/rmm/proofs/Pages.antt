@@ -7,7 +7,7 @@ use Rattle.rmm_model.specs.Machine.{Machine, page_in, with_page, with_word}
 use Rattle.rmm_model.specs.Table.{with_words, with_words_from}
 use Rattle.rmm.proofs.WordEdits.{but, page_with_word-with_words_from}
 
--- one word more
+-- writing word `count` after the first `count` words gives the page with one word more
 pub with_words-more : (m : Machine) (granule count : ℕ) (f : ℕ → ℕ) (page : List ℕ) → granule < length m.pages
     → with_word (with_page m granule (with_words count f page)) granule count (f count) ≡ with_page m granule (with_words (count + 1) f page)
 unfolding with_words
@@ -18,7 +18,7 @@ with_words-more m granule count f page inside =
     ∙ set-set m.pages granule written (page_with_word written count (f count))
     ∙ ap (λ (n : ℕ). set m.pages granule (with_words n f page)) (sym (add-one count)))
 
--- the same words
+-- functions with the same values write the same words
 pub with_words-same : (count : ℕ) (f g : ℕ → ℕ) (page : List ℕ) → ((k : ℕ) → f k ≡ g k) → with_words count f page ≡ with_words count g page
 unfolding with_words
 with_words-same zero f g page same = refl
@@ -26,17 +26,17 @@ with_words-same (suc count) f g page same =
     ap (λ (p : List ℕ). page_with_word p count (f count)) (with_words-same count f g page same)
     ∙ ap (page_with_word (with_words count g page) count) (same count)
 
--- another page stays
+-- writing a page leaves every other page unchanged
 pub page_in-other : (m : Machine) (granule other : ℕ) (page : List ℕ) → other ≢ granule → page_in (with_page m granule page) other ≡ page_in m other
 page_in-other m granule other page apart = get_or-set_other m.pages granule other page [] apart
 
 -- ---- a page of which some words are written one after another
 
--- a page that is written as it was
+-- writing a page as it was leaves the machine unchanged
 pub with_page-same : (m : Machine) (granule : ℕ) → m ≡ with_page m granule (page_in m granule)
 with_page-same m granule = sym (ap (λ (pages : List (List ℕ)). record m { pages = pages }) (set-get_or m.pages granule []))
 
--- a word of a page that is written
+-- writing a page, and then one of its words, is writing the page with that word
 pub with_word-with_page : (m : Machine) (granule i word : ℕ) (page : List ℕ) → granule < length m.pages
     → with_word (with_page m granule page) granule i word ≡ with_page m granule (page_with_word page i word)
 with_word-with_page m granule i word page inside =
@@ -44,7 +44,8 @@ with_word-with_page m granule i word page inside =
     (ap (λ (old : List ℕ). set (set m.pages granule page) granule (page_with_word old i word)) (get_or-set_same m.pages granule page [] inside)
     ∙ set-set m.pages granule page (page_with_word page i word))
 
--- the page before has 4,096 bytes if the one with some words has them
+-- the old page has 4,096 bytes: this is given if a word was written; if none was, the old page is the written page,
+-- which has 4,096 bytes
 whole_before : (first k : ℕ) (f : ℕ → ℕ) (page : List ℕ) → (0 < k → length page ≡ 4096) → length (with_words_from first k f page) ≡ 4096 → length page ≡ 4096
 unfolding with_words_from
 whole_before first zero f page known whole = whole
@@ -63,7 +64,7 @@ module _ (m now : Machine) (granule first k : ℕ) (f : ℕ → ℕ) (made : now
   pub whole : (0 < k → length (page_in m granule) ≡ 4096) → length (page_in now granule) ≡ 4096 → length (page_in m granule) ≡ 4096
   whole known len = whole_before first k f (page_in m granule) known (ap (λ (p : List ℕ). length p) (sym page_now) ∙ len)
 
-  -- one word more
+  -- writing the next word of `f` gives the page with one more word of `f`
   pub goes_on : (new : Machine) (word : ℕ) → new ≡ with_word now granule (first + k) word → word ≡ f (first + k) → new ≡ with_page m granule (with_words_from first (k + 1) f (page_in m granule))
   unfolding with_words_from
   goes_on new word wrote is =
@@ -73,7 +74,7 @@ module _ (m now : Machine) (granule first k : ℕ) (f : ℕ → ℕ) (made : now
       ∙ ap (λ (w : ℕ). with_page m granule (page_with_word written (first + k) w)) is
       ∙ ap (λ (n : ℕ). with_page m granule (with_words_from first n f (page_in m granule))) (sym (add-one k))
 
--- one word once more
+-- writing one of the written words again gives the page written with the new word at that index
 pub one_again : (m now new : Machine) (granule first count j word : ℕ) (f : ℕ → ℕ) → granule < length m.pages → length (page_in m granule) ≡ 4096 → first + count ≤ 512 → first ≤ j → j < first + count
     → now ≡ with_page m granule (with_words_from first count f (page_in m granule)) → new ≡ with_word now granule j word → new ≡ with_page m granule (with_words_from first count (but j word f) (page_in m granule))
 one_again m now new granule first count j word f inside whole within low high made wrote =

@@ -21,25 +21,25 @@ module _ (m : Machine) (rd base top : ℕ) where
   abbrev goes : List Check
   goes = progress_checks (Size ∷ RdState ∷ BaseBound ∷ TopBound ∷ RealmState ∷ []) m (init_changeable m.settings) (walk m (realm_at m rd) base 3) base top
 
-  -- a range without addresses decides
+  -- the first check, that the range is not empty, decides the refusal if it fails
   pub size_fails : (r : FailedCondition) → Some r ≡ first_failing (size_checks base top) → Some r ≡ first_failing (rtt_init_ripas rd base top m).checks
   unfolding rtt_init_ripas
   size_fails r fails = first_fails (size_checks base top) (rd_checks m rd) there goes r fails
 
   module _ (size : None ≡ first_failing (size_checks base top)) where
-    -- an RD that fails decides
+    -- if the range is not empty, the first failed check of the RD decides the refusal
     pub rd_fails : (r : FailedCondition) → Some r ≡ first_failing (rd_checks m rd) → Some r ≡ first_failing (rtt_init_ripas rd base top m).checks
     unfolding rtt_init_ripas
     rd_fails r fails = second_fails (size_checks base top) (rd_checks m rd) there goes r size fails
 
     module _ (passes : None ≡ first_failing (rd_checks m rd)) (realm : RmmRealm) (same : realm ≡ realm_at m rd) where
-      -- a range that fails decides
+      -- if the earlier checks pass, the first failed check of the range decides the refusal
       pub range_fails : (r : FailedCondition) → Some r ≡ first_failing (range_checks realm base top) → Some r ≡ first_failing (rtt_init_ripas rd base top m).checks
       unfolding rtt_init_ripas
       range_fails r fails =
           third_fails (size_checks base top) (rd_checks m rd) there goes r size passes (fails ∙ ap (λ (x : RmmRealm). first_failing (range_checks x base top)) same)
 
-      -- the first entry decides
+      -- if the earlier checks pass, those of the first entry decide whether the command is refused
       pub by_progress : None ≡ first_failing (range_checks realm base top) → (found : Walked) → found ≡ walk m realm base 3 → (s : RmmSettings) → s ≡ m.settings → (which : Changeable) → which ≡ init_changeable s
           → first_failing (progress_checks [] m which found base top) ≡ first_failing (rtt_init_ripas rd base top m).checks
       unfolding rtt_init_ripas

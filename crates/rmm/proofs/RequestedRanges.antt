@@ -30,37 +30,38 @@ module _ (m : Machine) (rd rec base top : ℕ) where
   abbrev goes : List Check
   goes = progress_checks (Size ∷ RecGranState ∷ RdState ∷ RecState ∷ RecOwner ∷ BaseBound ∷ TopBound ∷ []) m (set_changeable (rec_at m rec).ripas) (walk m (realm_at m rd) base 3) base top
 
-  -- a range without addresses decides
+  -- the first check, that the range is not empty, decides the refusal if it fails
   pub size_fails : (r : FailedCondition) → Some r ≡ first_failing size → Some r ≡ first_failing (rtt_set_ripas rd rec base top m).checks
   unfolding rtt_set_ripas
   size_fails r fails = failed (size ++ owner ++ asking ++ request) goes r (first_fails size owner asking request r fails)
 
   module _ (one : None ≡ first_failing size) where
-    -- an RD that fails decides
+    -- if the range is not empty, the first failed check of the RD decides the refusal
     pub rd_fails : (r : FailedCondition) → Some r ≡ first_failing owner → Some r ≡ first_failing (rtt_set_ripas rd rec base top m).checks
     unfolding rtt_set_ripas
     rd_fails r fails = failed (size ++ owner ++ asking ++ request) goes r (second_fails size owner asking request r one fails)
 
     module _ (two : None ≡ first_failing owner) where
-      -- a REC that fails decides
+      -- if the earlier checks pass, the first failed check of the REC decides the refusal
       pub rec_fails : (r : FailedCondition) → Some r ≡ first_failing asking → Some r ≡ first_failing (rtt_set_ripas rd rec base top m).checks
       unfolding rtt_set_ripas
       rec_fails r fails = failed (size ++ owner ++ asking ++ request) goes r (third_fails size owner asking request r one two fails)
 
       module _ (three : None ≡ first_failing asking) (realm : RmmRealm) (same : realm ≡ realm_at m rd) (who : RmmRec) (named : who ≡ rec_at m rec) (is : Bool) (told : is ≡ is_rec_of m rd rec) where
-        -- what is found is what the command speaks of
+        -- the checks of the request have the same first failure for the found realm and REC as for those that the
+        -- operands name
         there : first_failing (ripas_request_checks realm who is base top) ≡ first_failing request
         there =
             ap (λ (x : RmmRealm). first_failing (ripas_request_checks x who is base top)) same
             ∙ ap (λ (x : RmmRec). first_failing (ripas_request_checks (realm_at m rd) x is base top)) named
             ∙ ap (λ (x : Bool). first_failing (ripas_request_checks (realm_at m rd) (rec_at m rec) x base top)) told
 
-        -- a request that fails decides
+        -- if the earlier checks pass, the first failed check of the request decides the refusal
         pub request_fails : (r : FailedCondition) → Some r ≡ first_failing (ripas_request_checks realm who is base top) → Some r ≡ first_failing (rtt_set_ripas rd rec base top m).checks
         unfolding rtt_set_ripas
         request_fails r fails = failed (size ++ owner ++ asking ++ request) goes r (fails ∙ there ∙ fourth_decides size owner asking request one two three)
 
-        -- the first entry decides
+        -- if the earlier checks pass, those of the first entry decide whether the command is refused
         pub by_progress : None ≡ first_failing (ripas_request_checks realm who is base top) → (found : Walked) → found ≡ walk m realm base 3 → (which : Changeable) → which ≡ set_changeable who.ripas
             → first_failing (progress_checks [] m which found base top) ≡ first_failing (rtt_set_ripas rd rec base top m).checks
         unfolding rtt_set_ripas

@@ -6,7 +6,7 @@ use Rattle.page_arena.specs.Word.{with_bytes, page_with_word, bytes_of_words}
 use Rattle.page_arena.specs.SideBySide.{with_bytes-append, with_bytes-none, bytes_of_words-more, bytes_of_words-all}
 use Rattle.rmm_model.specs.Table.{with_words, with_words_from}
 
--- words of the upper half that are zero are zero bytes
+-- writing zero words from word 256 on is writing zero bytes from byte 2,048 on
 zero_words : (page : List ℕ) (k : ℕ) → length page ≡ 4096 → k ≤ 256 → with_words_from 256 k (λ i. 0) page ≡ with_bytes page 2048 (replicate (8 * k) 0)
 unfolding with_words_from page_with_word
 zero_words page zero whole few = sym (with_bytes-none page 2048)
@@ -21,11 +21,11 @@ zero_words page (suc k) whole few =
     ∙ ap (with_bytes page 2048) (replicate-append-replicate (8 * k) 8 0)
     ∙ ap (λ (n : ℕ). with_bytes page 2048 (replicate n 0)) next
 
--- a page whose upper half is zero
+-- writing 2,048 zero bytes to the upper half of a page is writing 256 zero words
 pub upper_half : (page : List ℕ) → length page ≡ 4096 → with_bytes page 2048 (replicate 2048 0) ≡ with_words_from 256 256 (λ i. 0) page
 upper_half page whole = sym (zero_words page 256 whole (omega arith))
 
--- the first words of a page
+-- writing the first words of a page is writing their bytes at its start
 first_words : (page : List ℕ) (count : ℕ) (f : ℕ → ℕ) → length page ≡ 4096 → count ≤ 512 → with_words count f page ≡ with_bytes page 0 (bytes_of_words count f)
 unfolding with_words bytes_of_words
 first_words page zero f whole few = sym (with_bytes-none page 0)
@@ -34,6 +34,6 @@ first_words page (suc count) f whole few =
     ∙ bytes_of_words-more page count f whole (omega arith)
     ∙ ap (λ (n : ℕ). with_bytes page 0 (bytes_of_words n f)) (add-one count)
 
--- all words of a page
+-- a page whose 512 words are all written consists of the bytes of these words
 pub all_words : (page : List ℕ) (f : ℕ → ℕ) → length page ≡ 4096 → with_words 512 f page ≡ bytes_of_words 512 f
 all_words page f whole = first_words page 512 f whole (omega arith) ∙ bytes_of_words-all page f whole

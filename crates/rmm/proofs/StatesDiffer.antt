@@ -9,7 +9,7 @@ one_state : (state : RmmGranuleState) → is_undelegated state ≡ true → is_d
 one_state Undelegated host mine = cc
 one_state _ host mine = cc
 
--- a DELEGATED granule is not the host's
+-- a DELEGATED granule and an UNDELEGATED one are different granules
 pub delegated_apart : (m : Machine) (mine host : ℕ) → is_delegated (granule_at m mine).state ≡ true → is_undelegated (granule_at m host).state ≡ true → mine ≢ host
 delegated_apart m mine host is_mine is_host = λ same.
     one_state (granule_at m host).state is_host (ap (λ (g : ℕ). is_delegated (granule_at m g).state) (sym same) ∙ is_mine)

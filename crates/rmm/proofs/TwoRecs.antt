@@ -8,11 +8,12 @@ use Rattle.rmm_model.specs.Check.{check, error_input, first_failing}
 use Rattle.rmm_model.specs.Machine.{Machine, is_aligned, is_inside, number_of}
 use Rattle.rmm_model.specs.Command.Operand.{rec_checks}
 
--- the first of checks that pass does not fail, and the others pass
+-- if a list of checks passes, its first check does not fail
 cond_passes : (fails : Bool) (refusal : FailedCondition) (rest : Option FailedCondition) → None ≡ cond fails (Some refusal) rest → fails ≡ false
 cond_passes true refusal rest passes = cc
 cond_passes false refusal rest passes = refl
 
+-- if a list of checks passes, so do the checks after the first one
 cond_rest : (fails : Bool) (refusal : FailedCondition) (rest : Option FailedCondition) → None ≡ cond fails (Some refusal) rest → None ≡ rest
 cond_rest true refusal rest passes = cc
 cond_rest false refusal rest passes = passes

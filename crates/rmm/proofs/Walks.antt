@@ -7,7 +7,7 @@ use Rattle.rmm_model.specs.declared.realm.RttWalk.{RttWalk}
 use Rattle.rmm_model.specs.Machine.{Machine}
 use Rattle.rmm_model.specs.Walk.{entry_at, walk}
 
--- what is said of the end of a realm's walk, and of the entry there
+-- a value computed from the found end of a walk, and from the entry there, is the one computed from the model's walk
 pub end_of_walk : {X : Type 0} (said : RttWalk → RmmRttEntry → X) (m : Machine) (realm named : RmmRealm) (ipa a b : ℕ) (found : RttWalk) (entry : RmmRttEntry)
     → realm ≡ named → a ≡ b → found ≡ walk m realm ipa a → entry ≡ entry_at m found ipa
     → said found entry ≡ said (walk m named ipa b) (entry_at m (walk m named ipa b) ipa)

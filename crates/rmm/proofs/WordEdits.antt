@@ -21,7 +21,7 @@ in_or_out k i =
     (λ (from : 8 * i ≤ k). ⊎_elim (λ (high : k < 8 * i + 8). inl (from, high)) (λ (above : 8 * i + 8 ≤ k). inr (inr above)) (cases_lt k (8 * i + 8)))
     (cases_lt k (8 * i))
 
--- the bytes of another word
+-- a byte of one word is not among the bytes of another word
 out_of_other : (k i j : ℕ) → i ≢ j → IsIn k i → IsOut k j
 out_of_other k i j apart (low, high) =
     ⊎_elim (λ (below : i < j). inl (omega arith)) (λ (above : j ≤ i). inr (omega arith)) (cases_lt i j)
@@ -65,7 +65,7 @@ module _ (page : List ℕ) (i v j w : ℕ) (whole : length page ≡ 4096) (first
   len : length (page_with_word page i v) ≡ 4096
   len = length-page_with_word page i v whole first
 
-  -- words at two places, in either order
+  -- words at two different indexes can be written in either order
   pub page_with_word-swap : i ≢ j → page_with_word (page_with_word page i v) j w ≡ page_with_word (page_with_word page j w) i v
   page_with_word-swap apart =
       let other : length (page_with_word page j w) ≡ 4096 = length-page_with_word page j w whole second in
@@ -90,7 +90,7 @@ module _ (page : List ℕ) (i v j w : ℕ) (whole : length page ≡ 4096) (first
       (in_or_out k j))
       (in_or_out k i))
 
--- a word that is written over
+-- of two writes of the same word, only the later one remains
 pub page_with_word-over : (page : List ℕ) (i v w : ℕ) → length page ≡ 4096 → i < 512 → page_with_word (page_with_word page i v) i w ≡ page_with_word page i w
 page_with_word-over page i v w whole index =
     let len : length (page_with_word page i v) ≡ 4096 = length-page_with_word page i v whole index in
@@ -110,7 +110,7 @@ length-with_words_from first zero f page within whole = whole
 length-with_words_from first (suc count) f page within whole =
     length-page_with_word (with_words_from first count f page) (first + count) (f (first + count)) (length-with_words_from first count f page (omega arith) whole) (omega arith)
 
--- a word beside those that are written
+-- writing a range of words leaves every other word of the page unchanged
 pub word_of_page-with_words_from_other : (first count : ℕ) (f : ℕ → ℕ) (page : List ℕ) (i : ℕ) → first + count ≤ 512 → length page ≡ 4096 → i < 512 → (i < first) ⊎ (first + count ≤ i)
     → word_of_page (with_words_from first count f page) i ≡ word_of_page page i
 unfolding with_words_from
@@ -119,7 +119,7 @@ word_of_page-with_words_from_other first (suc count) f page i within whole index
     word_of_page-page_with_word_other (with_words_from first count f page) (first + count) (f (first + count)) (length-with_words_from first count f page (omega arith) whole) (omega arith) i (omega arith) index
     ∙ word_of_page-with_words_from_other first count f page i (omega arith) whole index (⊎_elim (λ (below : i < first). inl below) (λ (above : first + suc count ≤ i). inr (omega arith)) beside)
 
--- the same words
+-- functions with the same values below the end of the range write the same words
 pub with_words_from-same : (first count : ℕ) (f g : ℕ → ℕ) (page : List ℕ) → ((i : ℕ) → i < first + count → f i ≡ g i) → with_words_from first count f page ≡ with_words_from first count g page
 unfolding with_words_from
 with_words_from-same first zero f g page same = refl
@@ -127,7 +127,7 @@ with_words_from-same first (suc count) f g page same =
     ap (λ (p : List ℕ). page_with_word p (first + count) (f (first + count))) (with_words_from-same first count f g page (λ i lt. same i (omega arith)))
     ∙ ap (page_with_word (with_words_from first count g page) (first + count)) (same (first + count) (omega arith))
 
--- the words that a function gives, but for one
+-- the function `f`, but with the value `w` at index `j`
 abbrev pub but : ℕ → ℕ → (ℕ → ℕ) → ℕ → ℕ
 but j w f i = if i == j then w else f i
 
@@ -137,7 +137,7 @@ but_there j w i f same = sym (cond-true (i == j) w (f i) (eq-eqb i j same))
 but_elsewhere : (j w i : ℕ) (f : ℕ → ℕ) → i ≢ j → f i ≡ but j w f i
 but_elsewhere j w i f other = sym (cond-false (i == j) w (f i) (ne_eqb i j other))
 
--- one of the words is written once more
+-- writing one of the written words again gives the page written with the new word at that index
 pub page_with_word-with_words_from : (first count : ℕ) (f : ℕ → ℕ) (page : List ℕ) (j w : ℕ) → first + count ≤ 512 → length page ≡ 4096 → first ≤ j → j < first + count
     → page_with_word (with_words_from first count f page) j w ≡ with_words_from first count (but j w f) page
 unfolding with_words_from

@@ -19,12 +19,13 @@ pub failed_end : (rows : List EvaluatedCheck) (i : ℕ) → length rows ≤ i �
 unfolding first_failed
 failed_end rows i past = ap first_failed (drop_all i rows past)
 
--- a row that is no refusal is skipped, and one that is a refusal decides
+-- a check that did not fail is skipped
 pub none_here : (r : EvaluatedCheck) (outcome : CheckOutcome) (rest : Option FailedCondition) → None ≡ refusal_or r outcome None → refusal_or r outcome rest ≡ rest
 none_here r NotMade rest h = refl
 none_here r Passed rest h = refl
 none_here r (Failed answer) rest h = cc
 
+-- a check that failed decides the refusal
 pub some_here : (r : EvaluatedCheck) (outcome : CheckOutcome) (rest : Option FailedCondition) (found : FailedCondition) → Some found ≡ refusal_or r outcome None → refusal_or r outcome rest ≡ Some found
 some_here r NotMade rest found h = cc
 some_here r Passed rest found h = cc

@@ -15,26 +15,27 @@ use Rattle.rmm_checks.proofs.Sure.{sure}
 use Rattle.rmm_checks.proofs.Walked.{sure_parts}
 use Rattle.rmm_granules.proofs.Widths.{half_fits}
 
--- the checks that the check of a walk comes after
+-- the conditions on which the check of a walk depends
 abbrev pub before_walk : List Condition
 before_walk = RdState ∷ IpaAlign ∷ IpaBound ∷ []
 
--- the checks that the check of a walk in a NEW realm comes after
+-- the conditions on which the check of a walk in a NEW realm depends
 abbrev pub before_new_walk : List Condition
 before_new_walk = RdState ∷ IpaAlign ∷ IpaBound ∷ RealmState ∷ []
 
--- a check that is sure to pass does not fail, if it is the only one of its condition
+-- a check that is sure to pass does not fail, and the checks on which it depends are sure to pass, if no other check
+-- has its condition
 pub known : (n : ℕ) (cs : List Check) (x : Condition) (fails rest : Bool) → sure n cs x ≡ true → sure n cs x ≡ ((not fails && rest) || false) → (fails ≡ false) × (rest ≡ true)
 known n cs x fails rest passes is = sure_parts fails rest (sym is ∙ passes)
 
--- the checks that the check of a walk to the start of a range comes after
+-- the conditions on which the check of a walk to the start of a NEW realm's range depends
 abbrev pub before_range : List Condition
 before_range = Size ∷ RdState ∷ BaseBound ∷ TopBound ∷ RealmState ∷ []
 
 abbrev pub before_request : List Condition
 before_request = Size ∷ RecGranState ∷ RdState ∷ RecState ∷ RecOwner ∷ BaseBound ∷ TopBound ∷ []
 
--- the granule of a page of the host is one of the machine
+-- if the check that a page is one of the host's is sure to pass, the page's address is in the machine
 pub page_inside : (cs : List Check) (pas bound : Condition) (host inside : Bool) → sure 2 cs pas ≡ true
     → sure 2 cs pas ≡ ((not (not host) && list_all (sure 1 cs) (bound ∷ [])) || false)
     → sure 1 cs bound ≡ ((not (not inside) && true) || false) → inside ≡ true
@@ -62,13 +63,13 @@ half_in_space : (s2sz ipa : ℕ) → nat_lt ipa (2 ^ (s2sz - 1)) ≡ true → na
 half_in_space s2sz ipa h = lt-ltb ipa (2 ^ s2sz) (half_fits s2sz ipa (ltb-true ipa (2 ^ (s2sz - 1)) h))
 
 module _ (m : Machine) (rd ipa : ℕ) where
-  -- an RD, a level and an address of its realm
+  -- a walk can be made to a level of at most 3, for an address in the space of an RD's realm
   pub may_walk : (to : ℕ) → is_none (realm_of (state_at m rd)) ≡ false → nat_le to 3 ≡ true → is_in_space (realm_at m rd) ipa ≡ true → can_walk m rd ipa to ≡ true
   may_walk to named low within =
       and_from (is_some (realm_of (state_at m rd))) (nat_le to 3 && is_in_space (realm_at m rd) ipa) (some_realm (realm_of (state_at m rd)) named)
       (and_from (nat_le to 3) (is_in_space (realm_at m rd) ipa) low within)
 
-  -- an address of the protected half
+  -- a walk to level 3 can be made for a protected address of an RD's realm
   pub may_walk_page : is_none (realm_of (state_at m rd)) ≡ false → is_protected (realm_at m rd) ipa ≡ true → can_walk m rd ipa 3 ≡ true
   may_walk_page named protected = may_walk 3 named refl (half_in_space (realm_at m rd).s2sz ipa protected)
 
@@ -97,7 +98,8 @@ module _ (m : Machine) (rd ipa : ℕ) where
         let below = (known 2 cs IpaAlign fails (list_all (sure 1 cs) (LevelBound ∷ [])) second align).1 in
         not-false level_ok (known 1 cs LevelBound (not level_ok) true (and_parts (sure 1 cs LevelBound) true below).0 is).0
 
-    -- the walk to the table above a level
+    -- if the checks before a walk are sure to pass, the given level is from `least` to 3, and the walk to the level
+    -- above it can be made
     pub above_walk : (least level : ℕ) (fails : Bool)
         → sure 2 cs RdState ≡ ((not (is_none (realm_of (state_at m rd))) && list_all (sure 1 cs) (RdBound ∷ [])) || false)
         → sure 2 cs IpaAlign ≡ ((not fails && list_all (sure 1 cs) (LevelBound ∷ [])) || false)
@@ -108,7 +110,7 @@ module _ (m : Machine) (rd ipa : ℕ) where
         let level_ok = and_parts (nat_le least level) (nat_le level 3) (levelled fails (is_level least level) align_is level_is) in
         (may_walk (level - 1) (named rd_is) (one_less level level_ok.1) (within (is_in_space (realm_at m rd) ipa) bound_is), level_ok.1, level_ok.0)
 
-    -- the walk to an entry of a level of the unprotected half
+    -- if the checks before a walk are sure to pass, the walk for an unprotected address to the given level can be made
     pub unprotected_walk : (block least level : ℕ) (fails : Bool)
         → sure 2 cs RdState ≡ ((not (is_none (realm_of (state_at m rd))) && list_all (sure 1 cs) (RdBound ∷ [])) || false)
         → sure 2 cs IpaAlign ≡ ((not fails && list_all (sure 1 cs) (LevelBound ∷ [])) || false)
@@ -121,14 +123,15 @@ module _ (m : Machine) (rd ipa : ℕ) where
         let half = and_parts (not (is_protected (realm_at m rd) ipa)) (is_in_space (realm_at m rd) ipa) (within (is_unprotected (realm_at m rd) ipa) bound_is) in
         may_walk level (named rd_is) level_ok.1 half.1
 
-    -- the walk to the entry of a page
+    -- if the checks before a walk are sure to pass, the walk for a protected address to level 3 can be made
     pub page_walk :
         sure 2 cs RdState ≡ ((not (is_none (realm_of (state_at m rd))) && list_all (sure 1 cs) (RdBound ∷ [])) || false)
         → sure 2 cs IpaBound ≡ ((not (not (is_protected (realm_at m rd) ipa)) && list_all (sure 1 cs) (RdState ∷ [])) || false)
         → can_walk m rd ipa 3 ≡ true
     page_walk rd_is bound_is = may_walk_page (named rd_is) (within (is_protected (realm_at m rd) ipa) bound_is)
 
-  -- the walk to the entry of a page of a NEW realm
+  -- if the checks before a walk in a NEW realm are sure to pass, the walk for a protected address to level 3 can be
+  -- made
   pub new_page_walk : (cs : List Check) → list_all (sure 2 cs) before_new_walk ≡ true
       → sure 2 cs RdState ≡ ((not (is_none (realm_of (state_at m rd))) && list_all (sure 1 cs) (RdBound ∷ [])) || false)
       → sure 2 cs IpaBound ≡ ((not (not (is_protected (realm_at m rd) ipa)) && list_all (sure 1 cs) (RdState ∷ [])) || false)
@@ -140,7 +143,7 @@ module _ (m : Machine) (rd ipa : ℕ) where
       may_walk_page (known 2 cs RdState (is_none (realm_of (state_at m rd))) (list_all (sure 1 cs) (RdBound ∷ [])) one.0 rd_is).0
       (not-false (is_protected (realm_at m rd) ipa) (known 2 cs IpaBound (not (is_protected (realm_at m rd) ipa)) (list_all (sure 1 cs) (RdState ∷ [])) three.0 bound_is).0)
 
-  -- the walk to the start of a range that a NEW realm gets
+  -- if the checks of a range in a NEW realm are sure to pass, a walk for its first address to level 3 can be made
   pub range_walk : (cs : List Check) → list_all (sure 2 cs) before_range ≡ true
       → sure 2 cs RdState ≡ ((not (is_none (realm_of (state_at m rd))) && list_all (sure 1 cs) (RdBound ∷ [])) || false)
       → sure 2 cs BaseBound ≡ ((not (not (is_protected (realm_at m rd) ipa)) && list_all (sure 1 cs) (RdState ∷ [])) || false)
@@ -152,7 +155,7 @@ module _ (m : Machine) (rd ipa : ℕ) where
       may_walk_page (known 2 cs RdState (is_none (realm_of (state_at m rd))) (list_all (sure 1 cs) (RdBound ∷ [])) two.0 rd_is).0
       (not-false (is_protected (realm_at m rd) ipa) (known 2 cs BaseBound (not (is_protected (realm_at m rd) ipa)) (list_all (sure 1 cs) (RdState ∷ [])) three.0 bound_is).0)
 
-  -- the walk to the start of a range that a REC of the realm asked for
+  -- if the checks of a range that a REC asked for are sure to pass, a walk for its first address to level 3 can be made
   pub request_walk : (cs : List Check) (owner ends none : Bool) → list_all (sure 2 cs) before_request ≡ true
       → sure 2 cs Size ≡ ((not none && true) || false)
       → sure 2 cs RdState ≡ ((not (is_none (realm_of (state_at m rd))) && list_all (sure 1 cs) (RdBound ∷ [])) || false)

@@ -5,6 +5,6 @@ use Rattle.rmm_model.specs.declared.granule.RmmGranuleState.TheVariants.{Undeleg
 use Rattle.rmm_model.specs.Granule.{of_no_realm}
 use Rattle.rmm_model.specs.Machine.{Machine, granule_count, granule_at}
 
--- a granule outside the machine is an UNDELEGATED one
+-- a granule outside the machine is UNDELEGATED and has no owner
 pub outside : (m : Machine) (granule : ℕ) → granule_count m ≤ granule → granule_at m granule ≡ of_no_realm Undelegated
 outside m granule past = get_or_past m.granules granule (of_no_realm Undelegated) past

@@ -83,7 +83,7 @@ one_passed : (condition : Condition) → first_failed (row condition Passed ∷ 
 unfolding first_failed
 one_passed condition = refl
 
--- each check comes after ones that are before it in the list
+-- each check depends only on conditions in `seen` or of checks before it in the list
 abbrev pub is_ordered : List Condition → List Check → Bool
 is_ordered seen [] = true
 is_ordered seen (c ∷ cs) = list_all (is_among seen) c.after && is_ordered (c.refusal.condition ∷ seen) cs
@@ -186,7 +186,8 @@ other_one passed rows condition outcome other before x =
     ∙ sym (passed-on rows (row condition outcome) x)
 
 module _ (passed : List Condition) (c : Check) (cs : List Check) (rows : List EvaluatedCheck) where
-  -- the words of the rows after a row, by its outcome
+  -- if a check has the given outcome, the words of failed checks are those of the earlier rows, of this check and of
+  -- the rest
   words_by : (outcome : CheckOutcome) → row_after rows c ≡ row c.refusal.condition outcome → (rest : List Word)
       → failed_words (evaluated_after (rows ++ row c.refusal.condition outcome ∷ []) cs) ≡ failed_words (rows ++ row c.refusal.condition outcome ∷ []) ++ rest
       → failed_words (evaluated_after (rows ++ row_after rows c ∷ []) cs) ≡ failed_words rows ++ (failed_words (row c.refusal.condition outcome ∷ []) ++ rest)

@@ -12,25 +12,25 @@ unfolding evaluated_after
 then rows [] ys = refl
 then rows (x ∷ xs) ys = then (rows ++ row_after rows x ∷ []) xs ys
 
--- checks are evaluated, and further ones after them
+-- evaluating two lists of checks one after another is evaluating their concatenation
 pub on : {r s t : List EvaluatedCheck} {xs ys : List Check} → Adds r xs s → Adds s ys t → Adds r (xs ++ ys) t
 on {r} {s} {t} {xs} {ys} first second = record { rows = second.rows ∙ ap (λ (now : List EvaluatedCheck). evaluated_after now ys) first.rows ∙ then r xs ys }
 
--- a check is evaluated by the test of its definition
+-- a check may be evaluated with an equal test in place of its own
 pub told : {r s : List EvaluatedCheck} {condition : Condition} {after : List Condition} {test fails : Bool} {answer : SmcResult} → test ≡ fails
     → Adds r (check condition after test answer ∷ []) s → Adds r (check condition after fails answer ∷ []) s
 told {r} {s} {condition} {after} {test} {fails} {answer} same added = subst (λ (b : Bool). Adds r (check condition after b answer ∷ []) s) same added
 
--- a check is evaluated by the answer of its definition
+-- a check may be evaluated with an equal answer in place of its own
 pub told_answer : {r s : List EvaluatedCheck} {condition : Condition} {after : List Condition} {fails : Bool} {given answer : SmcResult} → given ≡ answer
     → Adds r (check condition after fails given ∷ []) s → Adds r (check condition after fails answer ∷ []) s
 told_answer {r} {s} {condition} {after} {fails} {given} {answer} same added = subst (λ (a : SmcResult). Adds r (check condition after fails a ∷ []) s) same added
 
--- checks are evaluated after none
+-- adding checks to an empty list gives the evaluation of these checks alone
 pub from_none : {r s : List EvaluatedCheck} {xs : List Check} → r ≡ [] → Adds r xs s → s ≡ evaluated_after [] xs
 from_none {r} {s} {xs} none added = added.rows ∙ ap (λ (now : List EvaluatedCheck). evaluated_after now xs) none
 
--- the test that there is none
+-- a test that is false exactly when an option is present is the test that the option is absent
 pub none_told : {X : Type 0} (o : Option X) (b : Bool) → is_some o ≡ not b → b ≡ is_none o
 none_told None true h = refl
 none_told None false h = cc

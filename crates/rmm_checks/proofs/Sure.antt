@@ -52,7 +52,8 @@ pass_parts false fails answer h = (cc, cc)
 
 -- ---- checks that do not fail
 
--- a check of a condition does not fail, and each that it comes after does not, down to a depth
+-- some check of a condition does not fail, and the same holds of each condition on which that check depends, down to
+-- the given depth
 abbrev pub sure : ℕ → List Check → Condition → Bool
 sure zero cs x = true
 sure (suc n) cs x = list_any (λ c. (condition_number c.refusal.condition == condition_number x && not c.fails) && list_all (sure n cs) c.after) cs
@@ -108,7 +109,7 @@ unmade cs after n fails =
     (λ (not_made : is_made (evaluated_after [] cs) after ≡ false). not_made)
     (cases_Bool (is_made (evaluated_after [] cs) after))
 
--- a condition of no check is not passed
+-- a condition whose every check fails, or that has no check, is not passed
 pub absent : (cs : List Check) (x : Condition) → sure 1 cs x ≡ false → is_passed (evaluated_after [] cs) x ≡ false
 absent cs x none =
     ⊎_elim

@@ -26,7 +26,7 @@ same_outcome false test fails given answer same = refl
 abbrev row : Condition → CheckOutcome → EvaluatedCheck
 row condition outcome = record { condition = condition; outcome = outcome }
 
--- a check is evaluated by the test and the answer of its definition, which it has if it is made
+-- a check is evaluated as defined if its test and its answer are those of the definition whenever the check is made
 pub told_where : {r s : List EvaluatedCheck} {condition : Condition} {after : List Condition} {test fails : Bool} {given answer : SmcResult}
     → (is_made r after ≡ true → (test ≡ fails) × (given ≡ answer))
     → Adds r (check condition after test given ∷ []) s → Adds r (check condition after fails answer ∷ []) s
@@ -41,7 +41,7 @@ one_made : (s : List EvaluatedCheck) (x : Condition) → is_made s (x ∷ []) �
 unfolding is_made
 one_made s x made = (and_parts (is_passed s x) true made).0
 
--- a check is made after one that was made and passed
+-- if a condition is passed only once its check is added, that check was made and its test is false
 pub passed_here : {r s : List EvaluatedCheck} {x : Condition} {after : List Condition} {test : Bool} {answer : SmcResult}
     → is_passed r x ≡ false → Adds r (check x after test answer ∷ []) s → is_made s (x ∷ []) ≡ true → (is_made r after ≡ true) × (test ≡ false)
 unfolding evaluated_after
@@ -55,7 +55,7 @@ passed_here {r} {s} {x} {after} {test} {answer} none added made =
     (λ (new : here ≡ true). pass_parts (is_made r after) test answer (and_parts (condition_number x == condition_number x) (is_pass (row_after r c).outcome) new).1)
     (or_cases (is_passed r x) here passed)
 
--- a check of another condition passes nothing
+-- a condition that is not passed is still not passed after a check of another condition
 pub absent_on : {r s : List EvaluatedCheck} {y : Condition} {after : List Condition} {test : Bool} {answer : SmcResult} (x : Condition)
     → is_passed r x ≡ false → (condition_number y == condition_number x) ≡ false → Adds r (check y after test answer ∷ []) s → is_passed s x ≡ false
 unfolding evaluated_after
@@ -88,13 +88,14 @@ absent_in {r} cs x rows none = ap (λ (now : List EvaluatedCheck). is_passed now
 pub made_in : {r : List EvaluatedCheck} (cs : List Check) (after : List Condition) (n : ℕ) → r ≡ evaluated_after [] cs → is_made r after ≡ true → list_all (sure n cs) after ≡ true
 made_in {r} cs after n rows made = made-sure cs after n (ap (λ (now : List EvaluatedCheck). is_made now after) (sym rows) ∙ made)
 
--- the one check of a condition that is sure to pass does not fail, and those that it comes after are sure to pass
+-- if one check is the only one of its condition and is sure to pass, it does not fail, and what it depends on is sure
+-- to pass
 pub sure_parts : (fails rest : Bool) → ((not fails && rest) || false) ≡ true → (fails ≡ false) × (rest ≡ true)
 sure_parts true rest h = (cc, cc)
 sure_parts false true h = (refl, refl)
 sure_parts false false h = (cc, cc)
 
--- the checks of a list are of other conditions
+-- no check of a list has this condition
 abbrev pub are_others : Condition → List Check → Bool
 are_others x [] = true
 are_others x (c ∷ cs) = not (condition_number c.refusal.condition == condition_number x) && are_others x cs
@@ -111,13 +112,13 @@ before_list x (c ∷ cs) r others passed =
     ∙ sym (passed-on r (row_after r c) x)
     ∙ later
 
--- a check is made after one that was made and passed before a list of others
+-- a condition that is passed after a list of checks of other conditions was passed before that list
 pub made_before_all : {r s : List EvaluatedCheck} {cs : List Check} (x : Condition) → Adds r cs s → are_others x cs ≡ true → is_made s (x ∷ []) ≡ true → is_made r (x ∷ []) ≡ true
 unfolding is_made
 made_before_all {r} {s} {cs} x added others made =
     and_from (is_passed r x) true (before_list x cs r others (ap (λ (now : List EvaluatedCheck). is_passed now x) (sym added.rows) ∙ one_made s x made)) refl
 
--- the first of the checks that a check is made after was made and passed
+-- if a check that depends on several conditions is made, the first of these is passed
 pub first_made : (s : List EvaluatedCheck) (x : Condition) (rest : List Condition) → is_made s (x ∷ rest) ≡ true → is_made s (x ∷ []) ≡ true
 unfolding is_made
 first_made s x rest made = and_from (is_passed s x) true (and_parts (is_passed s x) (list_all (is_passed s) rest) made).0 refl

@@ -1,4 +1,5 @@
-//! Checks on the translation table entries at which walks end, and RMI_ERROR_RTT answers with an address.
+//! Checks on the translation table entries at which walks end, and functions for RMI_ERROR_RTT answers that have an
+//! address.
 ghost use Rattle.std.specs.Prelude.{◌≡◌, ◌+◌, ◌≤◌, ◌==◌, Bool, not, nat_le, true, false, [], ◌∷◌, length, is_some};
 ghost use Rattle.rmi_abi.specs.declared.registers.SmcResult.{SmcResult as Registers};
 ghost use Rattle.rmm_model.specs.declared.condition.Condition.TheVariants.{RttWalk as WalkEnds, RtteState};

@@ -6,7 +6,7 @@ use Rattle.rmm_model.specs.Machine.{Machine, granule_at}
 use Rattle.rmm_model.specs.Command.RealmCreate.{are_delegated}
 
 module _ (m : Machine) (first count k : ℕ) where
-  -- one that is DELEGATED is passed
+  -- if granule `first + k` is DELEGATED, the granules after it decide the test
   pub are_delegated-on : k < count → is_delegated (granule_at m (first + k)).state ≡ true → are_delegated m (first + k) (count - k) ≡ are_delegated m (first + (k + 1)) (count - (k + 1))
   unfolding are_delegated
   are_delegated-on lt is =
@@ -16,7 +16,7 @@ module _ (m : Machine) (first count k : ℕ) where
       ∙ ap (λ (b : Bool). b && are_delegated m (first + k + 1) (count - (k + 1))) is
       ∙ ap (λ (i : ℕ). are_delegated m i (count - (k + 1))) next
 
-  -- one that is not decides
+  -- if granule `first + k` is not DELEGATED, the test fails
   pub are_delegated-not : k < count → is_delegated (granule_at m (first + k)).state ≡ false → are_delegated m (first + k) (count - k) ≡ false
   unfolding are_delegated
   are_delegated-not lt is =

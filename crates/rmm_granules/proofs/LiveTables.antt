@@ -6,7 +6,7 @@ use Rattle.rmm_model.specs.Table.{has_live}
 use Rattle.rmm_model.specs.Command.RealmDestroy.{has_live_table}
 
 module _ (m : Machine) (first count k : ℕ) where
-  -- what a table decides
+  -- the test succeeds from table `first + k` on if that table has a live entry, or if the test succeeds after it
   by_table : (is : Bool) → k < count → has_live (page_in m (first + k)) ≡ is → has_live_table m (first + k) (count - k) ≡ (is || has_live_table m (first + (k + 1)) (count - (k + 1)))
   unfolding has_live_table
   by_table is lt tested =

@@ -4,7 +4,7 @@ use Rattle.std.proofs.Common.{◌≡◌, ℕ, suc, ◌+◌, ◌-◌, ◌<◌, �
 use Rattle.rmm_model.specs.Command.RecCreate.{all_from}
 
 module _ (test : ℕ → Bool) (count k : ℕ) where
-  -- what the test of number k decides
+  -- all numbers from `k` on pass if `k` passes and all numbers after it do
   by_test : (is : Bool) → k < count → test k ≡ is → all_from test k (count - k) ≡ (is && all_from test (k + 1) (count - (k + 1)))
   unfolding all_from
   by_test is lt tested =

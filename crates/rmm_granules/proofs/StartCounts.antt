@@ -21,7 +21,7 @@ all_four a b c d h =
     let front = and_parts a b middle.0 in
     record { first = front.0; second = front.1; third = middle.1; fourth = last.1 }
 
--- as many parts as hold a number, rounded up
+-- a number is at most its quotient by `d`, rounded up, times `d`
 ceiling : (n d : ℕ) → 0 < d → n ≤ (n + (d - 1)) / d * d
 ceiling n d some =
     let whole = div-add-mod' (n + (d - 1)) d in

@@ -18,13 +18,13 @@ walk_on m ipa table level to child lt leads =
     ap (λ (n : ℕ). walk_from m ipa n (at table level)) more
     ∙ ap (λ o. option_map_or (λ (next : ℕ). walk_from m ipa (to - (level + 1)) (at next (level + 1))) o (at table level)) leads
 
--- where it leads to none, the walk ends
+-- where the entry leads to no table, the walk ends
 pub walk_ends : (m : Machine) (ipa levels : ℕ) (place : RttWalk) → table_below m (entry_at m place ipa) ≡ None → walk_from m ipa levels place ≡ place
 unfolding walk_from
 walk_ends m ipa zero place none = refl
 walk_ends m ipa (suc levels) place none = ap (λ o. option_map_or (λ (next : ℕ). walk_from m ipa levels (at next (place.level + 1))) o place) none
 
--- and where its level is reached
+-- a walk at or below the requested level ends at once
 pub walk_reached : (m : Machine) (ipa level to : ℕ) (place : RttWalk) → to ≤ level → walk_from m ipa (to - level) place ≡ place
 unfolding walk_from
 walk_reached m ipa level to place done =

@@ -12,7 +12,8 @@ use Rattle.rmm_model.specs.Realm.{IsServed}
 abbrev Served : ℕ → RmmGranule → Type 0
 Served count granule = IfSome (realm_of granule.state) (IsServed count)
 
--- starting tables stay in the machine where a granule gets a realm that is served, or none
+-- starting tables stay in the machine if a granule becomes an RD whose realm satisfies `IsServed`, or gets a state
+-- other than RD
 pub HasTables-set : (granules : List RmmGranule) (g : ℕ) (kept : RmmGranule) → g < length granules → HasTables granules → IfSome (realm_of kept.state) (IsServed (length granules)) → HasTables (set granules g kept)
 HasTables-set granules g kept inside roots served = record {
   each = λ h.
@@ -33,7 +34,7 @@ undelegated count g =
     (let len = length-replicate count (of_no_realm Undelegated) in omega arith))
     (cases_lt g count)
 
--- there are no realms at the start
+-- starting tables lie in the machine at the start, when there is no realm
 pub HasTables-replicate : (count : ℕ) → HasTables (replicate count (of_no_realm Undelegated))
 HasTables-replicate count = record {
   each = λ g. subst (λ (granule : RmmGranule). Served (length (replicate count (of_no_realm Undelegated))) granule) (sym (undelegated count g)) tt;

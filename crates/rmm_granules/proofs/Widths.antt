@@ -11,7 +11,7 @@ space_fits width ipa narrow within =
     (λ (most : 48 ≤ width). let same : width ≡ 48 = omega arith in subst (λ (w : ℕ). ipa < 2 ^ w) same within)
     (cases_lt width 48)
 
--- an address of a realm's lower half is one of the realm
+-- an address in the lower half of an address space is in that space
 pub half_fits : (width ipa : ℕ) → ipa < 2 ^ (width - 1) → ipa < 2 ^ width
 half_fits width ipa within =
     ⊎_elim

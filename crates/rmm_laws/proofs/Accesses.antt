@@ -43,7 +43,7 @@ IsPlainAt m rd h = (h < length m.granules) × (is_memory_state (granule_at m h).
 abbrev pub IsReached : Machine → ℕ → ℕ → Type 0
 IsReached m rd h = IsPlainAt m rd h × ((granule_at m h ≡ of_realm rd Data) ⊎ IsHostAt m h)
 
--- the page of an offset is one of an entry
+-- an offset below the size of an entry lies in one of the entry's pages
 pub page_below : (level offset : ℕ) → offset < entry_size level → offset / 4096 < page_count level
 unfolding entry_size
 page_below level offset =
@@ -51,7 +51,7 @@ page_below level offset =
     cond_both (level == 2) (2 ^ 21) (if level == 1 then 2 ^ 30 else 2 ^ 39) (λ (s : ℕ). offset < s → offset / 4096 < s / 4096) (λ sure lt. omega arith) (λ never.
     cond_both (level == 1) (2 ^ 30) (2 ^ 39) (λ (s : ℕ). offset < s → offset / 4096 < s / 4096) (λ sure lt. omega arith) (λ never lt. omega arith)))
 
--- an address within a granule's address and an offset
+-- an offset from the beginning of a granule moves an address on by one granule for each 4,096 bytes
 pub number_on : (m : Machine) (address first offset : ℕ) → address ≡ m.settings.base + first * 4096 → number_of m (address + offset) ≡ first + offset / 4096
 unfolding number_of
 number_on m address first offset is = omega arith
@@ -64,7 +64,7 @@ named_number m address h is =
     (λ (never : is_inside m address ≡ false). (let s : None ≡ Some h = sym (cond-false (is_inside m address) (Some (number_of m address)) None never) ∙ is in absurd (cc)))
     (cases_Bool (is_inside m address))
 
--- the page of the host at an address is not of the secure world, wherever in the page the address is
+-- two numbers are on the same side of a bound, if each reaches the bound whenever the other does
 same_side : (s a b : ℕ) → (s ≤ a → s ≤ b) → (s ≤ b → s ≤ a) → nat_le s a ≡ nat_le s b
 same_side s a b to from =
     ⊎_elim
@@ -84,7 +84,7 @@ secure_page m address sound inside =
     ap (λ (b : Bool). b && nat_lt ((begin - s) / 4096) m.settings.secure_count) (same_side s begin address (λ up. omega arith) (λ up. omega arith))
     ∙ ap (λ (k : ℕ). nat_le s address && nat_lt k m.settings.secure_count) number
 
--- a guest reaches no page of the secure world
+-- a page of the host begins outside the secure world
 pub reached_normal : (m : Machine) (h : ℕ) → IsSound m → IsHostAt m h → is_secure m (m.settings.base + h * 4096) ≡ false
 reached_normal m h sound at =
     let address : ℕ = at.0 in
@@ -92,7 +92,7 @@ reached_normal m h sound at =
     ap (λ (k : ℕ). is_secure m (m.settings.base + k * 4096)) at.2 ∙ secure_page m address sound parts.0 ∙ not-true (is_secure m address) (and_parts (is_undelegated (state_at m address)) (not (is_secure m address)) parts.1).1
 
 module _ (m : Machine) (proper : IsLinked m) (rd : ℕ) (realm : RmmRealm) (is : (granule_at m rd).state ≡ Rd realm) (ipa : ℕ) where
-  -- a page of a mapping
+  -- the granule at an offset in a memory entry of the realm's table is one that an access can reach
   by_memory : (place : RttWalk) (i offset h : ℕ) (entry : RmmRttEntry) → IsPlace m proper rd ipa place → i < 512 → entry_in_page (page_in m place.table) i ≡ entry → LeadsInside m entry
       → is_memory entry ≡ true → offset < entry_size place.level → granule_named m (descriptor_of entry + offset) ≡ Some h → IsReached m rd h
   by_memory place i offset h (Assigned ripas address) place_is lt entry_is leads memory within named =
@@ -112,7 +112,7 @@ module _ (m : Machine) (proper : IsLinked m) (rd : ℕ) (realm : RmmRealm) (is :
       ((taken_inside m h (λ free. cc), ap is_memory_state is_data, inl there), inl there)
   by_memory place i offset h _ place_is lt entry_is leads memory within named = absurd (cc)
 
-  -- what is accessed
+  -- the granule that an access reaches, if it reaches any, is one that the realm's guest can reach
   abbrev pub IsPlainIfOk : Result ℕ StepOutcome → Type 0
   IsPlainIfOk (Ok h) = IsReached m rd h
   IsPlainIfOk (Err outcome) = Unit {0}

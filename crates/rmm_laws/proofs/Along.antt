@@ -23,8 +23,9 @@ pub goes : (m : Machine) (x levels table : ℕ) (p : RttWalk) → table_below m 
 unfolding walk_from
 goes m x levels table p leads = ap (λ (o : Option ℕ). option_map_or (λ (t : ℕ). walk_from m x levels (record { table = t; level = p.level + 1 })) o p) leads
 
--- What holds of the ends of both walks, if it holds of a place at which both go on alike, and of ends from any other
--- place. Tables of the walk are ones of some kind.
+-- The relation `Q` holds of the ends of both walks, if each place of the walk is of one of two kinds. Either both walks
+-- go on alike there and `Q` holds of that place, or `Q` holds of their ends from there. `Good` is a property of the
+-- tables on the way.
 module _ (m n : Machine) (linked : IsLinked m) (halves : HasHalves m) (rd x : ℕ) (realm : RmmRealm) (Good : ℕ → Type 0) (Q : RttWalk → RttWalk → Type 0) where
   abbrev child : RttWalk → ℕ → RttWalk
   child place table = record { table = table; level = place.level + 1 }
@@ -35,7 +36,7 @@ module _ (m n : Machine) (linked : IsLinked m) (halves : HasHalves m) (rd x : �
     pub good : (table : ℕ) → table_below m (entry_at m p x) ≡ Some table → Good table
     pub end : Q p p
 
-  -- both walks from a place end so
+  -- `Q` holds of the ends of both walks from a place
   abbrev pub Ends : ℕ → RttWalk → Type 0
   Ends levels p = Q (walk_from m x levels p) (walk_from n x levels p)
 
@@ -65,7 +66,8 @@ module _ (m n : Machine) (linked : IsLinked m) (halves : HasHalves m) (rd x : �
       (λ (ends : (levels : ℕ) → p.level + levels ≡ 3 → Ends levels p). ends (suc levels) far)
       (each p seat good)
 
-  -- the walks of an address of a realm, which has the same starting tables in both machines
+  -- under the condition `Each`, `Q` holds of the ends of an address's walks, if the realm has the same starting tables
+  -- in both machines
   pub along : (after : RmmRealm) → after.start_level ≡ realm.start_level → after.first_table ≡ realm.first_table → (granule_at m rd).state ≡ Rd realm → x < 2 ^ realm.s2sz
       → Good (start_of realm x).table → Each → Q (walk m realm x 3) (walk n after x 3)
   unfolding walk start_of

@@ -44,18 +44,18 @@ use Rattle.rmm_laws.proofs.Passed.{Passed, passed}
 
 -- ---- own answers
 
--- the words of commands that are performed
+-- a word is RMI_SUCCESS, or the word for a REC that runs on
 abbrev pub IsOwn : Word → Type 0
 IsOwn Success = Unit {0}
 IsOwn Running = Unit {0}
 IsOwn _ = ⊥
 
--- a REC that is entered leaves or runs on
+-- the word of the answer to RMI_REC_ENTER satisfies `IsOwn`, whether the REC leaves or runs on
 entered : (leaves : Bool) → IsOwn (entered_answer leaves).word
 entered true = tt
 entered false = tt
 
--- the own answer of no command refuses
+-- the word of each command's own answer satisfies `IsOwn`
 pub own : (call : Call) (m : Machine) → IsOwn (command_of call m).answer.word
 unfolding version features granule_delegate granule_undelegate realm_create realm_activate rec_aux_count rtt_read_entry rtt_create rtt_destroy realm_destroy rtt_fold rtt_map_unprotected rtt_unmap_unprotected data_create data_create_unknown data_destroy rtt_init_ripas rtt_set_ripas rec_create rec_destroy rec_enter psci_complete
 own (Version requested) m = tt
@@ -158,7 +158,7 @@ no_words seen (c ∷ cs) ok =
     (λ (unmade : list_all (is_among seen) c.after ≡ false). words_unmade seen c cs unmade ∙ no_words seen cs ok.1)
     (cases_Bool (list_all (is_among seen) c.after))
 
--- the first check that fails is made, and its word is one of them
+-- the word of the first check that fails is the first of the failed checks' words, and it refuses the call
 first_word : (seen : List Condition) (cs : List Check) (refusal : FailedCondition) → refuses seen cs ≡ true → first_failing cs ≡ Some refusal
     → (more : List Word) × (words_after seen cs ≡ refusal.answer.word ∷ more) × (is_refusal refusal.answer.word ≡ true)
 first_word seen [] refusal all is = absurd (cc)
@@ -176,7 +176,7 @@ first_word seen (c ∷ cs) refusal all is =
     (rest.0, words_passed seen c cs parts.1 passes ∙ rest.1, rest.2))
     (cases_Bool c.fails)
 
--- each word of a check refuses
+-- each word of the failed checks in a list is one that refuses the call
 each_word : (seen all : List Condition) (cs : List Check) (word : Word) → refuses all cs ≡ true → IsOneOf word (words_after seen cs) → is_refusal word ≡ true
 unfolding words_after
 each_word seen all [] word refuse is = absurd is
@@ -220,7 +220,7 @@ own_at : (f : Option FailedCondition) (command : Command) (m : Machine) → firs
 own_at (Some refusal) command m is all done = absurd (both_ways (is_refusal refusal.answer.word) done (first_word [] command.checks refusal all is).2)
 own_at None command m is all done = refl
 
--- a call that is not refused has its own answer and its own machine
+-- a call that is not refused has its command's own answer and own machine
 pub done_own : (call : Call) (m : Machine) → is_refusal (performed call m).0.word ≡ false → performed call m ≡ ((command_of call m).answer, (command_of call m).machine)
 unfolding performed
 done_own call m done = own_at (first_failing (command_of call m).checks) (command_of call m) m refl (all_refuse call m) done

@@ -73,12 +73,12 @@ module _ (o : Machine) (g : ℕ) where
   unfolding with_exit_words
   same_exit_words m page exit other same = same_page m page _ other same
 
--- a granule that a write of a guest does not reach
+-- a guest's write leaves each granule that it does not reach as it was
 pub written_apart : (m : Machine) (ipa value g : ℕ) (size : AccessSize) (came : Result ℕ StepOutcome) → ((h : ℕ) → came ≡ Ok h → g ≢ h) → IsSameAt m (after_write m ipa size value came) g
 written_apart m ipa value g size (Ok h) other = same_value m g m h ipa value size (other h refl) (refl, refl)
 written_apart m ipa value g size (Err outcome) other = (refl, refl)
 
--- the granule that an access reaches
+-- the granule that an access reaches is a DATA granule of the realm, or is UNDELEGATED
 pub plain_of : (m : Machine) (linked : IsLinked m) (rd : ℕ) (realm : RmmRealm) (is : (granule_at m rd).state ≡ Rd realm) (ipa h : ℕ) (came : Result ℕ StepOutcome) → came ≡ Ok h
     → IsPlainIfOk m linked rd realm is ipa came → (granule_at m h ≡ of_realm rd Data) ⊎ ((granule_at m h).state ≡ Undelegated)
 plain_of m linked rd realm is ipa h came reaches plain = (subst (IsPlainIfOk m linked rd realm is ipa) reaches plain).0.2
@@ -141,7 +141,7 @@ ended_at m h g exit last other =
     (λ never. same)))
     (cases_eq g (number_of m rec.run))
 
--- an interrupt leaves each page of the host but the run page
+-- an interrupt leaves each UNDELEGATED granule as it was, except the REC's run page
 pub interrupt_beside : (m : Machine) (rec g : ℕ) → (granule_at m g).state ≡ Undelegated → IsSameAt m (interrupted m rec).1 g ⊎ (g ≡ number_of m (rec_in m (number_of m rec)).run)
 unfolding interrupted
 interrupt_beside m rec g free =

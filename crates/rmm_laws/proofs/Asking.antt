@@ -106,7 +106,7 @@ module _ (g : ℕ) (P : RipasRequest → Type 0) where
   asks_passed m (IsExit exit last) asks = cond_both _ m _ Asks (λ sure. asks) (λ never. asks_past m asks)
   asks_passed m Spins asks = asks_past m asks
 
--- what holds of the request of a REC
+-- what holds of the request of the REC in granule `g` holds of the request of `rec`, if `rec` is in `g`
 holds_of : (g : ℕ) (P : RipasRequest → Type 0) (m : Machine) (rec : RmmRec) → Asks g P m → (granule_at m g).state ≡ IsRec rec → P rec.ripas
 holds_of g P m rec asks is = subst (λ (r : RmmRec). P r.ripas) (same_rec (sym asks.1 ∙ is)) asks.2
 
@@ -122,7 +122,7 @@ Any asked = Unit {0}
 abbrev IsNone : RipasRequest → Type 0
 IsNone asked = asked ≡ no_request
 
--- a REC whose last exit asked for a change asks for none once it is entered
+-- a REC whose last exit requested a RIPAS change has no request once it is entered
 pub nothing_asked : (m : Machine) (g address flags : ℕ) (rec : RmmRec) → (rec_in m g).exit ≡ RipasChange → (granule_at (after_entry m g address flags) g).state ≡ IsRec rec → rec.ripas ≡ no_request
 unfolding after_entry
 nothing_asked m g address flags rec left is =
@@ -137,7 +137,8 @@ nothing_asked m g address flags rec left is =
     holds_of g IsNone (with_host_answer k g (rec_in m g).exit page flags) rec
     (subst (λ (last : LastExit). Asks g IsNone (with_host_answer k g last page flags)) (sym left) answered) is
 
--- an entry that answers another exit leaves what a REC asks for, whether there is a REC or not
+-- an entry that answers an exit other than a RIPAS change keeps the RIPAS request at granule `g`, whether the granule
+-- is a REC or not
 module _ (g : ℕ) (asked : RipasRequest) where
   abbrev Tells : Machine → Type 0
   Tells m = (rec_in m g).ripas ≡ asked

@@ -73,7 +73,7 @@ module _ (G : ℕ → ℕ → ℕ → Option Used) (S T : ℕ → Used) (t i g :
 
 -- ---- pages of levels
 
--- the pages of an entry of a level, and those of one above
+-- an entry has 512 times the pages of an entry one level down, which has at least one page and at most 2^30 bytes
 pub sizes : (l : ℕ) → l ≤ 2 → (entry_size (l + 1) ≡ page_count (l + 1) * 4096) × (page_count l ≡ 512 * page_count (l + 1)) × (0 < page_count (l + 1)) × (entry_size (l + 1) ≤ 2 ^ 30)
 unfolding entry_size
 sizes zero few = (refl, refl, omega arith, omega arith)
@@ -105,14 +105,15 @@ module _ (m : Machine) (proper : IsLinked m) (rd ipa : ℕ) (place : RttWalk) (e
   index : i < 512
   index = entry_index-few l ipa
 
-  -- uses of a block
+  -- part `k` of a block uses page `k` of the block's memory
   pub block_uses : (k : ℕ) → IsBegin m a → k < page_count l → entry_uses m (Some rd) l (Assigned ripas a) k ≡ Some (used Data (Some rd) 0 (number_of m a + k))
   block_uses k begin lt = cond-true _ _ _ (lt-ltb k (page_count l) lt) ∙ ap (option_map (λ f. used Data (Some rd) 0 (f + k))) (named_inside m a begin.0)
 
+  -- a block uses nothing after its last page
   pub block_end : (k : ℕ) → page_count l ≤ k → entry_uses m (Some rd) l (Assigned ripas a) k ≡ None
   block_end k past = cond-false _ _ _ (le-ltb k (page_count l) past)
 
-  -- the addresses of the table's entries
+  -- the memory of child `j` begins `j` times a child's number of pages into the block's memory
   module _ (begin : IsBegin m a) (j : ℕ) where
     abbrev child : ℕ
     child = a + j * entry_size (l + 1)

@@ -37,7 +37,7 @@ free_leads m (AssignedNs desc) free = tt
 free_leads m (Table address) free = absurd (cc)
 free_leads m (Assigned ripas address) free = absurd (cc)
 
--- a table whose entries are all such uses nothing
+-- a table whose entries all lead to no table and to no memory of the realm uses nothing
 pub empty_table : (m : Machine) (page : List ℕ) → ((j : ℕ) → j < 512 → is_free (entry_in_page page j) ≡ true) → (owner : Option ℕ) (level g j k : ℕ) → state_uses m Rtt owner level page g j k ≡ None
 empty_table m page free owner level g j k =
     ⊎_elim
@@ -60,7 +60,7 @@ free_byte : (byte j : ℕ) → j < 512 → is_free (entry_of (from_le_bytes w64 
 unfolding entry_in_page
 free_byte byte j lt free = ap (λ (w : ℕ). is_free (entry_of w)) (word_of_page-page_of byte j lt) ∙ free
 
--- the word of an entry that is free is read as one that is
+-- if an entry leads to no table and no memory of the realm, neither does the entry that is read back from its word
 pub free_word : (entry : RmmRttEntry) → is_free entry ≡ true → is_free (entry_of (entry_word entry)) ≡ true
 unfolding entry_of entry_word
 free_word (Unassigned Empty) free = refl
@@ -104,7 +104,7 @@ length-children (AssignedNs desc) level = length-with_words (λ (k : ℕ). entry
 length-children (Table address) level = length-with_words (λ (k : ℕ). entry_word (child_entry (Table address) level k)) zero_page (length-page_of 0) 512 (lit≤ tt)
 length-children (Assigned ripas address) level = length-with_words (λ (k : ℕ). entry_word (child_entry (Assigned ripas address) level k)) zero_page (length-page_of 0) 512 (lit≤ tt)
 
--- the words of children
+-- word `j` of a page of children is the word of child `j`
 pub children_word : (whole : RmmRttEntry) (level j : ℕ) → j < 512 → word_of_page (children_page whole level) j ≡ entry_word (child_entry whole level j)
 unfolding children_page entry_word
 children_word (Unassigned Empty) level j lt = word_of_page-page_of 0 j lt

@@ -152,7 +152,7 @@ module _ (m : Machine) (proper : IsProper m) (rd : ℕ) (realm : RmmRealm) (is :
       ap (granule_at m) it.used.at
       ∙ sym (ap (λ (u : Used). u.attributes) (right m proper.linked found.table (entry_index found.level x) (x % entry_size found.level / 4096) (used Data (Some rd) 0 it.used.number) it.used.gives))
 
-  -- a guest reaches that page if RIPAS is RAM
+  -- a guest's access to the address reaches the page to which the address leads, if the RIPAS of the address is RAM
   pub reaches_data : location_at m realm x ≡ Some at → ripas_at m realm x ≡ Ram → (writes : Bool) (size : AccessSize) (value : ℕ) → access m realm x writes size value ≡ Ok (number_of m at.address)
   unfolding access
   reaches_data there ram writes size value =
@@ -216,7 +216,7 @@ module _ (m n : Machine) (proper : IsProper m) (proper_then : IsProper n) (setti
 
 -- ---- RECs that are entered
 
--- pages of data of another realm than that of a call
+-- a call on one realm leaves the data pages of another realm as they were
 data_apart : (m n : Machine) (w rd g : ℕ) → Touches true m n (Some w) → w ≢ rd → is_rd (granule_at m w).state ≡ true → granule_at m g ≡ of_realm rd Data → IsSameAt m n g
 data_apart m n w rd g touches other named is =
     let state : (granule_at m g).state ≡ Data = ap (λ (r : RmmGranule). r.state) is in
@@ -245,7 +245,7 @@ entered_data rec run rd m proper ok touches =
 
 -- ---- pages that are given
 
--- an address in a page is of its granule
+-- an address within an aligned page of the machine has the granule number of the page
 page_number : (m : Machine) (page x : ℕ) → IsProper m → is_inside m page ≡ true → page % 4096 ≡ 0 → number_of m (page + x % 4096) ≡ number_of m page
 page_number m page x proper inside aligned =
     let begin = begins m page proper.linked.sound inside aligned in
@@ -290,7 +290,7 @@ unknown_bytes rd page ipa m proper ok =
       page_content m t (number_of m page) (of_realm r Data) zero_page _ proper table free,
     )
 
--- an address that a call takes to another location
+-- if a call gives or takes the location of an address, it gives or takes the bytes at the address accordingly
 moved_content : (call : Call) (m : Machine) → IsProper m → Passed (command_of call m).checks → Touches (touches_host call) m (command_of call m).machine (named_realm m call) → (rd x : ℕ) (old new : Option Location) → IsLocationGiven m (Some call) rd x old new
     → IsContentGiven m (Some call) rd x (content_of m old) (content_of (command_of call m).machine new)
 moved_content (DataCreate of page at source flags) m proper ok touches rd x old new given =
@@ -309,14 +309,15 @@ moved_content _ m proper ok touches rd x old new given = absurd given
 
 -- ---- each call
 
--- pages of the realm are kept, or its REC is entered
+-- a call leaves a realm's data pages as they were or DELEGATED, or it may change the bytes at the address, as
+-- RMI_REC_ENTER may for a REC of the realm
 data_or_entered : (call : Call) (m : Machine) (rd x : ℕ) (old new : Option (List ℕ)) → IsProper m → Passed (command_of call m).checks → Touches (touches_host call) m (command_of call m).machine (named_realm m call)
     → KeepsDataOf m (command_of call m).machine rd ⊎ IsContentGiven m (Some call) rd x old new
 data_or_entered (RecEnter rec run) m rd x old new proper ok touches =
     ⊎_elim (λ (ours : (granule_at m (number_of m rec)).owner ≡ Some rd). inr ours) (λ (kept : KeepsDataOf m (rec_enter rec run m).machine rd). inl kept) (entered_data rec run rd m proper ok touches)
 data_or_entered call m rd x old new proper ok touches = inl (λ g is. data_after call m proper refl ok touches g (ap (λ (r : RmmGranule). r.state) is))
 
--- what a realm keeps of its address space
+-- a protected address of a realm stays protected while the realm lasts
 lasting_space : (n : Machine) (rd x : ℕ) (before after : RmmRealm) → (granule_at n rd).state ≡ Rd after → IsLasting n rd before → is_protected before x ≡ true → is_protected after x ≡ true
 lasting_space n rd x before after then lasting protected =
     let it : lasting.0 ≡ after = same_realm (sym lasting.1 ∙ then) in
@@ -361,7 +362,7 @@ none_contents m n proper proper_then settings count lasts locations pages rd x b
 no_change : (m : Machine) → IsProper m → KeepsContents m None m
 no_change m proper = λ rd x before after is then protected. inl (ap (λ (realm : RmmRealm). content_at m realm x) (same_realm (sym then ∙ is)))
 
--- a page of the host is written
+-- writing a page of the host leaves the bytes at protected addresses as they were
 host_contents : (m : Machine) (address : ℕ) (page : List ℕ) → IsProper m → IsProper (with_page m (number_of m address) page) → is_host_page m address ≡ true → KeepsLocations m None (with_page m (number_of m address) page)
     → KeepsContents m None (with_page m (number_of m address) page)
 host_contents m address page proper proper_then host locations =
@@ -383,7 +384,7 @@ filled_contents m address value proper proper_then =
     (λ cannot proper_now locations. no_change m proper)
     proper_then (filled_locations m address value proper)
 
--- a granule that is no REC, at an address
+-- an address in a DATA granule names no REC
 no_rec_named : (m : Machine) (rec g : ℕ) → (granule_at m g).state ≡ Data → g ≡ number_of m rec → is_rec_named m rec ≡ false
 no_rec_named m rec g is here =
     let state : state_at m rec ≡ Data = sym (ap (λ (y : ℕ). (granule_at m y).state) here) ∙ is in

@@ -60,7 +60,7 @@ is_acting (DataCreateUnknown of page ipa) = true
 is_acting (DataDestroy of ipa) = true
 is_acting _ = false
 
--- the address of the RD of that realm
+-- the address of the RD of the realm on whose entries or tables a call acts; 0 for any other call
 abbrev pub target_of : Call → ℕ
 target_of (RttCreate of rtt ipa level) = of
 target_of (RttDestroy of ipa level) = of
@@ -91,9 +91,10 @@ pub destroyed_no_rd : (call : Call) (m : Machine) (rd : ℕ) (after : RmmRealm) 
 destroyed_no_rd (RealmDestroy of) m rd after count ok gone is = no_rd_left of m after count ok (subst (λ (g : ℕ). (granule_at (realm_destroy of m).machine g).state ≡ Rd after) gone is)
 destroyed_no_rd _ m rd after count ok gone is = gone
 
--- what is read at an address, and what a call may make of it
+-- `F` gives the value that is read at an address, from the entry and its level; `G` relates the values before and after
+-- a call that may change them
 module _ (x : ℕ) (A : Type 0) (F : RmmRttEntry → ℕ → A) (G : Machine → Option Call → ℕ → A → A → Type 0) where
-  -- For each realm before and after a call, the value read at the address is the same, or the one that the call sets.
+  -- In each realm before and after a call, a protected address reads the same, or as `G` allows for the call.
   abbrev pub KeepsRead : Machine → Option Call → Machine → Type 0
   KeepsRead m call n =
       (rd : ℕ) (before after : RmmRealm) → (granule_at m rd).state ≡ Rd before → (granule_at n rd).state ≡ Rd after → is_protected before x ≡ true

@@ -99,7 +99,7 @@ created_then m rd params success =
       λ has. get_or-set_same tables.vmids realm.vmid true false (subst (λ (l : List Bool). realm.vmid < length l) (sym flags) has),
     ))
 
--- an RD whose realm is neither NEW nor off
+-- a granule whose realm is neither NEW nor SYSTEM_OFF is an RD of an ACTIVE realm
 active_rd : (s : RmmGranuleState) → is_new (state_of (realm_of s)) ≡ false → is_system_off (state_of (realm_of s)) ≡ false → (realm : RmmRealm) × (s ≡ Rd realm) × (realm.state ≡ Active)
 active_rd (Rd realm) not_new not_off = (realm, refl, active_if realm.state not_new not_off)
 active_rd _ not_new not_off = absurd (cc)
@@ -133,7 +133,7 @@ left_then m rec run success =
 abbrev HasMeasured : Machine → Machine → Call → ℕ → Type 0
 HasMeasured m n call rd = (rim : List ℕ) × HasRim n rd rim × IsMeasured m (Some call) rd rim
 
--- an RD that is written last
+-- a granule that is written as an RD has the RIM of the written realm
 has_rim : (k : Machine) (g : ℕ) (realm : RmmRealm) → g < length k.granules → HasRim (with_granule k g (of_no_realm (Rd realm))) g realm.rim
 has_rim k g realm inside = (realm, ap (λ (r : RmmGranule). r.state) (granule_at-same k g (of_no_realm (Rd realm)) inside), refl)
 

@@ -17,7 +17,7 @@ use Rattle.rmm_laws.proofs.Writes.{page_in-same, sound-with_page}
 
 -- ---- addresses
 
--- an address inside, and the number of its granule
+-- the granule number of an address inside the machine is below the number of granules
 pub number_inside : (m : Machine) (address : ℕ) → is_inside m address ≡ true → number_of m address < length m.granules
 unfolding is_inside number_of
 number_inside m address inside = ltb-true _ _ (and_parts (nat_le m.settings.base address) (nat_lt ((address - m.settings.base) / 4096) (length m.granules)) inside).1
@@ -36,7 +36,7 @@ pub named_inside : (m : Machine) (address : ℕ) → is_inside m address ≡ tru
 unfolding granule_named
 named_inside m address inside = cond-true _ _ _ inside
 
--- an aligned address inside is that at which its granule begins
+-- an address inside the machine that is a multiple of 4,096 is the beginning of a granule
 pub begins : (m : Machine) (address : ℕ) → IsSound m → is_inside m address ≡ true → address % 4096 ≡ 0 → IsBegin m address
 unfolding is_inside number_of
 begins m address sound inside aligned =

@@ -30,14 +30,14 @@ use Rattle.rmm_laws.proofs.Serving.{level_cases}
 use Rattle.rmm_laws.proofs.Sides.{whole_index}
 use Rattle.rmm_laws.proofs.Walks.{entry_index-few}
 
--- an address is within an entry that begins at another one
+-- an address covered by the entry that begins at `ipa` is between `ipa` and the end of that entry
 pub entry_between : (l : ℕ) → l ≤ 3 → (ipa x : ℕ) → ipa % entry_size l ≡ 0 → x / entry_size l ≡ ipa / entry_size l → IsBetween ipa (ipa + entry_size l) x
 unfolding entry_size
 entry_between l few =
     level_cases (λ (k : ℕ). (ipa x : ℕ) → ipa % entry_size k ≡ 0 → x / entry_size k ≡ ipa / entry_size k → IsBetween ipa (ipa + entry_size k) x)
     (λ ipa x begins same. (omega arith, omega arith)) (λ ipa x begins same. (omega arith, omega arith)) (λ ipa x begins same. (omega arith, omega arith)) (λ ipa x begins same. (omega arith, omega arith)) l few
 
--- The machines differ in entries of one table of a realm.
+-- The machines may differ in entries of the table at which the walk of `ipa` ends.
 module _ (m n : Machine) (proper : IsProper m) (settings : n.settings ≡ m.settings) (count : length n.granules ≡ length m.granules) (rd ipa level : ℕ) (realm : RmmRealm)
     (is : (granule_at m rd).state ≡ Rd realm) (within : ipa < 2 ^ realm.s2sz) where
   abbrev found : RttWalk
@@ -46,7 +46,7 @@ module _ (m n : Machine) (proper : IsProper m) (settings : n.settings ≡ m.sett
   abbrev at : ℕ
   at = entry_index (walk m realm ipa level).level ipa
 
-  -- the addresses that an entry of the table covers
+  -- if a walk of `x` reaches this table, the table's entry at the walk's index covers `x`
   pub covered : (x : ℕ) (p : RttWalk) → IsSeat m proper.linked proper.ordered.halves rd x realm p → p.table ≡ (walk m realm ipa level).table
       → (p.level ≡ (walk m realm ipa level).level) × (x / entry_size (walk m realm ipa level).level ≡ ipa / entry_size (walk m realm ipa level).level / 512 * 512 + entry_index p.level x)
   covered x p seat here =
@@ -56,9 +56,11 @@ module _ (m n : Machine) (proper : IsProper m) (settings : n.settings ≡ m.sett
       ap (λ (l : ℕ). x / entry_size l / 512) (sym same) ∙ sym seat.seat ∙ ap proper.ordered.halves.place here ∙ there.seat in
       (same, sym (whole_index found.level x) ∙ ap (λ (q : ℕ). q * 512 + entry_index found.level x) place ∙ ap (λ (l : ℕ). ipa / entry_size found.level / 512 * 512 + entry_index l x) (sym same))
 
-  -- what is read at an address, by its entry and the level of that, and what else may be read there
+  -- `F` gives the value that is read at an address, from the entry and its level; `G` relates an old value to a new one
+  -- that is allowed
   module _ (x : ℕ) (A : Type 0) (F : RmmRttEntry → ℕ → A) (G : A → A → Type 0) where
-    -- an entry of the table is as it was, or both entries lead to no table, and the address reads as is allowed if it is in it
+    -- entry `j` is as it was, or it leads to no table before and after, and reads as `IsReadAs` allows if it covers the
+    -- address
     abbrev pub IsChanged : ℕ → Type 0
     IsChanged j =
         (entry_in_page (page_in n (walk m realm ipa level).table) j ≡ entry_in_page (page_in m (walk m realm ipa level).table) j)
@@ -105,7 +107,7 @@ module _ (m n : Machine) (proper : IsProper m) (settings : n.settings ≡ m.sett
           (λ (other : p.table ≢ found.table). met_same p (ap (λ (q : List ℕ). entry_in_page q (entry_index p.level x)) (others p.table seat.is.table other)))
           (cases_eq p.table found.table)
 
-      -- the walk ends where it did, and what has become of what is read there
+      -- the walk of the address ends at the same place in both machines, where it reads as `IsReadAs` allows
       pub changed : (after : RmmRealm) → after.start_level ≡ realm.start_level → after.first_table ≡ realm.first_table → x < 2 ^ realm.s2sz → Q (walk m realm x 3) (walk n after x 3)
       changed after start first inside = along m n proper.linked proper.ordered.halves rd x realm (λ table. Unit {0}) Q after start first is inside tt met
 
@@ -115,7 +117,8 @@ module _ (m n : Machine) (proper : IsProper m) (settings : n.settings ≡ m.sett
           let both = changed after start first inside in
           subst (λ (q : RttWalk). (F (entry_at n q x) q.level ≡ read_at A F m realm x) ⊎ G (read_at A F m realm x) (F (entry_at n q x) q.level)) (sym both.0) both.1
 
-    -- one entry is written
+    -- writing one entry changes each entry only as `IsChanged` allows, if neither the old entry nor the new one is a
+    -- table, and the new one reads as `IsReadAs` allows
     pub one_changed : (e : RmmRttEntry) → entry_in_page (page_in n (walk m realm ipa level).table) (entry_index (walk m realm ipa level).level ipa) ≡ e
         → ((j : ℕ) → j < 512 → j ≢ entry_index (walk m realm ipa level).level ipa → entry_in_page (page_in n (walk m realm ipa level).table) j ≡ entry_in_page (page_in m (walk m realm ipa level).table) j)
         → is_table (entry_at m (walk m realm ipa level) ipa) ≡ false → is_table e ≡ false
@@ -151,14 +154,14 @@ fixed_from changeable page (suc count) i j low high =
     absurd (omega arith))
     (cases_Bool (can_change changeable (entry_in_page page i)))
 
--- entries whose RIPAS is changed are ones that can be
+-- each entry in the range that a command changes is one whose RIPAS can be changed
 pub can_in_range : (m : Machine) (changeable : Changeable) (found : RttWalk) (base top j : ℕ) → entry_index found.level base ≤ j → j < entry_index found.level base + change_count m changeable found base top
     → can_change changeable (entry_in_page (page_in m found.table) j) ≡ true
 unfolding change_count
 can_in_range m changeable found base top j low high =
     fixed_from changeable (page_in m found.table) (entries_below found base top) (entry_index found.level base) j low (omega arith)
 
--- they are below the top
+-- a command changes the RIPAS of no more entries than fit between `base` and `top`
 pub change_below : (m : Machine) (changeable : Changeable) (found : RttWalk) (base top : ℕ) → change_count m changeable found base top ≤ (top - base) / entry_size found.level
 unfolding change_count entries_below
 change_below m changeable found base top =
@@ -190,13 +193,13 @@ in_range m changeable found base top x j few begins covers low high =
     range_between found.level few base top x (base / entry_size found.level / 512) (entry_index found.level base) j (change_count m changeable found base top) begins (sym (whole_index found.level base)) covers low high
     (change_below m changeable found base top)
 
--- the RIPAS of an entry that is changed
+-- an entry whose RIPAS can be changed is no table before and after the change, and has the new RIPAS after it
 pub changed_to : (changeable : Changeable) (ripas : RmmRipas) (e : RmmRttEntry) → can_change changeable e ≡ true → (is_table e ≡ false) × (is_table (entry_with_ripas ripas e) ≡ false) × (ripas_in (entry_with_ripas ripas e) ≡ ripas)
 changed_to changeable ripas (Unassigned old) can = (refl, refl, refl)
 changed_to changeable ripas (Assigned old address) can = (refl, refl, refl)
 changed_to changeable ripas _ can = absurd (cc)
 
--- DESTROYED is changed only if that was asked for
+-- an entry with RIPAS DESTROYED can be changed only if `changeable` includes DESTROYED
 pub destroyed_too : (changeable : Changeable) (e : RmmRttEntry) → can_change changeable e ≡ true → ripas_in e ≡ Destroyed → changeable.destroyed ≡ true
 destroyed_too changeable (Unassigned Destroyed) can is = sym (or-false changeable.destroyed) ∙ can
 destroyed_too changeable (Assigned Destroyed address) can is = sym (or-false changeable.destroyed) ∙ (and_parts changeable.assigned (changeable.destroyed || false) can).1

@@ -40,7 +40,7 @@ entry_word-fits (Assigned Empty address) = omega arith
 entry_word-fits (Assigned Ram address) = omega arith
 entry_word-fits (Assigned Destroyed address) = omega arith
 
--- the descriptor that is read has 48 bits
+-- an entry decoded from a descriptor below 2^48 has a descriptor below 2^48
 at_kind-few : (kind low : ℕ) → low < 2 ^ 48 → descriptor_of (entry_at_kind kind low) < 2 ^ 48
 at_kind-few kind low fits =
     cond_both (kind == 1) _ _ (λ (e : RmmRttEntry). descriptor_of e < 2 ^ 48) (λ yes. omega arith) (λ no.
@@ -56,7 +56,7 @@ pub descriptor-few : (word : ℕ) → descriptor_of (entry_of word) < 2 ^ 48
 unfolding entry_of
 descriptor-few word = at_kind-few (word / 2 ^ 56) (word % 2 ^ 48) (omega arith)
 
--- what a word is read as, but for the descriptor
+-- a word that is made of a kind and a descriptor is decoded to the entry of that kind with the descriptor modulo 2^48
 by_field : {A : Type 0} (f : RmmRttEntry → A) (kind low : ℕ) → f (entry_at_kind ((kind * 2 ^ 56 + low % 2 ^ 48) / 2 ^ 56) ((kind * 2 ^ 56 + low % 2 ^ 48) % 2 ^ 48)) ≡ f (entry_at_kind kind (low % 2 ^ 48))
 by_field f kind low =
     let high : (kind * 2 ^ 56 + low % 2 ^ 48) / 2 ^ 56 ≡ kind = omega arith in
@@ -75,7 +75,7 @@ word_ripas (Assigned Empty address) = by_field ripas_in 6 address
 word_ripas (Assigned Ram address) = by_field ripas_in 7 address
 word_ripas (Assigned Destroyed address) = by_field ripas_in 8 address
 
--- the descriptor of a live entry
+-- the descriptor of an entry that is encoded and decoded again is the old descriptor modulo 2^48
 pub word_descriptor : (e : RmmRttEntry) → descriptor_of (entry_of (entry_word e)) ≡ descriptor_of e % 2 ^ 48
 unfolding entry_of entry_word
 word_descriptor (Unassigned Empty) = refl

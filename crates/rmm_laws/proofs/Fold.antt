@@ -52,7 +52,7 @@ module _ (m n : Machine) (linked : IsLinked m) (rd ipa : ℕ) where
   abbrev pub child : RttWalk → ℕ → RttWalk
   child place table = record { table = table; level = place.level + 1 }
 
-  -- the entries above a level lead where they did
+  -- each entry on the walk above a level leads to the same table in both machines, or to none in both
   abbrev pub SameAbove : ℕ → Type 0
   SameAbove level = (p : RttWalk) → IsPlace m linked rd ipa p → p.level < level → table_below n (entry_at n p ipa) ≡ table_below m (entry_at m p ipa)
 
@@ -239,10 +239,11 @@ module _ (m : Machine) (rd rtt ipa level : ℕ) (proper : IsProper m) (ok : Pass
       let page : page_in n p.table ≡ page_in m p.table = page_beside m proper.linked r ipa found end x in_machine free Rtt content (length-children parent level) (Table rtt) tt fits p.table not_x other in
       ap (λ (q : List ℕ). table_below n (entry_in_page q (entry_index p.level ipa))) page ∙ below_same m n (entry_in_page (page_in m p.table) (entry_index p.level ipa)) refl count)
 
-  -- the checks and the machine of RMI_RTT_FOLD, of a realm and the end of a walk
+  -- the checks of RMI_RTT_FOLD, given a realm and the end of a walk
   abbrev fold_at : RmmRealm → RttWalk → List Check
   fold_at q w = rd_checks n rd ++ ipa_checks q (q.start_level + 1) level 1 ipa ++ fold_checks n w (entry_at n w ipa) level
 
+  -- the machine after RMI_RTT_FOLD, given the end of a walk
   abbrev back : RttWalk → Machine
   back w = with_blank (with_entry n w ipa (entry_in_page (page_in n (unwrap_or (table_below n (entry_at n w ipa)) 0)) 0)) (unwrap_or (table_below n (entry_at n w ipa)) 0) Delegated
 
@@ -301,7 +302,7 @@ module _ (m : Machine) (rd rtt ipa level : ℕ) (proper : IsProper m) (ok : Pass
   folded_ok stand =
       subst (λ (q : RmmRealm). Passed (fold_at q (walk n q ipa (level - 1)))) (sym realm_same) (subst (λ (w : RttWalk). Passed (fold_at realm w)) (sym walk_same) (passes stand))
 
-  -- the machine is as before
+  -- before RMI_RTT_CREATE, the granule of the table had no owner and was zero
   was : ((granule_at m x).owner ≡ None) × (page_in m x ≡ zero_page)
   was = subst (λ (s : RmmGranuleState). IsOrderly m s (granule_at m x).owner (page_in m x)) free (proper.ordered.each x)
 

@@ -53,7 +53,7 @@ same_place (suc (suc zero)) least few d x = (omega arith, omega arith)
 same_place (suc (suc (suc zero))) least few d x = (omega arith, omega arith)
 same_place (suc (suc (suc (suc l)))) least few d x = absurd (omega arith)
 
--- the memory of a block begins at a multiple of its size
+-- an entry's descriptor is below 2^48, and the memory of a mapping begins at a multiple of the entry size one level up
 abbrev IsWhole : RmmRttEntry → ℕ → Type 0
 IsWhole e l = (descriptor_of e < 2 ^ 48) × (is_mapping e ≡ true → descriptor_of e / 4096 * 4096 % entry_size (l - 1) ≡ 0)
 

@@ -61,7 +61,7 @@ refusal_fails (c ∷ cs) refusal none is =
     (λ (passes : c.fails ≡ false). refusal_fails cs refusal parts.1 (sym (cond-false c.fails (Some c.refusal) (first_failing cs) passes) ∙ is))
     (cases_Bool c.fails)
 
--- a command that succeeds has passed its checks, and its answer and machine are its own
+-- a command that succeeds has passed its checks, and has its own answer and its own machine
 success_at : (P : Type 0) (f : Option FailedCondition) (command : Command) (m : Machine) → none_succeeds command.checks ≡ true → first_failing command.checks ≡ f → (decided f command m).0.word ≡ Success
     → (Passed command.checks → decided f command m ≡ (command.answer, command.machine) → P) → P
 success_at P (Some refusal) command m none is success then_do = absurd (both_ways (is_success refusal.answer.word) (refusal_fails command.checks refusal none is) (ap is_success success))
@@ -74,7 +74,7 @@ succeeded P call m none success then_do = success_at P (first_failing (command_o
 
 -- ---- what comes back
 
--- a granule that is blanked
+-- a granule that is blanked becomes DELEGATED and zero, and each other granule keeps its attributes
 blanked : (m : Machine) (g t rd : ℕ) (page : List ℕ) (address : ℕ) → IsSound m → g < length m.granules → g ≡ number_of m address
     → (granule_at (with_blank (with_page m t page) g Delegated) (number_of m address) ≡ of_no_realm Delegated) × (page_in (with_blank (with_page m t page) g Delegated) (number_of m address) ≡ zero_page)
     × ((x : ℕ) → x ≢ number_of m address → granule_at (with_blank (with_page m t page) g Delegated) x ≡ granule_at m x)
@@ -86,11 +86,12 @@ blanked m g t rd page address sound inside same =
     × ((y : ℕ) → y ≢ x → granule_at (with_blank k g Delegated) y ≡ granule_at m y)) same
     (granule_at-same k g (of_no_realm Delegated) inside, page_in-same (with_granule k g (of_no_realm Delegated)) g zero_page (omega arith), λ y other. granule_at-other k g y (of_no_realm Delegated) other)
 
--- the address of a table or of a page is that of the granule to which its entry leads
+-- the descriptor of an entry that leads to a table is the address where that table begins
 pub table_address : (m : Machine) (entry : RmmRttEntry) (g : ℕ) → LeadsInside m entry → table_below m entry ≡ Some g → IsBegin m (descriptor_of entry) × (g ≡ number_of m (descriptor_of entry))
 table_address m (Table address) g leads named = (leads, (named_number m address g named).1)
 table_address m _ g leads named = absurd (cc)
 
+-- the descriptor of an entry that leads to memory is the address where that memory begins
 memory_address : (m : Machine) (entry : RmmRttEntry) (g : ℕ) → LeadsInside m entry → memory_below m entry ≡ Some g → IsBegin m (descriptor_of entry) × (g ≡ number_of m (descriptor_of entry))
 memory_address m (Assigned ripas address) g leads named = (leads, (named_number m address g named).1)
 memory_address m _ g leads named = absurd (cc)

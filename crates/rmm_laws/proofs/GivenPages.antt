@@ -45,13 +45,13 @@ use Rattle.rmm_laws.proofs.Seats.{in_space}
 use Rattle.rmm_laws.proofs.Tops.{same_end}
 use Rattle.rmm_laws.proofs.Writes.{page_in-same, page_in-other, taken_inside}
 
--- an entry of level 3 that takes the place of one that leads to no table
+-- An entry that is no TABLE replaces another such entry, at the end of a walk to level 3.
 module _ (m n : Machine) (proper : IsProper m) (settings : n.settings ≡ m.settings) (count : length n.granules ≡ length m.granules) (rd ipa : ℕ) (realm : RmmRealm)
     (is : (granule_at m rd).state ≡ Rd realm) (within : ipa < 2 ^ realm.s2sz) (least : realm.start_level ≤ 3)
     (others : (g : ℕ) → IsTableOf m rd g → g ≢ (walk m realm ipa 3).table → page_in n g ≡ page_in m g)
     (e : RmmRttEntry) (page : page_in n (walk m realm ipa 3).table ≡ page_with_word (page_in m (walk m realm ipa 3).table) (entry_index (walk m realm ipa 3).level ipa) (entry_word e))
     (before : is_table (entry_at m (walk m realm ipa 3) ipa) ≡ false) (leaf : is_table e ≡ false) where
-  -- an address of the entry ends there
+  -- the walk of an address that the entry covers ends where the walk of `ipa` did, and finds the new entry
   entry_there : (x : ℕ) → x / entry_size (walk m realm ipa 3).level ≡ ipa / entry_size (walk m realm ipa 3).level → (walk n realm x 3 ≡ walk m realm ipa 3) × (entry_at n (walk m realm ipa 3) x ≡ entry_of (entry_word e))
   unfolding entry_at entry_index
   entry_there x covers =
@@ -65,7 +65,7 @@ module _ (m n : Machine) (proper : IsProper m) (settings : n.settings ≡ m.sett
       let entry = now x RmmRipas (λ f l. ripas_in f) (λ r was now. Unit {0}) m n proper settings count rd ipa 3 realm is within least others e page before leaf in
       (same ∙ there, ap (λ (j : ℕ). entry_in_page (page_in n found.table) j) index ∙ entry)
 
--- a DELEGATED granule becomes a page
+-- A DELEGATED granule becomes a page of a realm, to which an entry of level 3 leads.
 module _ (m n : Machine) (proper : IsProper m) (settings : n.settings ≡ m.settings) (count : length n.granules ≡ length m.granules) (rd page ipa : ℕ)
     (is : (granule_at m (number_of m rd)).state ≡ Rd (realm_at m rd)) (protected : is_protected (realm_at m rd) ipa ≡ true) (free : state_at m page ≡ Delegated)
     (vacant : is_unassigned (entry_at m (walk m (realm_at m rd) ipa 3) ipa) ≡ true) (three : (walk m (realm_at m rd) ipa 3).level ≡ 3) (begins : ipa % 4096 ≡ 0)

@@ -41,7 +41,7 @@ use Rattle.rmm_laws.proofs.Writes.{number-same}
 
 -- ---- two addresses that lead to one page
 
--- addresses of one entry, and of one page of it
+-- two addresses that are in the same entry, and in the same page of that entry, are in the same page
 one_page : (l : ℕ) → l ≤ 3 → (x y : ℕ) → x / entry_size l ≡ y / entry_size l → x % entry_size l / 4096 ≡ y % entry_size l / 4096 → x / 4096 ≡ y / 4096
 unfolding entry_size
 one_page l few =
@@ -51,13 +51,13 @@ one_page l few =
 module _ (m : Machine) (proper : IsProper m) (rd other : ℕ) (realm its : RmmRealm) (is : (granule_at m rd).state ≡ Rd realm) (also : (granule_at m other).state ≡ Rd its) (x y : ℕ)
     (protected : is_protected realm x ≡ true) (protected_too : is_protected its y ≡ true) (a b : Location) (there : location_at m realm x ≡ Some a) (there_too : location_at m its y ≡ Some b)
     (same : number_of m a.address ≡ number_of m b.address) where
-  -- addresses that lead to one granule are of one realm
+  -- two protected addresses that lead to the same granule are of the same realm
   one_realm : rd ≡ other
   one_realm =
       some_same (ap (λ (r : RmmGranule). r.owner)
       (sym (leads_to_data m proper rd realm is x protected a there) ∙ ap (granule_at m) same ∙ leads_to_data m proper other its also y protected_too b there_too))
 
-  -- and of one page
+  -- two protected addresses that lead to the same granule are in the same page
   pub same_page : x / 4096 ≡ y / 4096
   same_page =
       let p : RttWalk = walk m realm x 3 in
@@ -153,12 +153,13 @@ module _ (m : Machine) (proper : IsProper m) (rd other ipa value x : ℕ) (size 
       (written_apart m ipa value g size came (beside b there)).1 in
       ap (λ (k : ℕ). Some (page_in n k)) (number-same m n like.0 (ap (length {A = RmmGranule}) like.1) b.address) ∙ ap (λ (p : List ℕ). Some p) kept
 
-  -- the bytes at a protected address that leads to another page than the one that is written
+  -- a guest's write leaves the bytes unchanged at a protected address that leads to another page than the one written
   pub written_beside : (g : ℕ) (outcome : StepOutcome) → content_at (after_step m realm g (Write ipa value size) outcome) its x ≡ content_at m its x
   unfolding after_step
   written_beside g outcome = ap (content_of n) same_place ∙ same_by (location_at m its x) refl
 
--- a write at a protected address of another page reaches another page
+-- a write at a protected address reaches another page than the one to which a protected address of another page or
+-- realm leads
 pub lower_apart : (m : Machine) (proper : IsProper m) (rd other ipa value x : ℕ) (size : AccessSize) (realm its : RmmRealm) (is : (granule_at m rd).state ≡ Rd realm) (also : (granule_at m other).state ≡ Rd its)
     (protected : is_protected realm ipa ≡ true) (protected_too : is_protected its x ≡ true) (apart : (other ≢ rd) ⊎ (x / 4096 ≢ ipa / 4096))
     → (b : Location) → location_at m its x ≡ Some b → (h : ℕ) → access m realm ipa true size (low_bytes size value) ≡ Ok h → number_of m b.address ≢ h

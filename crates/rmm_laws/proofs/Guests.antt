@@ -108,12 +108,12 @@ module _ (o : Machine) (w : ℕ) where
 
   -- ---- exits
 
-  -- the settings say which addresses are of the secure world
+  -- an address is in the secure world of both machines or of neither, if they have the same settings
   secure_before : (m : Machine) (a : ℕ) → m.settings ≡ o.settings → is_secure m (m.settings.base + a) ≡ is_secure o (o.settings.base + a)
   unfolding is_secure
   secure_before m a same = ap (λ (s : RmmSettings). nat_le s.secure_base (s.base + a) && nat_lt ((s.base + a - s.secure_base) / 4096) s.secure_count) same
 
-  -- a page that a guest or an exit writes is none of the secure world
+  -- a page that a guest or an exit writes is no UNDELEGATED granule of the secure world
   normal : (g h rd : ℕ) (m : Machine) → IsGoing o w g m → (granule_at m h ≡ of_realm rd Data) ⊎ IsHostAt m h → IsSecureHost o h → ⊥
   normal g h rd m going (inl own) it = (let states : (granule_at m h).state ≡ Undelegated = ap (λ (r : RmmGranule). r.state) (going.hosts h it.0) ∙ it.0 in let ours = ap (λ (r : RmmGranule). r.state) own in cc)
   normal g h rd m going (inr at) it =
@@ -146,7 +146,7 @@ module _ (o : Machine) (w : ℕ) where
 
   -- ---- accesses
 
-  -- a granule that a guest of a realm writes
+  -- a call on a realm may touch the realm's DATA granules and UNDELEGATED granules
   plain_mine : (m : Machine) (rd h : ℕ) → rd ≡ w → (granule_at m h ≡ of_realm rd Data) ⊎ ((granule_at m h).state ≡ Undelegated) → IsMine true m (Some w) h
   plain_mine m rd h named (inl is) = inl (inr (ap (λ (r : RmmGranule). r.owner) is ∙ ap (λ (x : ℕ). Some x) named))
   plain_mine m rd h named (inr free) = inr (inl free)
@@ -215,7 +215,7 @@ module _ (o : Machine) (w : ℕ) where
   going_passed g m (IsExit exit last) going = cond_both _ m _ (IsGoing o w g) (λ sure. going) (λ never. going_past g m going)
   going_passed g m Spins going = going_past g m going
 
-  -- the realm of a REC is that of an RD
+  -- `IsGoing` holds after a step that is performed for the realm of the REC's owner
   going_step_by : (g flags : ℕ) (m : Machine) (owner : Option ℕ) (there : Option RmmRealm) → owner ≡ Some w → realm_by m owner ≡ there → IsGoing o w g m → IsGoing o w g (after_step_in m there g flags)
   going_step_by g flags m (Some rd) (Some realm) named is going =
       going_passed g _ (step_outcome m realm g flags (first_step m g)) (going_step g rd m realm (some_same named) (realm_of-is (granule_at m rd).state realm is) (first_step m g) (step_outcome m realm g flags (first_step m g)) going)
@@ -244,7 +244,7 @@ module _ (o : Machine) (w : ℕ) where
       going_word o w g _ 0 context (going_word o w g _ 31 entry_point (going_rec o w g m _ going) (omega arith) (inl (omega arith))) (omega arith) (inl (omega arith))
   going_target g m rec _ begins going = going
 
-  -- a REC beside one that has other attributes
+  -- after the attributes of a REC are written, `IsGoing` holds of each REC of the same realm
   still_rec : (g h : ℕ) (m : Machine) (rec old : RmmRec) → IsGoing o w g m → (granule_at m h).state ≡ IsRec old → (granule_at m h).owner ≡ Some w → IsMine true o (Some w) h → IsGoing o w h (with_rec m g rec)
   still_rec g h m rec old going is owned mine =
       ⊎_elim
@@ -285,11 +285,12 @@ module _ (o : Machine) (w : ℕ) where
 
 -- ---- commands
 
--- the RD of a REC's realm
+-- the owner of a REC is an RD
 pub rd_of_rec_is : (m : Machine) (g : ℕ) (rec : RmmRec) → IsProper m → (granule_at m g).state ≡ IsRec rec → (rd : ℕ) × ((granule_at m g).owner ≡ Some rd) × (is_rd (granule_at m rd).state ≡ true)
 rd_of_rec_is m g rec proper is = owner_is m (granule_at m g).owner (rd_of m g proper.ordered (IsRec rec) is refl)
 
--- a REC that a call names, and what the call touches
+-- what is touched by a call on realm `w` is touched by a call on the realm of the REC at an address, if `w` owns that
+-- REC
 rec_there : (m n : Machine) (address w : ℕ) → not (is_aligned address) ≡ false → not (is_inside m address) ≡ false → is_none (rec_of (state_at m address)) ≡ false
     → (granule_at m (number_of m address)).owner ≡ Some w → Touches true m n (Some w) → Touches true m n (realm_of_rec m address)
 rec_there m n address w aligned inside is owned touches =
@@ -328,7 +329,7 @@ module _ (rec address : ℕ) (m : Machine) (proper : IsProper m) (ok : Passed (r
   pub entered_lasts : Lasts m (rec_enter rec address m).machine
   entered_lasts = entry_going.lasts
 
-  -- each realm is in the state that it was in, or it is that of the REC, and is off
+  -- each realm has the state and the RIM that it had, or is the realm of the REC, was ACTIVE and is SYSTEM_OFF
   pub entered_states : (rd : ℕ) (realm : RmmRealm) → (granule_at (rec_enter rec address m).machine rd).state ≡ Rd realm
       → IsAsBefore m rd realm ⊎ ((realm.state ≡ IsSystemOff) × ((granule_at m (number_of m rec)).owner ≡ Some rd) × IsRealmIn m rd Active × HasRim m rd realm.rim)
   unfolding rec_enter enter_checks
@@ -410,7 +411,7 @@ module _ (calling target status : ℕ) (m : Machine) (proper : IsProper m) (ok :
 
 -- ---- machines during a run
 
--- writes of a REC that runs, from a machine during its run on
+-- from a machine during a REC's run, the REC's entry, steps and exit lead to machines of that run
 module _ (m : Machine) (g : ℕ) (run : IsProperRun m g) where
   abbrev of_run : (rd : ℕ) × ((granule_at m g).owner ≡ Some rd) × (is_rd (granule_at m rd).state ≡ true)
   of_run = rd_of_rec_is m g run.1 run.0 run.2
@@ -430,13 +431,15 @@ module _ (m : Machine) (g : ℕ) (run : IsProperRun m g) where
   pub exit_proper : (exit : RecExit) (last : LastExit) → IsProperRun (after_exit m g exit last) g
   exit_proper exit last = still_runs (after_exit m g exit last) (going_exit m of_run.0 g m exit last run_first)
 
-  -- what holds after writes of the REC holds after its entry, its steps and its exit
+  -- what holds of each machine after writes for a REC holds after the REC's entry
   pub entry_then : (P : Machine → Type 0) → ((w : ℕ) (n : Machine) → IsGoing m w g n → P n) → (address flags : ℕ) → P (after_entry m g address flags)
   entry_then P goes address flags = goes of_run.0 (after_entry m g address flags) (going_entry m of_run.0 g address flags m run_first)
 
+  -- what holds of each machine after writes for a REC holds after a step of the REC's guest
   pub step_then : (P : Machine → Type 0) → ((w : ℕ) (n : Machine) → IsGoing m w g n → P n) → (flags : ℕ) → P (after_first_step m g flags)
   step_then P goes flags = goes of_run.0 (after_first_step m g flags) (going_first_step m of_run.0 g flags m run_first)
 
+  -- what holds of each machine after writes for a REC holds after the REC's exit
   pub exit_then : (P : Machine → Type 0) → ((w : ℕ) (n : Machine) → IsGoing m w g n → P n) → (exit : RecExit) (last : LastExit) → P (after_exit m g exit last)
   exit_then P goes exit last = goes of_run.0 (after_exit m g exit last) (going_exit m of_run.0 g m exit last run_first)
 
@@ -452,7 +455,7 @@ module _ (m : Machine) (address : ℕ) (proper : IsProper m) (is : is_rec_named 
   named : IsGoing m of_named.0 (number_of m address) m
   named = going_first (number_of m address) of_named.0 m (rec_at m address) proper named_is of_named.1
 
--- what holds of a machine, and after steps, entries and exits of a REC, holds after an interrupt, and after a step is given
+-- what holds of a machine, and of each machine after writes for a REC, holds after an interrupt
 pub interrupted_then : (P : Machine → Type 0) (m : Machine) (address : ℕ) → IsProper m → P m → ((w g : ℕ) (n : Machine) → IsGoing m w g n → P n) → P (interrupted m address).1
 unfolding interrupted
 interrupted_then P m address proper same goes =
@@ -465,6 +468,7 @@ interrupted_then P m address proper same goes =
 pub interrupt_kept : (m : Machine) (address : ℕ) → IsProper m → IsProper (interrupted m address).1
 interrupt_kept m address proper = interrupted_then IsProper m address proper proper (λ w g n going. record { linked = going.proper; ordered = going.ordered })
 
+-- what holds of a machine, and of each machine after writes for a REC, holds after a step is queued
 pub given_then : (P : Machine → Type 0) (m : Machine) (address : ℕ) (words : StepWords) → IsProper m → P m → ((w g : ℕ) (n : Machine) → IsGoing m w g n → P n) → P (queued m address words).1
 given_then P m address words proper same goes =
     cond_both (is_rec_named m address) _ _ (λ (p : Queued × Machine). P p.1)

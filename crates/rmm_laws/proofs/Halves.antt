@@ -27,7 +27,7 @@ use Rattle.rmm_laws.proofs.Writes.{granule_at-same, granule_at-other, page_in-sa
 
 -- ---- kinds of entries
 
--- an entry without its RIPAS and address
+-- an entry with its RIPAS replaced by EMPTY, and its address or descriptor replaced by 0
 abbrev pub kind_of : RmmRttEntry → RmmRttEntry
 kind_of (Unassigned ripas) = Unassigned Empty
 kind_of (Assigned ripas address) = Assigned Empty 0
@@ -86,7 +86,8 @@ below_same m n settings count (Unassigned ripas) = refl
 below_same m n settings count UnassignedNs = refl
 below_same m n settings count (AssignedNs desc) = refl
 
--- each table of a machine is one of another with the same page, and each RD has a realm of the same space
+-- `n` has no table and no RD that `m` has not: its tables are the same, and its realms have the same address spaces and
+-- starting tables
 pub record HasNoMore (m n : Machine) : Type 0 where
   pub settings : n.settings ≡ m.settings
   pub count : length n.granules ≡ length m.granules
@@ -137,7 +138,8 @@ module _ (m n : Machine) (step : HasNoMore m n) (level place : ℕ → ℕ) (hal
 
 -- ---- the page of a table
 
--- an entry fits a table at an index
+-- an entry fits index `i` of a table: it is allowed in its half and satisfies `IsPlaced`, and a table below has the
+-- next level and place
 abbrev pub Fits : Machine → (ℕ → ℕ) → (ℕ → ℕ) → ℕ → ℕ → RmmRttEntry → Type 0
 Fits m level place table i e =
     ((rd ipa : ℕ) (realm : RmmRealm) → (granule_at m rd).state ≡ Rd realm → granule_at m table ≡ of_realm rd Rtt → ipa / entry_size (level table) ≡ place table * 512 + i → IsOfHalf realm ipa e)
@@ -195,7 +197,8 @@ has_space Rtt = true
 has_space (Rd realm) = true
 has_space _ = false
 
--- machines that differ at one granule
+-- `HasNoMore` holds of machines that differ only at granule `g`. In `n`, `g` is an unchanged table, or an RD with the
+-- same address space and starting tables as in `m`, or neither.
 differs : (m n : Machine) (g : ℕ) → n.settings ≡ m.settings → length n.granules ≡ length m.granules → ((h : ℕ) → h ≢ g → (granule_at n h ≡ granule_at m h) × (page_in n h ≡ page_in m h))
     → ((granule_at n g).state ≡ Rtt → (granule_at n g ≡ granule_at m g) × (page_in n g ≡ page_in m g))
     → ((realm : RmmRealm) → (granule_at n g).state ≡ Rd realm → (old : RmmRealm) × ((granule_at m g).state ≡ Rd old) × SameSpace realm old) → HasNoMore m n
@@ -216,7 +219,7 @@ differs m n g settings count beside table realm = record {
 pub no_space : (s t : RmmGranuleState) → has_space s ≡ false → has_space t ≡ true → s ≡ t → ⊥
 no_space s t plain has same = both_ways (has_space s) plain (ap has_space same ∙ has)
 
--- each granule is as it was, or neither a table nor an RD
+-- `HasHalves` still holds if each granule is as it was, or is neither a table nor an RD afterwards
 pub kept_or_plain : (m n : Machine) → n.settings ≡ m.settings → length n.granules ≡ length m.granules
     → ((h : ℕ) → ((granule_at n h ≡ granule_at m h) × (page_in n h ≡ page_in m h)) ⊎ (has_space (granule_at n h).state ≡ false)) → HasHalves m → HasHalves n
 kept_or_plain m n settings count each halves =
@@ -233,13 +236,13 @@ kept_or_plain m n settings count each halves =
           (each rd);
     }) halves
 
--- the page of a granule that is no table
+-- writing the page of a granule that is no table and no RD keeps `HasHalves`
 pub plain_page : (m : Machine) (g : ℕ) (page : List ℕ) → has_space (granule_at m g).state ≡ false → HasHalves m → HasHalves (with_page m g page)
 plain_page m g page plain halves =
     no_more m (with_page m g page) (differs m (with_page m g page) g refl refl (λ h other. (refl, page_in-other m g h page other))
     (λ is. absurd (no_space (granule_at m g).state Rtt plain refl is)) (λ realm is. absurd (no_space (granule_at m g).state (Rd realm) plain refl is))) halves
 
--- a granule becomes one that is no table and no RD
+-- changing a granule to one that is no table and no RD keeps `HasHalves`
 pub plain_granule : (m : Machine) (g : ℕ) (kept : RmmGranule) → g < length m.granules → has_space kept.state ≡ false → HasHalves m → HasHalves (with_granule m g kept)
 plain_granule m g kept inside plain halves =
     let now : (granule_at (with_granule m g kept) g).state ≡ kept.state = ap (λ (r : RmmGranule). r.state) (granule_at-same m g kept inside) in
@@ -250,7 +253,7 @@ pub plain_both : (m : Machine) (g : ℕ) (kept : RmmGranule) (page : List ℕ) �
 plain_both m g kept page inside plain halves =
     plain_page (with_granule m g kept) g page (ap (λ (r : RmmGranule). has_space r.state) (granule_at-same m g kept inside) ∙ plain) (plain_granule m g kept inside plain halves)
 
--- the places of tables stay then
+-- tables keep their levels and places when a granule becomes one that is no table and no RD, and its page is written
 pub plain_halved : (m : Machine) (g : ℕ) (kept : RmmGranule) (page : List ℕ) (level place : ℕ → ℕ) → g < length m.granules → has_space kept.state ≡ false → IsHalved m level place
     → IsHalved (with_page (with_granule m g kept) g page) level place
 plain_halved m g kept page level place inside plain halved =
@@ -259,7 +262,7 @@ plain_halved m g kept page level place inside plain halved =
     no_more_halved m n (differs m n g refl (length-set m.granules g kept) (λ h other. (granule_at-other m g h kept other, page_in-other (with_granule m g kept) g h page other))
     (λ is. absurd (no_space kept.state Rtt plain refl (sym now ∙ is))) (λ realm is. absurd (no_space kept.state (Rd realm) plain refl (sym now ∙ is)))) level place halved
 
--- the realm of an RD
+-- replacing an RD's realm by one with the same address space and starting tables keeps `HasHalves`
 pub same_space : (m : Machine) (rd : ℕ) (realm other : RmmRealm) → rd < length m.granules → (granule_at m rd).state ≡ Rd realm → SameSpace other realm → HasHalves m
     → HasHalves (with_granule m rd (of_no_realm (Rd other)))
 same_space m rd realm other inside is space halves =
@@ -301,7 +304,7 @@ no_below m UnassignedNs never = refl
 no_below m (AssignedNs desc) never = refl
 no_below m (Table address) never = absurd (cc)
 
--- an entry of the kind of one that is no TABLE leads to no table
+-- an entry of the same kind as an entry that is no TABLE leads to no table
 pub none_below : (m : Machine) (a b : RmmRttEntry) → kind_of a ≡ kind_of b → is_table b ≡ false → table_below m a ≡ None
 none_below m a b same never = no_below m a (sym (table_kind a) ∙ ap is_table same ∙ table_kind b ∙ never)
 
@@ -320,7 +323,7 @@ module _ (m : Machine) (t i word : ℕ) (inside : t < length m.pages) (whole : l
   unfolding entry_in_page
   entry_beside j lt other = ap (λ (p : List ℕ). entry_of (word_of_page p j)) now ∙ ap entry_of (word_of_page-page_with_word_other (page_in m t) i word whole index j other lt)
 
--- an entry of a table
+-- writing an entry that fits its index of a table keeps `HasHalves`
 pub entry_halved : (m : Machine) (t i : ℕ) (e : RmmRttEntry) → t < length m.pages → length (page_in m t) ≡ 4096 → i < 512 → (granule_at m t).state ≡ Rtt → (halves : HasHalves m)
     → Fits m halves.level halves.place t i (entry_of (entry_word e)) → HasHalves (with_word m t i (entry_word e))
 entry_halved m t i e inside whole index table halves fits =
@@ -339,7 +342,7 @@ entry_halved m t i e inside whole index table halves fits =
           (cases_eq j i));
     }
 
--- an entry that is no TABLE
+-- writing an entry that is no TABLE keeps `HasHalves`, if it satisfies `IsPlaced` and is allowed in its half
 pub leaf_halved : (m : Machine) (t i : ℕ) (e : RmmRttEntry) → t < length m.pages → length (page_in m t) ≡ 4096 → i < 512 → (granule_at m t).state ≡ Rtt → is_table e ≡ false → (halves : HasHalves m)
     → descriptor_of e < 2 ^ 48 → IsPlaced m.settings (halves.level t) e
     → ((rd ipa : ℕ) (realm : RmmRealm) → (granule_at m rd).state ≡ Rd realm → granule_at m t ≡ of_realm rd Rtt → ipa / entry_size (halves.level t) ≡ halves.place t * 512 + i → IsOfHalf realm ipa e)
@@ -351,7 +354,8 @@ leaf_halved m t i e inside whole index table leaf halves few block half =
       placed_word m.settings (halves.level t) e few block,
     )
 
--- an entry of the half of the one that was there
+-- writing an entry that is no TABLE keeps `HasHalves`, if it satisfies `IsPlaced` and is allowed in each half in which
+-- the old entry was
 pub alike_halved : (m : Machine) (t i : ℕ) (e : RmmRttEntry) → t < length m.pages → length (page_in m t) ≡ 4096 → i < 512 → (granule_at m t).state ≡ Rtt → is_table e ≡ false → (halves : HasHalves m)
     → descriptor_of e < 2 ^ 48 → IsPlaced m.settings (halves.level t) e → ((ipa : ℕ) (realm : RmmRealm) → IsOfHalf realm ipa (entry_in_page (page_in m t) i) → IsOfHalf realm ipa e) → HasHalves (with_word m t i (entry_word e))
 alike_halved m t i e inside whole index table leaf halves few block same =

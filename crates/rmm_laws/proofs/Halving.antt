@@ -135,7 +135,7 @@ module _ (m : Machine) (linked : IsLinked m) (halves : HasHalves m) (rd ipa leve
   unfolding entry_at
   entry_alike e leaf fits none same = alike_halved m t i e has_page whole index table_is leaf halves fits (placed_none m.settings (halves.level t) e none) same
 
-  -- an entry, after a DELEGATED granule became one that is no table
+  -- A DELEGATED granule becomes one that is no table and no RD, before the entry at the end of a walk is written.
   module _ (g : ℕ) (kept : RmmGranule) (content : List ℕ) (inside : g < length m.granules) (free : (granule_at m g).state ≡ Delegated) where
     abbrev mid : Machine
     mid = with_page (with_granule m g kept) g content
@@ -167,7 +167,7 @@ module _ (m : Machine) (linked : IsLinked m) (halves : HasHalves m) (rd ipa leve
         (subst (λ (l : ℕ). IsPlaced m.settings l e) (sym (walk_seat m linked halves rd ipa realm is within level).depth) block)
         (λ x some before. same x some (subst (λ (p : List ℕ). IsOfHalf some x (entry_in_page p i)) page_there before))
 
-  -- the first entry of a table below, whose entries are all its children
+  -- the first entry of the table below takes the place of that table, whose entries are the children of this entry
   module _ (g to : ℕ) (named : table_below m (entry_at m (walk m realm ipa level) ipa) ≡ Some g) (few : (walk m realm ipa level).level ≤ 2) (leaf : is_table (entry_in_page (page_in m g) 0) ≡ false)
       (parts : has_parts (page_in m g) (entry_in_page (page_in m g) 0) to 512 0 ≡ true)
       (block : IsPlaced m.settings (walk m realm ipa level).level (entry_in_page (page_in m g) 0)) where
@@ -197,7 +197,7 @@ module _ (m : Machine) (linked : IsLinked m) (halves : HasHalves m) (rd ipa leve
         half_alike some x (entry_in_page (page_in m g) j) (entry_in_page (page_in m g) 0) (part_kind j (entry_index-few (halves.level t + 1) x))
         (halves.is.half other g j x some there of_g (entry_index-few (halves.level t + 1) x) deeper))
 
-  -- a new table in place of an entry, of which its entries are the children
+  -- a new table takes the place of an entry, and the table's entries are the children of that entry
   module _ (rtt to : ℕ) (inside : is_inside m rtt ≡ true) (g_in : number_of m rtt < length m.granules) (free : (granule_at m (number_of m rtt)).state ≡ Delegated) (low : rtt < 2 ^ 48)
       (leaf : is_table (entry_at m (walk m realm ipa level) ipa) ≡ false) (few : (walk m realm ipa level).level ≤ 2) (next_level : to ≡ (walk m realm ipa level).level + 1) where
     abbrev g : ℕ
@@ -227,7 +227,7 @@ module _ (m : Machine) (linked : IsLinked m) (halves : HasHalves m) (rd ipa leve
     at_other : (h : ℕ) → h ≢ g → (deep h ≡ halves.level h) × (seat h ≡ halves.place h)
     at_other h ne = (cond-false (h == g) _ _ (ne_eqb h g ne), cond-false (h == g) _ _ (ne_eqb h g ne))
 
-    -- a table of before is another granule
+    -- no table of the machine before is the granule of the new table
     old_table : (h : ℕ) → (granule_at m h).state ≡ Rtt → h ≢ g
     old_table h table same =
         let states : (granule_at m h).state ≡ (granule_at m (number_of m rtt)).state = ap (λ (k : ℕ). (granule_at m k).state) same in

@@ -83,7 +83,7 @@ host_reached m realm ipa upper size value h =
     (λ address host is. (let same : number_of m address ≡ h = cc in ap (λ (k : ℕ). (granule_at m k).state) (sym same) ∙ host_plain m address host))
     realm upper true size value
 
--- a write at an unprotected address reaches no page that a protected one leads to
+-- a write at an unprotected address reaches no page to which a protected address leads
 pub upper_apart : (m : Machine) (other ipa value x : ℕ) (size : AccessSize) (realm its : RmmRealm) → IsProper m → (granule_at m other).state ≡ Rd its → is_protected realm ipa ≡ false → is_protected its x ≡ true
     → (b : Location) → location_at m its x ≡ Some b → (h : ℕ) → access m realm ipa true size (low_bytes size value) ≡ Ok h → number_of m b.address ≢ h
 upper_apart m other ipa value x size realm its proper also upper lower b there h reaches here =
@@ -92,7 +92,7 @@ upper_apart m other ipa value x size realm its proper also upper lower b there h
     let same : (granule_at m (number_of m b.address)).state ≡ (granule_at m h).state = ap (λ (k : ℕ). (granule_at m k).state) here in
     cc
 
--- a write at an unprotected address leaves the bytes at protected ones
+-- a write at an unprotected address leaves the bytes at protected addresses unchanged
 pub upper_written : (m : Machine) (rd other g ipa value x : ℕ) (size : AccessSize) (realm its : RmmRealm) (outcome : StepOutcome) → IsProper m → (granule_at m rd).state ≡ Rd realm → (granule_at m other).state ≡ Rd its
     → is_protected realm ipa ≡ false → is_protected its x ≡ true → content_at (after_step m realm g (Write ipa value size) outcome) its x ≡ content_at m its x
 upper_written m rd other g ipa value x size realm its outcome proper is also upper lower =
@@ -101,7 +101,7 @@ upper_written m rd other g ipa value x size realm its outcome proper is also upp
 
 -- ---- pages of the host
 
--- a write at a protected address leaves them
+-- a write at a protected address leaves each UNDELEGATED granule unchanged
 pub lower_written : (m : Machine) (rd g ipa value h : ℕ) (size : AccessSize) (outcome : StepOutcome) (realm : RmmRealm) → IsProper m → (granule_at m rd).state ≡ Rd realm → is_protected realm ipa ≡ true
     → (granule_at m h).state ≡ Undelegated → IsSameAt m (after_step m realm g (Write ipa value size) outcome) h
 unfolding after_step
@@ -113,11 +113,12 @@ lower_written m rd g ipa value h size outcome realm proper is lower free =
     let same : (granule_at m h).state ≡ (granule_at m (number_of m at.0.address)).state = ap (λ (y : ℕ). (granule_at m y).state) (here ∙ at.2) in
     cc)
 
--- stores and fills leave all granules but that of their address
+-- a store changes no granule except the granule of its address
 pub store_beside : (m : Machine) (address word g : ℕ) → g ≢ number_of m address → IsSameAt m (after_store m address word) g
 store_beside m address word g other =
     cond_both (can_access m address) (with_word m (number_of m address) (address % 4096 / 8) word) m (λ (n : Machine). IsSameAt m n g) (λ can. (refl, page_in-other m (number_of m address) g _ other)) (λ cannot. (refl, refl))
 
+-- a fill changes no granule except the granule of its address
 pub fill_beside : (m : Machine) (address value g : ℕ) → g ≢ number_of m address → IsSameAt m (after_fill m address value) g
 fill_beside m address value g other =
     cond_both (can_fill m address) (with_page m (number_of m address) (page_of value)) m (λ (n : Machine). IsSameAt m n g) (λ can. (refl, page_in-other m (number_of m address) g _ other)) (λ cannot. (refl, refl))

@@ -12,7 +12,8 @@ use Rattle.rmm_laws.specs.Role.{has_user, used_at, state_uses, uses, IsSound, Is
 use Rattle.rmm_laws.proofs.Uses.{IsAlike, kept_roles}
 use Rattle.rmm_laws.proofs.Writes.{granule_at-same, granule_at-other, page_in-same, page_in-other, uses-same, leads-same, used_at-same, state_uses-same, sound-with_granule, sound-with_page}
 
--- A machine in which each granule uses what it did, and is in a state as it was.
+-- Each granule uses the same granules as before. It has the same attributes, or its state requires no user, both before
+-- and after. Each entry of a table leads to a granule of the machine.
 pub record IsKept (m n : Machine) : Type 0 where
   pub settings : n.settings ≡ m.settings
   pub count : length n.granules ≡ length m.granules

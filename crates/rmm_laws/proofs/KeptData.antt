@@ -67,7 +67,7 @@ left m n kept g is = inl (kept g is)
 no_table : (m : Machine) (t : ℕ) → (granule_at m t).state ≡ Rtt → IsData (granule_at m t).state → ⊥
 no_table m t table data_is = cc
 
--- a call on no realm
+-- an UNDELEGATED or DELEGATED granule is not DATA
 pub spare_apart : (m : Machine) (g : ℕ) → IsSpare m g → (granule_at m g).state ≡ Data → ⊥
 spare_apart m g (inl free) is = cc
 spare_apart m g (inr free) is = cc
@@ -96,7 +96,7 @@ gone_data of m proper ok g is =
 
 -- ---- tables
 
--- a DELEGATED granule becomes a table or a page, to which an entry leads
+-- writing a DELEGATED granule and the page of a table leaves each data page as it was
 page_data : (m : Machine) (t g : ℕ) (kept : RmmGranule) (content page : List ℕ) → (granule_at m t).state ≡ Rtt → (granule_at m g).state ≡ Delegated → KeepsSome IsData m (with_page (with_page (with_granule m g kept) g content) t page)
 page_data m t g kept content page table free =
     let k : Machine = with_page (with_granule m g kept) g content in
@@ -117,7 +117,7 @@ made_data rd rtt ipa level m proper ok =
     let table = place_table m proper.linked r ipa (level - 1) realm is within (omega arith) in
     page_data m found.table t (of_realm r Rtt) (children_page (entry_at m found ipa) level) _ table free
 
--- a table that an entry took the place of
+-- replacing a table by an entry leaves each data page as it was
 taken_data : (m : Machine) (rd ipa level g : ℕ) (e : RmmRttEntry) → IsProper m → (granule_at m (number_of m rd)).state ≡ Rd (realm_at m rd) → ipa < 2 ^ (realm_at m rd).s2sz → (realm_at m rd).start_level ≤ level
     → table_below m (entry_at m (walk m (realm_at m rd) ipa level) ipa) ≡ Some g → KeepsSome IsData m (with_blank (with_entry m (walk m (realm_at m rd) ipa level) ipa e) g Delegated)
 taken_data m rd ipa level g e proper is within least named =
@@ -199,7 +199,7 @@ set_data rd rec base top m proper ok =
 
 -- ---- memory
 
--- the bytes of that page
+-- a DELEGATED granule that becomes a page has the bytes written to it, also after the page of a table is written
 pub page_content : (m : Machine) (t g : ℕ) (kept : RmmGranule) (content page : List ℕ) → IsProper m → (granule_at m t).state ≡ Rtt → (granule_at m g).state ≡ Delegated
     → page_in (with_page (with_page (with_granule m g kept) g content) t page) g ≡ content
 page_content m t g kept content page proper table free =
@@ -237,7 +237,7 @@ unknown_data rd page ipa m proper ok =
     let table = place_table m proper.linked r ipa 3 realm is within (served m r realm proper.linked is).level in
     page_data m t (number_of m page) (of_realm r Data) zero_page _ table free
 
--- a page that is destroyed is DELEGATED
+-- RMI_DATA_DESTROY leaves each data page as it was, or makes it DELEGATED
 left_data : (rd ipa : ℕ) (m : Machine) → IsProper m → Passed (data_destroy rd ipa m).checks → KeepsData m (data_destroy rd ipa m).machine
 unfolding data_destroy
 left_data rd ipa m proper ok g is =

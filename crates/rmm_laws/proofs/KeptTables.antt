@@ -37,7 +37,7 @@ not_ours m (Some r) rd g apart rds is (inl here) =
 not_ours m (Some r) rd g apart rds is (inr owned) = apart (sym owned ∙ ap (λ (c : RmmGranule). c.owner) is)
 not_ours m None rd g apart rds is ours = ours
 
--- tables of a realm that a call does not touch
+-- a call on another realm or on no realm leaves the pages of a realm's tables as they were
 pub tables_apart : (host : Bool) (m n : Machine) (named : Option ℕ) (rd : ℕ) → Touches host m n named → (named ≡ Some rd → ⊥) → ((r : ℕ) → named ≡ Some r → is_rd (granule_at m r).state ≡ true) → KeepsTablesOf m n rd
 tables_apart host m n named rd touches apart rds g is =
     ⊎_elim
@@ -50,11 +50,11 @@ tables_apart host m n named rd touches apart rds g is =
 
 -- ---- what is read
 
--- what an address of a realm reads, by the entry at which its walk ends, and the level of that
+-- the value that an address of a realm reads: `F` of the entry at which its walk ends and of that entry's level
 abbrev pub read_at : (A : Type 0) → (RmmRttEntry → ℕ → A) → Machine → RmmRealm → ℕ → A
 read_at A F m realm x = F (entry_at m (walk m realm x 3) x) (walk m realm x 3).level
 
--- two entries at a level read alike, or as is allowed
+-- an old and a new entry at a level have the same value by `F`, or values that `G` allows
 abbrev pub IsReadAs : (A : Type 0) → (RmmRttEntry → ℕ → A) → (A → A → Type 0) → RmmRttEntry → RmmRttEntry → ℕ → Type 0
 IsReadAs A F G old new l = (F new l ≡ F old l) ⊎ G (F old l) (F new l)
 
@@ -63,12 +63,12 @@ abbrev pub IsRead : (A : Type 0) → (RmmRttEntry → ℕ → A) → Machine →
 IsRead A F m n before after x = read_at A F n after x ≡ read_at A F m before x
 
 module _ (m n : Machine) (proper : IsProper m) (settings : n.settings ≡ m.settings) (count : length n.granules ≡ length m.granules) (rd x : ℕ) (realm : RmmRealm) where
-  -- a place of a walk whose entry is as it was
+  -- both walks go on alike at a place whose entry is the same in both machines
   pub on_same : (Good : ℕ → Type 0) (Q : RttWalk → RttWalk → Type 0) (p : RttWalk) → entry_at n p x ≡ entry_at m p x → ((table : ℕ) → table_below m (entry_at m p x) ≡ Some table → Good table) → Q p p
       → IsOn m n proper.linked proper.ordered.halves rd x realm Good Q p
   on_same Good Q p entry good end = record { leads = below_same m n settings count (entry_at n p x) ∙ ap (λ (e : RmmRttEntry). table_below m e) entry; good = good; end = end }
 
-  -- what is read at an address of a realm whose tables are as they were
+  -- a protected address of a realm reads the same in both machines if the realm's tables have the same pages in both
   module _ (A : Type 0) (F : RmmRttEntry → ℕ → A) where
     abbrev SameRead : RttWalk → RttWalk → Type 0
     SameRead p q = F (entry_at n q x) q.level ≡ F (entry_at m p x) p.level

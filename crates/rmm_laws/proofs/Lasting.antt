@@ -19,14 +19,14 @@ Lasts m n = (g : ℕ) (realm : RmmRealm) → (granule_at m g).state ≡ Rd realm
 pub lasts_all : (m : Machine) → Lasts m m
 lasts_all m g realm is = (realm, is, refl)
 
--- a granule that was no RD is written
+-- writing a granule that was no RD keeps each realm
 pub lasts_plain : (m k : Machine) (x : ℕ) (kept : RmmGranule) → is_rd (granule_at k x).state ≡ false → Lasts m k → Lasts m (with_granule k x kept)
 lasts_plain m k x kept plain lasts g realm is =
     let old = lasts g realm is in
     let other : g ≢ x = λ same. both_ways (is_rd (granule_at k x).state) plain (ap (λ (y : ℕ). is_rd (granule_at k y).state) (sym same) ∙ ap is_rd old.1) in
     (old.0, ap (λ (r : RmmGranule). r.state) (granule_at-other k x g kept other) ∙ old.1, old.2)
 
--- the realm of an RD gets another state, RIM or number of RECs
+-- replacing an RD's realm by one with the same fixed attributes keeps each realm
 pub lasts_realm : (m k : Machine) (x : ℕ) (old new : RmmRealm) → (granule_at k x).state ≡ Rd old → fixed new ≡ fixed old → Lasts m k → Lasts m (with_granule k x (of_no_realm (Rd new)))
 lasts_realm m k x old new is same lasts g realm was =
     let before = lasts g realm was in

@@ -73,7 +73,7 @@ not_spare : (m : Machine) (g : ℕ) (realm : RmmRealm) → (granule_at m g).stat
 not_spare m g realm is (inl host) = cc
 not_spare m g realm is (inr free) = cc
 
--- an RD is as it was, or the call names it
+-- a realm still exists with the same fixed attributes, or the call names it
 rd_or : (call : Call) (m : Machine) (g : ℕ) (realm : RmmRealm) → IsProper m → Passed (command_of call m).checks → (granule_at m g).state ≡ Rd realm
     → IsLasting (command_of call m).machine g realm ⊎ (named_realm m call ≡ Some g)
 rd_or call m g realm proper ok is =

@@ -38,7 +38,7 @@ use Rattle.rmm_laws.proofs.Touching.{Touches, IsMine, free_spare, untouched}
 use Rattle.rmm_laws.proofs.TouchingCalls.{delegate_touches, undelegate_touches, activate_touches, realm_create_touches, realm_destroy_touches, rtt_create_touches, rtt_destroy_touches, rtt_fold_touches, map_touches, unmap_touches, init_ripas_touches, set_ripas_touches, data_create_touches, data_create_unknown_touches, data_destroy_touches}
 use Rattle.rmm_laws.proofs.Writes.{granule_at-same, granule_at-other, page_in-same, page_in-other}
 
--- a call can change pages of the host
+-- a call is one of those for which `Touches` allows changes to pages of the host
 abbrev pub touches_host : Call → Bool
 touches_host (GranuleDelegate address) = true
 touches_host (RecEnter rec run) = true
@@ -108,7 +108,7 @@ rd_by_rec m rec r proper is =
     (λ (never : is_rec_named m rec ≡ false). (let none : None ≡ Some r = sym (cond-false (is_rec_named m rec) (granule_at m g).owner None never) ∙ is in absurd (cc)))
     (cases_Bool (is_rec_named m rec))
 
--- the realm that a call is on is that of an RD
+-- the granule that `named_realm` gives for a call is an RD
 named_rd : (m : Machine) (call : Call) (r : ℕ) → IsProper m → named_realm m call ≡ Some r → is_rd (granule_at m r).state ≡ true
 named_rd m (RealmActivate rd) r proper is = rd_by_rd m rd r is
 named_rd m (RealmDestroy rd) r proper is = rd_by_rd m rd r is
@@ -130,7 +130,7 @@ named_rd m (DataCreateUnknown rd page ipa) r proper is = rd_by_rd m rd r is
 named_rd m (DataDestroy rd ipa) r proper is = rd_by_rd m rd r is
 named_rd m _ r proper is = absurd (cc)
 
--- a page of the host is of no realm
+-- an UNDELEGATED granule does not belong to the realm that a call names
 host_apart : (m : Machine) (named : Option ℕ) (g : ℕ) → IsProper m → ((r : ℕ) → named ≡ Some r → is_rd (granule_at m r).state ≡ true) → (granule_at m g).state ≡ Undelegated → IsOfRealm m named g → ⊥
 host_apart m (Some r) g proper rds free (inl here) = both_ways (is_rd (granule_at m r).state) (ap (λ (y : ℕ). is_rd (granule_at m y).state) (sym here) ∙ ap is_rd free) (rds r refl)
 host_apart m (Some r) g proper rds free (inr owned) =
@@ -156,7 +156,7 @@ target_same m k g t rec (CpuOn target entry_point context) true other same =
     same_page m g first t _ other (same_page m g on t _ other (same_granule m g k t _ other same))
 target_same m k g t rec request begins other same = same
 
--- a granule that is no REC
+-- RMI_PSCI_COMPLETE leaves each granule that is no REC as it was
 pub completed_beside : (calling target status : ℕ) (m : Machine) (g : ℕ) → Passed (psci_complete calling target status m).checks → ((rec : RmmRec) → (granule_at m g).state ≡ IsRec rec → ⊥) → IsSameAt m (psci_complete calling target status m).machine g
 unfolding psci_complete
 completed_beside calling target status m g ok plain =
@@ -172,7 +172,7 @@ delegated_same address m g other =
     let x : ℕ = number_of m address in
     (granule_at-other m x g (of_no_realm Delegated) other, page_in-other (with_granule m x (of_no_realm Delegated)) x g zero_page other)
 
--- the granule that is delegated
+-- RMI_GRANULE_DELEGATE changes the granule at its address as `IsHostChanged` allows
 delegated_now : (address : ℕ) (m : Machine) (g : ℕ) → IsProper m → Passed (granule_delegate address m).checks → g ≡ number_of m address → IsHostChanged m (granule_delegate address m).machine (Some (GranuleDelegate address)) g
 unfolding granule_delegate
 delegated_now address m g proper ok here =
@@ -189,7 +189,7 @@ delegated_now address m g proper ok here =
       ap (page_in (with_page marked x zero_page)) here ∙ page_in-same marked x zero_page (omega arith),
     )
 
--- a page of the host after a REC was entered
+-- RMI_REC_ENTER leaves a page of the host as it was, or changes it as `IsHostChanged` allows
 entered_page : (rec run : ℕ) (m : Machine) (g : ℕ) → IsProper m → Passed (rec_enter rec run m).checks → (granule_at m g).state ≡ Undelegated
     → IsSameAt m (rec_enter rec run m).machine g ⊎ IsHostChanged m (rec_enter rec run m).machine (Some (RecEnter rec run)) g
 entered_page rec run m g proper ok free =
@@ -207,13 +207,13 @@ host_after (RecEnter rec run) m g proper free ok touches = entered_page rec run 
 host_after (PsciComplete calling target status) m g proper free ok touches = inl (completed_beside calling target status m g ok (λ rec is. cc))
 host_after call m g proper free ok touches = inl (quiet call m g proper ok free touches)
 
--- a call leaves pages of the host as they were, but for those that it is said to change
+-- a call leaves each page of the host as it was, or changes it as `IsHostChanged` allows
 pub host_left : (call : Call) (m : Machine) (g : ℕ) → IsProper m → (granule_at m g).state ≡ Undelegated → IsSameAt m (performed call m).1 g ⊎ IsHostChanged m (performed call m).1 (Some call) g
 unfolding performed
 host_left call m g proper free =
     kept (λ (n : Machine). IsSameAt m n g ⊎ IsHostChanged m n (Some call) g) (command_of call m) m (inl (refl, refl)) (λ ok. host_after call m g proper free ok (touches_of call m proper ok))
 
--- an interrupt leaves pages of the host as they were, but for the run page outside the secure world
+-- an interrupt leaves each page of the host as it was, except the REC's run page if that is outside the secure world
 pub interrupt_host : (m : Machine) (rec g : ℕ) → IsProper m → (granule_at m g).state ≡ Undelegated → IsSameAt m (interrupted m rec).1 g ⊎ IsRunPage m (interrupted m rec).1 rec g
 interrupt_host m rec g proper free =
     let kept = interrupted_then (λ (k : Machine). (granule_at k g ≡ granule_at m g) × (IsSecureHost m g → page_in k g ≡ page_in m g)) m rec proper (refl, λ it. refl) (λ w h k going. (going.hosts g free, going.secure g)) in

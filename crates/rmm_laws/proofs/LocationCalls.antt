@@ -54,16 +54,17 @@ Leads call m n rd x before after =
     (granule_at n rd).state ≡ Rd after → after.start_level ≡ before.start_level → after.first_table ≡ before.first_table → is_protected before x ≡ true
     → (location_at n after x ≡ location_at m before x) ⊎ IsLocationGiven m (Some call) rd x (location_at m before x) (location_at n after x)
 
--- where an address is led by an entry of a level, and where a call may take it
+-- the location to which an entry of a level leads an address
 abbrev pub leading : ℕ → RmmRttEntry → ℕ → Option Location
 leading x e l = location_of e (x % entry_size l)
 
+-- a call may change the location of an address from one given value to another
 abbrev pub giving : Machine → Call → ℕ → ℕ → Option Location → Option Location → Type 0
 giving m call x rd old new = IsLocationGiven m (Some call) rd x old new
 
 -- ---- entries
 
--- another RIPAS leads to the same location
+-- an entry with another RIPAS leads to the same location
 same_location : (ripas : RmmRipas) (e : RmmRttEntry) (offset : ℕ) → location_of (entry_with_ripas ripas e) offset ≡ location_of e offset
 same_location ripas (Unassigned old) offset = refl
 same_location ripas (Assigned old address) offset = refl
@@ -85,7 +86,7 @@ dead_none (AssignedNs desc) offset dead = absurd (cc)
 left_none : (realm : RmmRealm) (ipa offset : ℕ) → location_of (left_entry realm ipa) offset ≡ None
 left_none realm ipa offset = cond_both (is_protected realm ipa) (Unassigned Destroyed) UnassignedNs (λ (e : RmmRttEntry). location_of e offset ≡ None) (λ sure. refl) (λ never. refl)
 
--- an address of a page is at its place in the page
+-- an address in a page at level 3 leads to the same offset in the page's memory
 pub page_location : (ripas : RmmRipas) (address l x : ℕ) → l ≡ 3 → address % 4096 ≡ 0 → address < 2 ^ 48 → location_of (entry_of (entry_word (Assigned ripas address))) (x % entry_size l) ≡ location (address + x % 4096) 0
 unfolding entry_size
 page_location ripas address l x three begins fits =

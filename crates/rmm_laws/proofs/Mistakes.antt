@@ -31,11 +31,11 @@ use Rattle.rmm_laws.proofs.RecsGone.{beside_gone, gone_total, rd_apart}
 use Rattle.rmm_laws.proofs.Walks.{IsPlace, right, one_place, table_right, uses-entry, by_entry}
 use Rattle.rmm_laws.proofs.Writes.{granule_at-same, granule_at-other, page_in-other, named-same, taken_inside}
 
--- a table of a realm at its own level, as the end of a walk
+-- a table of a realm, with its own level, is a place of a walk in that realm
 at_level : (m : Machine) (linked : IsLinked m) (rd table : ℕ) → IsTableOf m rd table → IsPlace m linked rd 0 (record { table = table; level = linked.level table })
 at_level m linked rd table is = record { table = is; level = refl }
 
--- what a TABLE entry leads to
+-- a TABLE entry in a realm's table leads to a table of that realm, one level further down
 below_at : (m : Machine) (linked : IsLinked m) (rd table i g : ℕ) → IsTableOf m rd table → i < 512 → table_below m (entry_in_page (page_in m table) i) ≡ Some g
     → (granule_at m g ≡ record { state = Rtt; owner = Some rd }) × (linked.level g ≡ linked.level table + 1)
 below_at m linked rd table i g is lt leads =
@@ -47,7 +47,7 @@ pub below_same : (m n : Machine) (entry : RmmRttEntry) → n.settings ≡ m.sett
 below_same m n (Table address) settings count = named-same m n settings count address
 below_same m n _ settings count = refl
 
--- a table that is destroyed, and whose entry is left
+-- making a table DELEGATED while its entry is left breaks `IsProper`
 pub entry_left : (m : Machine) (rd table i g : ℕ) → IsProper m → IsTableOf m rd table → i < 512 → table_below m (entry_in_page (page_in m table) i) ≡ Some g → IsProper (with_blank m g Delegated) → ⊥
 entry_left m rd table i g proper is lt leads after =
     let n : Machine = with_blank m g Delegated in
@@ -63,7 +63,7 @@ entry_left m rd table i g proper is lt leads after =
     let free : (granule_at n g).state ≡ Delegated = ap (λ (r : RmmGranule). r.state) (granule_at-same m g (of_no_realm Delegated) inside) in
     cc
 
--- what a page of a mapping is
+-- part `part` of an ASSIGNED entry uses the DATA granule that is `part` granules after the entry's first granule
 page_of : (m : Machine) (linked : IsLinked m) (rd table i part address g : ℕ) (ripas : RmmRipas) → IsTableOf m rd table → i < 512 → part < page_count (linked.level table) → entry_in_page (page_in m table) i ≡ Assigned ripas address
     → granule_named m address ≡ Some g → uses m linked.level table i part ≡ Some (used Data (Some rd) 0 (g + part))
 page_of m linked rd table i part address g ripas is lt few entry named =
@@ -76,7 +76,7 @@ page_of m linked rd table i part address g ripas is lt few entry named =
 same_number : (base address other g h p q : ℕ) → address ≡ base + g * 4096 → other ≡ base + h * 4096 → address + p * 4096 ≡ other + q * 4096 → g + p ≡ h + q
 same_number base address other g h p q one two same = omega arith
 
--- a granule that two entries map
+-- two pages of ASSIGNED entries at the same memory address are the same page of the same entry
 pub named_twice : (m : Machine) (proper : IsProper m) (rd s x i p y j q address other : ℕ) (a b : RmmRipas) → IsTableOf m rd x → IsTableOf m s y → i < 512 → j < 512 → entry_in_page (page_in m x) i ≡ Assigned a address
     → entry_in_page (page_in m y) j ≡ Assigned b other → p < page_count (proper.linked.level x) → q < page_count (proper.linked.level y) → address + p * 4096 ≡ other + q * 4096 → (x ≡ y) × (i ≡ j) × (p ≡ q)
 named_twice m proper rd s x i p y j q address other a b one two lt also first second few_p few_q same =
@@ -92,7 +92,7 @@ named_twice m proper rd s x i p y j q address other a b one two lt also first se
 one_missing : (now before : ℕ) → now ≡ before → now + 1 ≡ before → ⊥
 one_missing now before same sum = omega arith
 
--- a REC that is removed, with its auxiliary granules, while its realm counts it
+-- making a REC and its auxiliary granules DELEGATED while its realm still counts the REC breaks `IsProper`
 pub rec_still_counted : (m : Machine) (g : ℕ) (rec : RmmRec) → IsProper m → (granule_at m g).state ≡ IsRec rec → IsProper (with_blank (with_aux m g (of_no_realm Delegated) m.settings.aux) g Delegated) → ⊥
 rec_still_counted m g rec proper is after =
     let aux : ℕ = m.settings.aux in
@@ -109,7 +109,7 @@ rec_still_counted m g rec proper is after =
     one_missing (count_by (is_rec_in rd) n.granules) (count_by (is_rec_in rd) m.granules) (sym now ∙ before)
     (ap (λ (k : ℕ). count_by (is_rec_in rd) n.granules + k) (sym one) ∙ sum)
 
--- the owner of a granule is an RD
+-- an owner of a granule is an RD
 owned_of : (m : Machine) (s : RmmGranuleState) (owner : Option ℕ) (page : List ℕ) (rd : ℕ) → owner ≡ Some rd → IsOrderly m s owner page → is_rd (granule_at m rd).state ≡ true
 owned_of m (IsRec rec) owner page rd owned fine = subst (IsOwner m) owned fine.0
 owned_of m RecAux owner page rd owned fine = subst (IsOwner m) owned fine
@@ -119,7 +119,7 @@ owned_of m Undelegated owner page rd owned fine = let never : None ≡ Some rd =
 owned_of m Delegated owner page rd owned fine = let never : None ≡ Some rd = sym fine.0 ∙ owned in absurd (cc)
 owned_of m (Rd realm) owner page rd owned fine = let never : None ≡ Some rd = sym fine ∙ owned in absurd (cc)
 
--- an RD that is removed, with the starting tables, while its realm has another granule
+-- making an RD and its starting tables DELEGATED while its realm owns another granule breaks `IsProper`
 pub owner_removed : (m : Machine) (rd g : ℕ) (realm : RmmRealm) → IsProper m → (granule_at m rd).state ≡ Rd realm → (granule_at m g).owner ≡ Some rd → ((k : ℕ) → k < realm.table_count → g ≢ realm.first_table + k)
     → IsProper (with_blank (without_tables m realm realm.table_count) rd Delegated) → ⊥
 owner_removed m rd g realm proper is owned beside after =
@@ -134,6 +134,6 @@ owner_removed m rd g realm proper is owned beside after =
     let free : is_rd (granule_at n rd).state ≡ false = ap (λ (r : RmmGranule). is_rd r.state) (granule_at-same cleared rd (of_no_realm Delegated) (omega arith)) in
     both_ways (is_rd (granule_at n rd).state) free now
 
--- a DELEGATED granule that is not wiped
+-- under `IsProper` each DELEGATED granule is zero, so a DELEGATED granule that is not zero breaks `IsProper`
 pub wipe_left_out : (m : Machine) (g : ℕ) → IsProper m → (granule_at m g).state ≡ Delegated → page_in m g ≡ zero_page
 wipe_left_out m g proper is = (subst (λ (s : RmmGranuleState). IsOrderly m s (granule_at m g).owner (page_in m g)) is (proper.ordered.each g)).1

@@ -4,7 +4,8 @@ use Rattle.std.proofs.lemmas.Bool.{cases_eq, cases_lt}
 use Rattle.std.proofs.lemmas.Nat.{div-mul-add, mod-mul-add, div-add-mod', div_below, mod_below}
 use Rattle.rmm_laws.specs.Role.{Used, IsUsed, HasNoUser, HasOneRole}
 
--- Places of two lists of uses: each use of the one is at a place of the other, and each place has at most one.
+-- `Same` relates the places of two lists of uses. Each use of one list is in the other at a related place. A place of
+-- the first list is related to at most one place of the second.
 pub record IsMoved (F G : ℕ → ℕ → ℕ → Option Used) (Same : ℕ → ℕ → ℕ → ℕ → ℕ → ℕ → Type 0) : Type 0 where
   pub forth : (x i k : ℕ) (u : Used) → F x i k ≡ Some u → (y : ℕ) × (j : ℕ) × (l : ℕ) × Same x i k y j l × (G y j l ≡ Some u)
   pub back : (y j l : ℕ) (u : Used) → G y j l ≡ Some u → (x : ℕ) × (i : ℕ) × (k : ℕ) × Same x i k y j l × (F x i k ≡ Some u)
@@ -54,10 +55,11 @@ pub record IsUnfolded (B P : ℕ → ℕ → ℕ → Option Used) (t i g C c : �
   pub beside : (x j k : ℕ) → x ≢ g → (x ≢ t) ⊎ (j ≢ i) → P x j k ≡ B x j k
 
 module _ (B P : ℕ → ℕ → ℕ → Option Used) (t i g C c : ℕ) (memory : ℕ → Used) (u : IsUnfolded B P t i g C c memory) where
-  -- the place of a block's page among those of the table, or a place of another granule
+  -- a page's place in the block and its place in the table
   abbrev IsPart : ℕ → ℕ → ℕ → ℕ → ℕ → ℕ → Type 0
   IsPart x h k y j l = (x ≡ t) × (h ≡ i) × (y ≡ g) × (k ≡ j * c + l) × (l < c)
 
+  -- a place that is neither the block's nor the table's, and is the same in both lists
   abbrev IsElsewhere : ℕ → ℕ → ℕ → ℕ → ℕ → ℕ → Type 0
   IsElsewhere x h k y j l = (y ≡ x) × (j ≡ h) × (l ≡ k) × (x ≢ g) × ((x ≢ t) ⊎ (h ≢ i))
 
@@ -70,7 +72,7 @@ module _ (B P : ℕ → ℕ → ℕ → Option Used) (t i g C c : ℕ) (memory :
   none_some : {o : Option Used} {v : Used} → o ≡ None → o ≡ Some v → ⊥
   none_some none some = cc
 
-  -- a page of the block
+  -- each page that the block uses is used by an entry of the table
   from_block : (k : ℕ) (v : Used) → B t i k ≡ Some v → (j : ℕ) × (l : ℕ) × (k ≡ j * c + l) × (l < c) × (P g j l ≡ Some v)
   from_block k v is =
       ⊎_elim
@@ -84,7 +86,7 @@ module _ (B P : ℕ → ℕ → ℕ → Option Used) (t i g C c : ℕ) (memory :
       (λ (past : C ≤ k). absurd (none_some (u.block_end k past) is))
       (cases_lt k C)
 
-  -- a page of the table
+  -- each page that an entry of the table uses is used by the block
   from_table : (j l : ℕ) (v : Used) → P g j l ≡ Some v → (l < c) × (B t i (j * c + l) ≡ Some v)
   from_table j l v is =
       ⊎_elim
@@ -100,7 +102,7 @@ module _ (B P : ℕ → ℕ → ℕ → Option Used) (t i g C c : ℕ) (memory :
       (λ (past : 512 ≤ j). absurd (none_some (u.parts_end j l (inl past)) is))
       (cases_lt j 512)
 
-  -- a place that is neither the block nor of the table
+  -- a place is that of entry `i` of table `t`, or it is of another granule or another entry
   elsewhere : (x h : ℕ) → ((x ≡ t) × (h ≡ i)) ⊎ ((x ≢ t) ⊎ (h ≢ i))
   elsewhere x h =
       ⊎_elim

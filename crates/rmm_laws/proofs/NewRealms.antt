@@ -45,7 +45,7 @@ unfolding start_page entry_in_page
 start_entry_is realm k j lt =
     ap entry_of (word_of_page-with_words (λ (i : ℕ). entry_word (start_entry realm (k * 512 + i))) zero_page (length-page_of 0) 512 j (lit≤ tt) lt (entry_word-fits (start_entry realm (k * 512 + j))))
 
--- the entry is of the half that it begins in
+-- an entry of the starting tables is allowed in the half of each address that it covers
 start_half : (realm : RmmRealm) (n ipa : ℕ) → realm.start_level ≤ 3 → entry_size realm.start_level < 2 ^ realm.s2sz → ipa / entry_size realm.start_level ≡ n → IsOfHalf realm ipa (start_entry realm n)
 start_half realm n ipa few wide covers =
     let begin = entry_start realm.start_level few n ipa covers in
@@ -89,13 +89,13 @@ module _ (p q : Machine) (linked : IsLinked p) (halves : HasHalves p) (rd : ℕ)
       (cases_lt g realm.first_table) in
       (cond-false (is_new g) _ _ out, cond-false (is_new g) _ _ out)
 
-  -- a table of before is none of the new ones
+  -- no table of the machine before is a starting table of the new realm
   old_table : (g : ℕ) → (granule_at p g).state ≡ Rtt → NoStart realm g
   old_table g is i lt same =
       let free : (granule_at p g).state ≡ Delegated = ap (λ (x : ℕ). (granule_at p x).state) same ∙ step.free i lt in
       cc
 
-  -- an RD is the new one, or one of before
+  -- an RD other than the new one was the RD of the same realm before
   old_realm : (x : ℕ) (other : RmmRealm) → (granule_at q x).state ≡ Rd other → x ≢ rd → (granule_at p x).state ≡ Rd other
   old_realm x other is ne =
       ⊎_elim

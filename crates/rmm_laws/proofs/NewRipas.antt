@@ -36,7 +36,7 @@ use Rattle.rmm_laws.proofs.States.{same_realm}
 use Rattle.rmm_laws.proofs.Walks.{entry_index-few, start_inside}
 use Rattle.rmm_laws.proofs.Writes.{granule_at-same}
 
--- the entry of the starting tables that covers a protected address
+-- the starting tables' entry that covers a protected address is UNASSIGNED, with RIPAS EMPTY
 start_empty : (realm : RmmRealm) (n ipa : ℕ) → realm.start_level ≤ 3 → ipa / entry_size realm.start_level ≡ n → is_protected realm ipa ≡ true → start_entry realm n ≡ Unassigned Empty
 start_empty realm n ipa few covers protected =
     let begin = (entry_start realm.start_level few n ipa covers).0 in
@@ -85,7 +85,7 @@ new_entries rd params ipa realm m proper ok is protected =
     (λ i lt. (made_tables m r made sound fit.inside made.table_count i (omega arith) lt).1))
     protected
 
--- each protected address of a realm that was just created is UNASSIGNED, and EMPTY
+-- each protected address of a realm that was just created is UNASSIGNED, with RIPAS EMPTY
 pub new_empty : (m : Machine) (rd params ipa : ℕ) (realm : RmmRealm) → IsProper m → (performed (RealmCreate rd params) m).0.word ≡ Success
     → (granule_at (performed (RealmCreate rd params) m).1 (number_of m rd)).state ≡ Rd realm → is_protected realm ipa ≡ true
     → entry_at (performed (RealmCreate rd params) m).1 (walk (performed (RealmCreate rd params) m).1 realm ipa 3) ipa ≡ Unassigned Empty

@@ -12,7 +12,7 @@ use Rattle.rmm_laws.specs.Role.{has_user, used_at, entry_uses, state_uses, uses,
 use Rattle.rmm_laws.proofs.Uses.{IsMore, added, removed}
 use Rattle.rmm_laws.proofs.Writes.{is_user, uses-same, uses-plain, used_at-same, entry_uses-same, leads-same}
 
--- what a table uses by an entry
+-- a table uses at each index below 512 what its entry uses, and nothing at other indices
 pub uses-table : (m : Machine) (level : ℕ → ℕ) (t j k : ℕ) → (granule_at m t).state ≡ Rtt
     → uses m level t j k ≡ (if nat_lt j 512 then entry_uses m (granule_at m t).owner (level t) (entry_in_page (page_in m t) j) k else None)
 unfolding uses
@@ -25,7 +25,8 @@ uses-table_in m level t j k is lt = uses-table m level t j k is ∙ cond-true _ 
 pub uses-table_out : (m : Machine) (level : ℕ → ℕ) (t j k : ℕ) → (granule_at m t).state ≡ Rtt → 512 ≤ j → uses m level t j k ≡ None
 uses-table_out m level t j k is past = uses-table m level t j k is ∙ cond-false _ _ _ (le-ltb j 512 past)
 
--- A granule is DELEGATED in one machine, and in the other entry i of a table uses it, and it uses nothing.
+-- A granule is DELEGATED in one machine. In the other, entry i of a table uses it, and it uses nothing itself. All
+-- other granules and entries are the same.
 pub record IsOneMore (m n : Machine) (before after : ℕ → ℕ) (t i g : ℕ) : Type 0 where
   pub settings : n.settings ≡ m.settings
   pub count : length n.granules ≡ length m.granules
@@ -53,7 +54,7 @@ module _ (m n : Machine) (before after : ℕ → ℕ) (t i g : ℕ) (step : IsOn
   still_table : (granule_at n t).state ≡ Rtt
   still_table = ap (λ (r : RmmGranule). r.state) (step.beside t (other_table t step.table)) ∙ step.table
 
-  -- what the table uses by an entry in the second machine
+  -- in the second machine, the table uses at each index what its entry there uses
   there : (j k : ℕ) → j < 512 → uses n after t j k ≡ entry_uses n (granule_at m t).owner (before t) (entry_in_page (page_in n t) j) k
   there j k lt =
       uses-table_in n after t j k still_table lt

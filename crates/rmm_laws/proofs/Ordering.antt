@@ -55,14 +55,16 @@ use Rattle.rmm_laws.proofs.Writes.{granule_at-other, taken_inside}
 
 -- ---- writes of commands
 
--- a granule that counts in no realm becomes another such one
+-- changing a granule that is no RD and no REC to another such granule keeps `IsOrdered`, if it is then orderly and
+-- `HasHalves` still holds
 changed : (m : Machine) (g : ℕ) (kept : RmmGranule) (page : List ℕ) → IsSound m → IsOrdered m → g < length m.granules → is_counter (granule_at m g).state ≡ false → is_counter kept.state ≡ false
     → IsOrderly m kept.state kept.owner page → HasHalves (with_page (with_granule m g kept) g page) → IsOrdered (with_page (with_granule m g kept) g page)
 changed m g kept page sound ordered inside before after fine halves =
     let pages = sound.pages in
     ordered_both m g kept page inside (omega arith) ordered (λ sure. absurd (no_rd (granule_at m g).state before sure)) (plain_alike (granule_at m g) kept before after) fine halves
 
--- a DELEGATED granule becomes one of a realm, and the page of a table is written
+-- making a DELEGATED granule an orderly granule of a realm, no RD and no REC, and then writing a table's page keeps
+-- `IsOrdered`, if `HasHalves` holds after both writes
 made : (m : Machine) (g rd t : ℕ) (state : RmmGranuleState) (content page : List ℕ) → IsSound m → IsOrdered m → g < length m.granules → (granule_at m g).state ≡ Delegated → is_counter state ≡ false
     → IsOrderly m state (Some rd) content → (granule_at m t).state ≡ Rtt → HasHalves (with_page (with_granule m g (of_realm rd state)) g content)
     → HasHalves (with_page (with_page (with_granule m g (of_realm rd state)) g content) t page) → IsOrdered (with_page (with_page (with_granule m g (of_realm rd state)) g content) t page)
@@ -71,7 +73,8 @@ made m g rd t state content page sound ordered inside free plain fine is halves 
     ordered_table (with_page (with_granule m g (of_realm rd state)) g content) t page (ap (λ (r : RmmGranule). r.state) (granule_at-other m g t (of_realm rd state) other) ∙ is)
     (changed m g (of_realm rd state) content sound ordered inside (ap is_counter free) plain fine halves) then
 
--- the page of a table is written, and another granule becomes DELEGATED
+-- writing a table's page, then making a granule that is no RD and no REC DELEGATED, keeps `IsOrdered`, if `HasHalves`
+-- holds after the page is written
 freed : (m : Machine) (g t : ℕ) (page : List ℕ) → IsSound m → IsOrdered m → g < length m.granules → is_counter (granule_at m g).state ≡ false → (granule_at m t).state ≡ Rtt → HasHalves (with_page m t page)
     → IsOrdered (with_blank (with_page m t page) g Delegated)
 freed m g t page sound ordered inside plain is halves =
@@ -122,7 +125,7 @@ rtt_create_ordered rd rtt ipa level m proper ok =
     (made_halves m proper.linked proper.ordered.halves (number_of m rd) ipa (level - 1) realm is within (omega arith) rtt level inside (number_inside m rtt inside) free low leaf (omega arith) (omega arith))
     (table_halves m proper.linked proper.ordered.halves (number_of m rd) ipa (level - 1) realm is within (omega arith) rtt level inside (number_inside m rtt inside) free low leaf (omega arith) (omega arith))
 
--- a table at which a walk ends, and a table that its entry leads to
+-- The table at which a walk ends is written, and the table to which its entry leads becomes DELEGATED.
 module _ (m : Machine) (proper : IsProper m) (rd ipa level : ℕ) (is : (granule_at m (number_of m rd)).state ≡ Rd (realm_at m rd)) (within : ipa < 2 ^ (realm_at m rd).s2sz) (least : (realm_at m rd).start_level ≤ level)
     (below : is_some (table_below m (entry_at m (walk m (realm_at m rd) ipa level) ipa)) ≡ true) (page : List ℕ) where
   abbrev found : RttWalk
@@ -142,7 +145,7 @@ module _ (m : Machine) (proper : IsProper m) (rd ipa level : ℕ) (is : (granule
       freed m g found.table page proper.linked.sound proper.ordered (let t = table_is in taken_inside m g (λ free. cc)) (ap is_counter table_is)
       (place_table m proper.linked (number_of m rd) ipa level (realm_at m rd) is within least) halves
 
--- the entry that a destroyed table leaves
+-- writing the entry that a destroyed table leaves keeps `HasHalves`
 left_halves : (m : Machine) (linked : IsLinked m) → HasHalves m → (rd ipa level : ℕ) (realm : RmmRealm) → (granule_at m rd).state ≡ Rd realm → ipa < 2 ^ realm.s2sz → realm.start_level ≤ level
     → HasHalves (with_entry m (walk m realm ipa level) ipa (left_entry realm ipa))
 left_halves m linked halves rd ipa level realm is within least =
@@ -164,7 +167,8 @@ rtt_destroy_ordered rd ipa level m proper ok =
     table_freed m proper rd ipa (level - 1) is within (omega arith) (yes_from _ ok.1.1.1.1.1.1.1.0) _
     (left_halves m proper.linked proper.ordered.halves (number_of m rd) ipa (level - 1) realm is within (omega arith))
 
--- a mapping that is folded is at a level at which there are blocks
+-- a mapping that is folded is at a level at which there are blocks, and its memory is aligned to the size of a block
+-- there
 folded_placed : (m : Machine) (first : RmmRttEntry) (level above least : ℕ) → above ≡ level - 1 → least + 1 ≤ level → is_aligned_above first level ≡ true → (is_mapping first && nat_le level m.settings.block_level) ≡ false
     → IsPlaced m.settings above first
 folded_placed m first level above least is more aligned passed = λ mapped.
@@ -197,7 +201,7 @@ rtt_fold_ordered rd ipa level m proper ok =
     (entry_folded m proper.linked proper.ordered.halves (number_of m rd) ipa (level - 1) realm is within (omega arith) g level named (omega arith) leaf tests.1
     (folded_placed m first level place.level realm.start_level there least (and_parts (not (is_table first)) (is_aligned_above first level) tests.0).1 ok.1.1.1.1.1.1.1.1.1.0))
 
--- halves of entries that are replaced
+-- an address for which an ASSIGNED_NS entry is allowed is in the upper half
 mapped_half : (realm : RmmRealm) (ipa : ℕ) (e : RmmRttEntry) → is_assigned_ns e ≡ true → IsOfHalf realm ipa e → 2 ^ (realm.s2sz - 1) ≤ ipa
 mapped_half realm ipa (AssignedNs desc) is half = half.0
 mapped_half realm ipa _ is half = absurd (cc)
@@ -309,7 +313,7 @@ data_create_unknown_ordered rd target ipa m proper ok =
     (placed_page m.settings (walk m realm ipa 3).level (ripas_in (entry_at m (walk m realm ipa 3) ipa)) target proper.linked.sound.platform.block (eqb-true _ _ (yes_from _ ok.1.1.1.1.1.1.1.1.0)))
     (λ x some. free_half some x (entry_at m (walk m realm ipa 3) ipa) (yes_from _ ok.1.1.1.1.1.1.1.1.1.0)))
 
--- the page that an entry of level 3 leads to
+-- The granule to which an entry of level 3 leads is a DATA granule of the realm.
 module _ (m : Machine) (proper : IsLinked m) (rd ipa : ℕ) (is : (granule_at m (number_of m rd)).state ≡ Rd (realm_at m rd)) (within : ipa < 2 ^ (realm_at m rd).s2sz)
     (reaches : (walk m (realm_at m rd) ipa 3).level ≡ 3) (g : ℕ) (named : memory_below m (entry_at m (walk m (realm_at m rd) ipa 3) ipa) ≡ Some g) where
   pub memory_is : granule_at m g ≡ of_realm (number_of m rd) Data

@@ -33,7 +33,7 @@ pub rd_is : (s : RmmGranuleState) → is_rd s ≡ true → (realm : RmmRealm) ×
 rd_is (Rd realm) is = (realm, refl)
 rd_is _ is = absurd (cc)
 
--- an owner of one machine that is an RD of another
+-- an owner that is an RD in the first machine is an RD in the second
 abbrev pub KeepsOwner : Machine → Machine → Option ℕ → Type 0
 KeepsOwner m n owner = (rd : ℕ) → owner ≡ Some rd → is_rd (granule_at m rd).state ≡ true → is_rd (granule_at n rd).state ≡ true
 
@@ -52,14 +52,14 @@ module _ (m n : Machine) (settings : n.settings ≡ m.settings) (count : length 
   orderly_still Data owner page keeps is = owner_still owner keeps is
   orderly_still Rtt owner page keeps is = owner_still owner keeps is
 
-  -- a granule that is as it was
+  -- a granule with the same attributes and page in both machines stays orderly if its owner is still an RD
   pub orderly_same : (h : ℕ) → granule_at n h ≡ granule_at m h → page_in n h ≡ page_in m h → KeepsOwner m n (granule_at m h).owner → IsOrderlyAt m h → IsOrderlyAt n h
   orderly_same h same page keeps is =
       subst (λ (r : RmmGranule). IsOrderly n r.state r.owner (page_in n h)) (sym same)
       (subst (λ (p : List ℕ). IsOrderly n (granule_at m h).state (granule_at m h).owner p) (sym page)
       (orderly_still (granule_at m h).state (granule_at m h).owner (page_in m h) keeps is))
 
-  -- RDs of a machine that differs at one granule
+  -- each RD is still an RD in a machine that differs at one granule, unless that granule was an RD and is none now
   rds_but : (g : ℕ) → ((h : ℕ) → h ≢ g → granule_at n h ≡ granule_at m h) → (is_rd (granule_at m g).state ≡ true → is_rd (granule_at n g).state ≡ true) → (rd : ℕ)
       → is_rd (granule_at m rd).state ≡ true → is_rd (granule_at n rd).state ≡ true
   rds_but g same there rd is =
@@ -68,7 +68,7 @@ module _ (m n : Machine) (settings : n.settings ≡ m.settings) (count : length 
       (λ (other : rd ≢ g). ap (λ (r : RmmGranule). is_rd r.state) (same rd other) ∙ is)
       (cases_eq rd g)
 
-  -- a machine that differs at one granule
+  -- all granules stay orderly if only one granule changes, and it is then orderly and does not cease to be an RD
   pub orderly_but : (g : ℕ) → ((h : ℕ) → h ≢ g → (granule_at n h ≡ granule_at m h) × (page_in n h ≡ page_in m h)) → (is_rd (granule_at m g).state ≡ true → is_rd (granule_at n g).state ≡ true)
       → IsOrderlyAt n g → ((h : ℕ) → IsOrderlyAt m h) → (h : ℕ) → IsOrderlyAt n h
   orderly_but g same there here before h =
@@ -79,18 +79,19 @@ module _ (m n : Machine) (settings : n.settings ≡ m.settings) (count : length 
 
 -- ---- counts
 
--- the RECs that an RD has counted
+-- the number of RECs that an RD's realm has counted; `None` for another state
 abbrev pub counted : RmmGranuleState → Option ℕ
 counted (Rd realm) = Some realm.rec_count
 counted _ = None
 
--- a granule counts in no realm: it is neither RD nor REC
+-- a state is that of an RD or a REC, on which the counts of RECs depend
 abbrev pub is_counter : RmmGranuleState → Bool
 is_counter (Rd realm) = true
 is_counter (IsRec rec) = true
 is_counter _ = false
 
--- both granules are RECs of a realm or neither is, and as RDs they have as many RECs
+-- both granules are RECs of the same realm or neither is one, and both are RDs with the same count of RECs or neither
+-- is an RD
 abbrev pub CountAlike : RmmGranule → RmmGranule → Type 0
 CountAlike old new = ((rd : ℕ) → is_rec_in rd new ≡ is_rec_in rd old) × (counted new.state ≡ counted old.state)
 
@@ -123,7 +124,7 @@ some_counted _ n is = absurd (cc)
 same_sum : (now before one : ℕ) → now + one ≡ before + one → now ≡ before
 same_sum now before one is = omega arith
 
--- the RECs of a realm after a granule changes
+-- a change of one granule changes a realm's count of RECs by that granule alone
 pub total-set : (m : Machine) (g : ℕ) (kept : RmmGranule) (rd : ℕ) → g < length m.granules
     → count_by (is_rec_in rd) (with_granule m g kept).granules + cond (is_rec_in rd (granule_at m g)) 1 0 ≡ count_by (is_rec_in rd) m.granules + cond (is_rec_in rd kept) 1 0
 total-set m g kept rd inside = sum_by-set (λ (r : RmmGranule). cond (is_rec_in rd r) 1 0) m.granules g kept (of_no_realm Undelegated) inside
@@ -151,7 +152,7 @@ recs-set m g kept inside alike ordered rd realm is =
     (λ (other : rd ≢ g). ordered.recs rd realm (sym (ap (λ (r : RmmGranule). r.state) (granule_at-other m g rd kept other)) ∙ is) ∙ sym total)
     (cases_eq rd g)
 
--- no REC of a realm is counted
+-- the count of a realm's RECs is 0 if no granule is a REC of the realm
 none_in : (rd : ℕ) (d : RmmGranule) (granules : List RmmGranule) → ((h : ℕ) → is_rec_in rd (get_or granules h d) ≡ false) → count_by (is_rec_in rd) granules ≡ 0
 none_in rd d [] none = refl
 none_in rd d (x ∷ rest) none =
@@ -165,7 +166,7 @@ none_counted m rd none = none_in rd (of_no_realm Undelegated) m.granules none
 more_than_none : (now before : ℕ) → now + 1 ≡ before + 0 → 0 < before
 more_than_none now before is = omega arith
 
--- a REC of a realm is counted
+-- the count of a realm's RECs is above 0 if some granule is a REC of the realm
 pub some_rec : (m : Machine) (g rd : ℕ) → g < length m.granules → is_rec_in rd (granule_at m g) ≡ true → 0 < count_by (is_rec_in rd) m.granules
 some_rec m g rd inside is =
     let now : ℕ = count_by (is_rec_in rd) (with_granule m g (of_no_realm Undelegated)).granules in
@@ -183,7 +184,7 @@ page_either m g page =
     inr (get_or_past (set m.pages g page) g [] (subst (λ (n : ℕ). n ≤ g) (sym (length-set m.pages g page)) past) ∙ sym (get_or_past m.pages g [] past)))
     (cases_lt g (length m.pages))
 
--- another page
+-- writing a granule's page keeps `IsOrdered`, if the granule is orderly with the new page and `HasHalves` still holds
 pub ordered_page : (m : Machine) (g : ℕ) (page : List ℕ) → IsOrdered m → IsOrderly m (granule_at m g).state (granule_at m g).owner page → HasHalves (with_page m g page)
     → IsOrdered (with_page m g page)
 ordered_page m g page ordered fine halves =
@@ -198,7 +199,8 @@ ordered_page m g page ordered fine halves =
       halves = halves;
     }
 
--- other attributes
+-- giving a granule other attributes keeps `IsOrdered`, if it is orderly, counts alike and does not cease to be an RD,
+-- and `HasHalves` still holds
 pub ordered_granule : (m : Machine) (g : ℕ) (kept : RmmGranule) → g < length m.granules → IsOrdered m → (is_rd (granule_at m g).state ≡ true → is_rd kept.state ≡ true) → CountAlike (granule_at m g) kept
     → IsOrderly m kept.state kept.owner (page_in m g) → HasHalves (with_granule m g kept) → IsOrdered (with_granule m g kept)
 ordered_granule m g kept inside ordered rds alike fine halves =
@@ -214,7 +216,8 @@ ordered_granule m g kept inside ordered rds alike fine halves =
       halves = halves;
     }
 
--- other attributes and another page
+-- giving a granule other attributes and another page keeps `IsOrdered`, if it is then orderly, counts alike and does
+-- not cease to be an RD, and `HasHalves` still holds
 pub ordered_both : (m : Machine) (g : ℕ) (kept : RmmGranule) (page : List ℕ) → g < length m.granules → g < length m.pages → IsOrdered m → (is_rd (granule_at m g).state ≡ true → is_rd kept.state ≡ true)
     → CountAlike (granule_at m g) kept → IsOrderly m kept.state kept.owner page → HasHalves (with_page (with_granule m g kept) g page) → IsOrdered (with_page (with_granule m g kept) g page)
 ordered_both m g kept page inside has_page ordered rds alike fine halves =
@@ -248,7 +251,7 @@ ordered_rec m g old rec inside is ordered =
     (subst (λ (s : RmmGranuleState). IsOrderly m s (granule_at m g).owner (page_in m g)) is (ordered.each g))
     (plain_granule m g (record (granule_at m g) { state = IsRec rec }) inside refl ordered.halves)
 
--- the page of a REC that names the same auxiliary granules
+-- writing a REC's page keeps `IsOrdered`, if the new page names the same auxiliary granules
 pub ordered_rec_page : (m : Machine) (g : ℕ) (rec : RmmRec) (page : List ℕ) → (granule_at m g).state ≡ IsRec rec → ((k : ℕ) → k < m.settings.aux → aux_of page k ≡ aux_of (page_in m g) k) → IsOrdered m
     → IsOrdered (with_page m g page)
 ordered_rec_page m g rec page is same ordered =
@@ -257,7 +260,7 @@ ordered_rec_page m g rec page is same ordered =
     (subst (λ (s : RmmGranuleState). IsOrderly m s (granule_at m g).owner page) (sym is) (before.0, λ k lt. subst (IsBegin m) (sym (same k lt)) (before.1 k lt)))
     (plain_page m g page (ap has_space is) ordered.halves)
 
--- the page of a table
+-- writing a table's page keeps `IsOrdered`, if `HasHalves` still holds
 pub ordered_table : (m : Machine) (t : ℕ) (page : List ℕ) → (granule_at m t).state ≡ Rtt → IsOrdered m → HasHalves (with_page m t page) → IsOrdered (with_page m t page)
 ordered_table m t page is ordered halves =
     let before = subst (λ (s : RmmGranuleState). IsOrderly m s (granule_at m t).owner (page_in m t)) is (ordered.each t) in
@@ -283,7 +286,7 @@ pub ordered_memory : (m : Machine) (g : ℕ) (page : List ℕ) → is_memory_sta
 ordered_memory m g page is ordered = ordered_page m g page ordered (memory_fine m (granule_at m g).state (granule_at m g).owner (page_in m g) page is (ordered.each g))
     (plain_page m g page (memory_no_space (granule_at m g).state is) ordered.halves)
 
--- a granule of that state is of a realm
+-- a granule of this state belongs to a realm
 abbrev pub has_owner : RmmGranuleState → Bool
 has_owner (IsRec rec) = true
 has_owner RecAux = true
@@ -298,11 +301,11 @@ owned m Data owner page has fine = fine
 owned m Rtt owner page has fine = fine
 owned m _ owner page has fine = absurd (cc)
 
--- the RD of a granule's realm
+-- a granule whose state requires an owner is owned by an RD
 pub rd_of : (m : Machine) (g : ℕ) → IsOrdered m → (s : RmmGranuleState) → (granule_at m g).state ≡ s → has_owner s ≡ true → IsOwner m (granule_at m g).owner
 rd_of m g ordered s is has = owned m s (granule_at m g).owner (page_in m g) has (subst (λ (t : RmmGranuleState). IsOrderly m t (granule_at m g).owner (page_in m g)) is (ordered.each g))
 
--- the VMIDs of a machine have no owners
+-- marking a VMID as used or free keeps `IsOrdered`
 pub ordered_vmid : (m : Machine) (vmid : ℕ) (is_used : Bool) → IsOrdered m → IsOrdered (with_vmid m vmid is_used)
 ordered_vmid m vmid is_used ordered = record {
   each = λ h. orderly_same m (with_vmid m vmid is_used) refl refl h refl refl (λ rd named sure. sure) (ordered.each h);
@@ -320,7 +323,7 @@ rec_some : (s : RmmGranuleState) → is_some (rec_of s) ≡ true → (rec : RmmR
 rec_some (IsRec rec) is = (rec, refl)
 rec_some _ is = absurd (cc)
 
--- a REC of the realm of an RD
+-- a granule that is counted as a REC of a realm is a REC whose owner is the realm's RD
 pub rec_in : (rd : ℕ) (r : RmmGranule) → is_rec_in rd r ≡ true → (rec : RmmRec) × (r.state ≡ IsRec rec) × (r.owner ≡ Some rd)
 rec_in rd r is =
     let parts = and_parts (is_some (rec_of r.state)) (is_owner rd r.owner) is in
@@ -330,7 +333,7 @@ rec_in rd r is =
 pub rec_in-true : (rd : ℕ) (r : RmmGranule) (rec : RmmRec) → r.state ≡ IsRec rec → r.owner ≡ Some rd → is_rec_in rd r ≡ true
 rec_in-true rd r rec is owned = and_from (is_some (rec_of r.state)) (is_owner rd r.owner) (ap (λ (s : RmmGranuleState). is_some (rec_of s)) is) (ap (is_owner rd) owned ∙ eq-eqb rd rd refl)
 
--- what is no RD has no REC
+-- a granule that is no RD owns no REC
 pub no_rec_of : (m : Machine) (rd : ℕ) → IsOrdered m → is_rd (granule_at m rd).state ≡ false → (h : ℕ) → is_rec_in rd (granule_at m h) ≡ false
 no_rec_of m rd ordered never h =
     ⊎_elim

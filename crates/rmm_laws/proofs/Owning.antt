@@ -24,7 +24,7 @@ map_some : (f : ℕ → Used) (o : Option ℕ) (u : Used) → option_map f o ≡
 map_some f (Some g) u is = (g, refl, sym (used_same is))
 map_some f None u is = absurd (cc)
 
--- a granule that an entry of a table of a level uses
+-- a used granule has the owner of the table whose entry uses it, and is a table one level further down or DATA
 abbrev pub IsBelow : Option ℕ → ℕ → Used → Type 0
 IsBelow owner level u = (u.attributes.owner ≡ owner) × (((u.attributes.state ≡ Rtt) × (u.level ≡ level + 1)) ⊎ (u.attributes.state ≡ Data))
 
@@ -39,7 +39,8 @@ entry_user m owner level k (Unassigned ripas) u is = absurd (cc)
 entry_user m owner level k UnassignedNs u is = absurd (cc)
 entry_user m owner level k (AssignedNs desc) u is = absurd (cc)
 
--- A granule uses another one as its state says.
+-- A granule of this state uses another granule. An RD uses its starting tables, a table what is below its entries, and
+-- a REC its auxiliary granules.
 abbrev pub IsUserOf : RmmGranuleState → Option ℕ → ℕ → ℕ → ℕ → Used → Type 0
 IsUserOf (Rd realm) owner level x i u = (i < realm.table_count) × (u ≡ used Rtt (Some x) realm.start_level (realm.first_table + i))
 IsUserOf Rtt owner level x i u = IsBelow owner level u

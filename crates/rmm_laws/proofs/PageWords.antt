@@ -48,7 +48,7 @@ module _ (first : ℕ) (f : ℕ → ℕ) (page : List ℕ) (whole : length page 
   length-with_words_from (suc count) within =
       length-page_with_word (with_words_from first count f page) (first + count) (f (first + count)) (length-with_words_from count (omega arith)) (omega arith)
 
-  -- a word beside those that are written
+  -- a word of the page before or after those that are written is unchanged
   pub word_of_page-with_words_from_other : (count i : ℕ) → first + count ≤ 512 → i < 512 → (i < first) ⊎ (first + count ≤ i) → word_of_page (with_words_from first count f page) i ≡ word_of_page page i
   unfolding with_words_from
   word_of_page-with_words_from_other zero i within index beside = refl
@@ -56,7 +56,7 @@ module _ (first : ℕ) (f : ℕ → ℕ) (page : List ℕ) (whole : length page 
       word_of_page-page_with_word_other (with_words_from first count f page) (first + count) (f (first + count)) (length-with_words_from count (omega arith)) (omega arith) i (omega arith) index
       ∙ word_of_page-with_words_from_other count i (omega arith) index (⊎_elim (λ (below : i < first). inl below) (λ (above : first + suc count ≤ i). inr (omega arith)) beside)
 
-  -- one of those that are written
+  -- each of the words that are written is read back
   pub word_of_page-with_words_from_same : (count i : ℕ) → first + count ≤ 512 → first ≤ i → i < first + count → f i < 2 ^ 64 → word_of_page (with_words_from first count f page) i ≡ f i
   unfolding with_words_from
   word_of_page-with_words_from_same zero i within low high fits = absurd (omega arith)

@@ -28,11 +28,12 @@ passed (c ∷ cs) none =
     (λ no. (no, passed cs (sym (cond-false c.fails (Some c.refusal) (first_failing cs) no) ∙ none)))
     (cases_Bool c.fails)
 
--- the checks of the first part, and of the second
+-- if the checks of two lists together have passed, those of the first list have
 pub passed_first : (cs ds : List Check) → Passed (cs ++ ds) → Passed cs
 passed_first [] ds ok = tt
 passed_first (c ∷ cs) ds ok = (ok.0, passed_first cs ds ok.1)
 
+-- if the checks of two lists together have passed, those of the second list have
 pub passed_second : (cs ds : List Check) → Passed (cs ++ ds) → Passed ds
 passed_second [] ds ok = ok
 passed_second (c ∷ cs) ds ok = passed_second cs ds ok.1
@@ -42,7 +43,7 @@ kept_at : (P : Machine → Type 0) (command : Command) (m : Machine) (o : Option
 kept_at P command m (Some refusal) is before after = before
 kept_at P command m None is before after = after (passed command.checks is)
 
--- what holds of a machine holds after a command, if it holds when all checks passed
+-- what holds before a command holds after it, if it holds of the machine that the command makes once all checks pass
 pub kept : (P : Machine → Type 0) (command : Command) (m : Machine) → P m → (Passed command.checks → P command.machine) → P (outcome command m).1
 kept P command m before after = kept_at P command m (first_failing command.checks) refl before after
 

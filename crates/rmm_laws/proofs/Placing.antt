@@ -24,12 +24,12 @@ placed_ripas s level ripas UnassignedNs placed = placed
 placed_ripas s level ripas (AssignedNs desc) placed = placed
 placed_ripas s level ripas (Table address) placed = placed
 
--- a page of memory
+-- a page that is mapped at level 3 is at an allowed level, and its memory is aligned
 pub placed_page : (s : RmmSettings) (level : ℕ) (ripas : RmmRipas) (a : ℕ) → s.block_level ≤ 2 → level ≡ 3 → IsPlaced s level (Assigned ripas a)
 unfolding entry_size
 placed_page s level ripas a block three = λ mapped. (omega arith, subst (λ (l : ℕ). a / 4096 * 4096 % entry_size l ≡ 0) (sym three) (omega arith))
 
--- the memory of a child of a mapping
+-- the memory of a mapping's child is aligned to the child's size, if the mapping's memory is aligned to its own size
 begins_below : (l : ℕ) → l ≤ 2 → (a k : ℕ) → a / 4096 * 4096 % entry_size l ≡ 0 → (a + k * entry_size (l + 1)) % 2 ^ 48 / 4096 * 4096 % entry_size (l + 1) ≡ 0
 unfolding entry_size
 begins_below zero few a k begins = omega arith

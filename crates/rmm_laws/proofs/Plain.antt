@@ -23,7 +23,7 @@ use Rattle.rmm_laws.proofs.PageWords.{length-page_with_word}
 use Rattle.rmm_laws.proofs.Passed.{Passed, yes_from, is_delegated-true, is_undelegated-true}
 use Rattle.rmm_laws.proofs.Writes.{is_user, plain_uses, granule_at-same}
 
--- another page of a granule that uses nothing
+-- writing the page of a granule that uses nothing keeps `IsLinked`
 pub keep_plain_page : (m : Machine) (g : ℕ) (page : List ℕ) → IsLinked m → g < length m.granules → length page ≡ 4096 → is_user (granule_at m g).state ≡ false → IsLinked (with_page m g page)
 keep_plain_page m g page proper inside whole plain =
     keep_page m g page proper inside whole
@@ -34,7 +34,7 @@ pub keep_plain_word : (m : Machine) (g i word : ℕ) → IsLinked m → g < leng
 keep_plain_word m g i word proper inside index plain =
     keep_plain_page m g (page_with_word (page_in m g) i word) proper inside (length-page_with_word (page_in m g) i word (proper.sound.whole g inside) index) plain
 
--- other attributes of a granule that uses nothing and is not used
+-- changing the attributes of a granule keeps `IsLinked`, if it uses nothing and is not used, before and after
 pub keep_plain_granule : (m : Machine) (g : ℕ) (kept : RmmGranule) → IsLinked m → g < length m.granules → has_user (granule_at m g).state ≡ false → is_user (granule_at m g).state ≡ false
     → has_user kept.state ≡ false → is_user kept.state ≡ false → IfSome (realm_of kept.state) (IsServed (length m.granules)) → IsLinked (with_granule m g kept)
 keep_plain_granule m g kept proper inside unused plain unused_then plain_then served =
@@ -42,7 +42,7 @@ keep_plain_granule m g kept proper inside unused plain unused_then plain_then se
     (λ level page i part. plain_uses m kept.state kept.owner level page g i part plain_then ∙ sym (plain_uses m (granule_at m g).state (granule_at m g).owner level page g i part plain))
     served
 
--- a granule that is wiped
+-- wiping a granule keeps `IsLinked`, if it uses nothing and is not used, before and after
 blank : (m : Machine) (g : ℕ) (state : RmmGranuleState) → IsLinked m → g < length m.granules → has_user (granule_at m g).state ≡ false → is_user (granule_at m g).state ≡ false
     → has_user state ≡ false → is_user state ≡ false → IfSome (realm_of state) (IsServed (length m.granules)) → IsLinked (with_blank m g state)
 blank m g state proper inside unused plain unused_then plain_then served =

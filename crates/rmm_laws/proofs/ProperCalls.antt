@@ -19,7 +19,7 @@ use Rattle.rmm_laws.proofs.RecsGone.{rec_destroyed}
 use Rattle.rmm_laws.proofs.Ordering.{delegate_ordered, undelegate_ordered, activate_ordered, rtt_create_ordered, rtt_destroy_ordered, rtt_fold_ordered, map_ordered, unmap_ordered, init_ripas_ordered, set_ripas_ordered, data_create_ordered, data_create_unknown_ordered, data_destroy_ordered}
 use Rattle.rmm_laws.proofs.Tables.{table_made, table_gone, table_folded}
 
--- the machine after a call that has passed its checks
+-- a call that has passed its checks keeps `IsProper`
 pub after : (call : Call) (m : Machine) → IsProper m → Passed (command_of call m).checks → IsProper (command_of call m).machine
 unfolding version features rec_aux_count rtt_read_entry
 after (Version requested) m proper ok = proper

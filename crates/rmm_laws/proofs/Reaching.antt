@@ -39,14 +39,14 @@ module _ (m : Machine) (x : ℕ) where
 
 -- ---- addresses that a table serves
 
--- the place of a starting table
+-- the number of the starting table for an address is `k` if the address is in the range of starting table `k`
 start_place : (l : ℕ) → l ≤ 3 → (k x : ℕ) → k * (512 * entry_size l) ≤ x → x < k * (512 * entry_size l) + 512 * entry_size l → x / entry_size l / 512 ≡ k
 unfolding entry_size
 start_place l few =
     level_cases (λ (j : ℕ). (k x : ℕ) → k * (512 * entry_size j) ≤ x → x < k * (512 * entry_size j) + 512 * entry_size j → x / entry_size j / 512 ≡ k)
     (λ k x low high. omega arith) (λ k x low high. omega arith) (λ k x low high. omega arith) (λ k x low high. omega arith) l few
 
--- the entry whose table serves an address
+-- an address that the table below entry `i` serves has index `i`, and that table's range begins where the entry does
 entry_place : (l : ℕ) → l ≤ 2 → (from i x : ℕ) → from ≡ base_of l x → from + i * entry_size l ≤ x → x < from + i * entry_size l + 512 * entry_size (l + 1) → i < 512
     → (entry_index l x ≡ i) × (from + i * entry_size l ≡ base_of (l + 1) x)
 unfolding entry_size entry_index
@@ -55,7 +55,7 @@ entry_place (suc zero) few from i x is low high index = (omega arith, omega arit
 entry_place (suc (suc zero)) few from i x is low high index = (omega arith, omega arith)
 entry_place (suc (suc (suc l))) few from i x is low high index = absurd (omega arith)
 
--- the table above serves the address too
+-- an address that the table below an entry serves is served by the entry's own table too
 wider : (l : ℕ) → l ≤ 2 → (from i x : ℕ) → from + i * entry_size l ≤ x → x < from + i * entry_size l + 512 * entry_size (l + 1) → i < 512 → (from ≤ x) × (x < from + 512 * entry_size l)
 unfolding entry_size
 wider zero few from i x low high index = (omega arith, omega arith)
@@ -104,7 +104,7 @@ module _ (m : Machine) (realm : RmmRealm) (x : ℕ) where
 -- ---- each table serves
 
 module _ (m : Machine) (linked : IsLinked m) (rd : ℕ) (realm : RmmRealm) (is : (granule_at m rd).state ≡ Rd realm) where
-  -- a table serves from an address on
+  -- a table serves the addresses from `first` on, and its level is `levels` further down than the starting level
   pub record IsServer (g : ℕ) : Type 0 where
     pub levels : ℕ
     pub first : ℕ

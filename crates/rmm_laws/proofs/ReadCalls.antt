@@ -59,9 +59,10 @@ pub unassigned_leaf : (e : RmmRttEntry) → is_unassigned e ≡ true → is_tabl
 unassigned_leaf (Unassigned ripas) is = refl
 unassigned_leaf _ is = absurd (cc)
 
--- what is read at an address, and what else may be read there in another machine
+-- `F` gives the value that is read at an address, from the entry and its level; `G` relates an old value in a realm to
+-- an allowed new value
 module _ (x : ℕ) (A : Type 0) (F : RmmRttEntry → ℕ → A) (G : ℕ → A → A → Type 0) where
-  -- the address of a realm in another machine reads as it did, or as is allowed
+  -- a protected address of a realm reads the same in both machines, or a new value that `G` allows
   abbrev pub ReadsSo : Machine → Machine → ℕ → RmmRealm → RmmRealm → Type 0
   ReadsSo m n rd before after =
       (granule_at n rd).state ≡ Rd after → after.start_level ≡ before.start_level → after.first_table ≡ before.first_table → is_protected before x ≡ true
@@ -84,7 +85,7 @@ module _ (x : ℕ) (A : Type 0) (F : RmmRttEntry → ℕ → A) (G : ℕ → A �
     whole : length (page_in m (walk m realm ipa level).table) ≡ 4096
     whole = let t = table in proper.linked.sound.whole found.table (taken_inside m found.table (λ free. cc))
 
-    -- an entry that leads to no table takes the place of another one
+    -- An entry that is no TABLE replaces another such entry at the end of a walk.
     module _ (e : RmmRttEntry) (page : page_in n (walk m realm ipa level).table ≡ page_with_word (page_in m (walk m realm ipa level).table) (entry_index (walk m realm ipa level).level ipa) (entry_word e))
         (before : is_table (entry_at m (walk m realm ipa level) ipa) ≡ false) (leaf : is_table e ≡ false) where
       pub now : entry_in_page (page_in n (walk m realm ipa level).table) (entry_index (walk m realm ipa level).level ipa) ≡ entry_of (entry_word e)
@@ -107,7 +108,7 @@ module _ (x : ℕ) (A : Type 0) (F : RmmRttEntry → ℕ → A) (G : ℕ → A �
           (one_changed m n proper settings count rd ipa level realm is within x A F (G rd) (entry_of (entry_word e)) now beside before (word_table e leaf) (given protected))
           others after start first (protected_within realm x protected)
 
-      -- the walk ends where it did
+      -- the walk of an address ends at the same place as before the entry was replaced
       pub leaf_walk : (x / entry_size (walk m realm ipa level).level ≡ ipa / entry_size (walk m realm ipa level).level → IsReadAs A F (G rd) (entry_at m (walk m realm ipa level) ipa) (entry_of (entry_word e)) (walk m realm ipa level).level)
           → x < 2 ^ realm.s2sz → walk n realm x 3 ≡ walk m realm x 3
       leaf_walk given inside =
@@ -115,7 +116,7 @@ module _ (x : ℕ) (A : Type 0) (F : RmmRttEntry → ℕ → A) (G : ℕ → A �
           (one_changed m n proper settings count rd ipa level realm is within x A F (G rd) (entry_of (entry_word e)) now beside before (word_table e leaf) given)
           others realm refl refl inside).0
 
-    -- entries of a range get another RIPAS
+    -- The first entries from `ipa` on that can be changed, up to `top` and the end of the table, get another RIPAS.
     module _ (changeable : Changeable) (ripas : RmmRipas) (top : ℕ) (begins : ipa % entry_size (walk m realm ipa level).level ≡ 0)
         (page : page_in n (walk m realm ipa level).table ≡ page_in (with_ripas_from m (walk m realm ipa level).table (entry_index (walk m realm ipa level).level ipa) ripas (change_count m changeable (walk m realm ipa level) ipa top)) (walk m realm ipa level).table)
         (given : (e : RmmRttEntry) → IsBetween ipa top x → can_change changeable e ≡ true → IsReadAs A F (G rd) e (entry_with_ripas ripas e) (walk m realm ipa level).level) where
@@ -157,12 +158,12 @@ module _ (x : ℕ) (A : Type 0) (F : RmmRttEntry → ℕ → A) (G : ℕ → A �
       → ReadsSo m n rd before after
   tables_read m n rd before after proper settings count is kept then start first protected = inl (same_read m n proper settings count rd x before A F after start first is protected kept)
 
-  -- a call on no realm
+  -- a call on no realm satisfies `ReadsSo` for each realm
   pub none_read : (host : Bool) (m n : Machine) (rd : ℕ) (before after : RmmRealm) → IsProper m → Touches host m n None → (granule_at m rd).state ≡ Rd before → ReadsSo m n rd before after
   none_read host m n rd before after proper touches is =
       tables_read m n rd before after proper touches.settings touches.count is (tables_apart host m n None rd touches (λ same. cc) (λ r same. absurd (cc)))
 
-  -- a call on the RD at an address
+  -- a call on the RD at an address satisfies `ReadsSo` for each realm, if it does so for that RD's realm
   pub rd_read : (m n : Machine) (of : ℕ) → IsProper m → Touches false m n (rd_named m of) → ((after : RmmRealm) → ReadsSo m n (number_of m of) (realm_at m of) after)
       → (rd : ℕ) (before after : RmmRealm) → (granule_at m rd).state ≡ Rd before → ReadsSo m n rd before after
   rd_read m n of proper touches own rd before after is =
@@ -236,7 +237,8 @@ module _ (x : ℕ) (A : Type 0) (F : RmmRttEntry → ℕ → A) (G : ℕ → A �
       (is : (granule_at m (number_of m rd)).state ≡ Rd (realm_at m rd)) (protected : is_protected (realm_at m rd) ipa ≡ true) (free : state_at m page ≡ Delegated)
       (vacant : is_unassigned (entry_at m (walk m (realm_at m rd) ipa 3) ipa) ≡ true) (kept : RmmGranule) (content : List ℕ) (ripas : RmmRipas)
       (pages : n.pages ≡ (with_entry (with_page (with_granule m (number_of m page) kept) (number_of m page) content) (walk m (realm_at m rd) ipa 3) ipa (Assigned ripas page)).pages) where
-    -- a DELEGATED granule becomes a page
+    -- mapping a DELEGATED granule satisfies `ReadsSo`, if the new entry satisfies `IsReadAs` whenever it covers the
+    -- address
     pub page_read : (x / entry_size (walk m (realm_at m rd) ipa 3).level ≡ ipa / entry_size (walk m (realm_at m rd) ipa 3).level
         → IsReadAs A F (G (number_of m rd)) (entry_at m (walk m (realm_at m rd) ipa 3) ipa) (entry_of (entry_word (Assigned ripas page))) (walk m (realm_at m rd) ipa 3).level)
         → (after : RmmRealm) → ReadsSo m n (number_of m rd) (realm_at m rd) after

@@ -49,7 +49,7 @@ module _ (m : Machine) (proper : IsProper m) (rd : ℕ) (realm : RmmRealm) (fit 
   rd_now : granule_at new rd ≡ of_no_realm (Rd realm)
   rd_now = granule_at-same tables rd (of_no_realm (Rd realm)) inside_then
 
-  -- an RD of before
+  -- an RD of the machine before is neither the new RD nor a new starting table
   rd_kept : (x : ℕ) → is_rd (granule_at m x).state ≡ true → (x ≢ rd) × NoStart realm x
   rd_kept x sure = (
     λ same. (let never : is_rd (granule_at m x).state ≡ false = ap (λ (y : ℕ). is_rd (granule_at m y).state) same ∙ ap is_rd rd_free in absurd (both_ways (is_rd (granule_at m x).state) never sure)),
@@ -73,7 +73,7 @@ module _ (m : Machine) (proper : IsProper m) (rd : ℕ) (realm : RmmRealm) (fit 
       (start_or_none realm h))
       (cases_eq h rd)
 
-  -- no REC is counted or lost
+  -- making the starting tables changes no realm's count of RECs
   tables_total : (k x : ℕ) → k ≤ realm.table_count → count_by (is_rec_in x) (with_tables m rd realm k).granules ≡ count_by (is_rec_in x) m.granules
   unfolding with_tables
   tables_total zero x few = refl
@@ -126,7 +126,7 @@ module _ (m : Machine) (proper : IsProper m) (rd : ℕ) (realm : RmmRealm) (fit 
     ordered = ordered_vmid new vmid true realm_ordered;
   }
 
--- a level at which a width begins has more than one entry
+-- an entry of a valid starting level is smaller than the address space
 start_wide : (s2sz level count : ℕ) → is_start s2sz level count ≡ true → entry_size level < 2 ^ s2sz
 unfolding is_start
 start_wide s2sz level count is = ltb-true _ _ (and_parts _ _ (and_parts _ _ (and_parts _ _ is).0).0).1
@@ -164,7 +164,7 @@ module _ (m : Machine) (proper : IsProper m) (rd : ℕ) (realm : RmmRealm) (is :
   was : IsRealm gone m proper.linked.level proper.linked.level rd realm
   was = was_realm m proper.linked rd realm is dead
 
-  -- the realm has no REC
+  -- no granule is a REC of the realm
   no_rec_left : (h : ℕ) → is_rec_in rd (granule_at m h) ≡ false
   no_rec_left h =
       ⊎_elim
@@ -184,7 +184,7 @@ module _ (m : Machine) (proper : IsProper m) (rd : ℕ) (realm : RmmRealm) (is :
   same_realm : (a b : RmmRealm) → Rd a ≡ Rd b → a ≡ b
   same_realm a b same = let both : Some a ≡ Some b = ap realm_of same in cc
 
-  -- a table of the realm, by what uses it
+  -- a table of the realm that a granule uses is a starting table, if all tables of the realm at smaller levels are
   start_by : (fuel h x i k : ℕ) (s : RmmGranuleState) → ((y : ℕ) → level y < fuel → (granule_at m y).state ≡ Rtt → (granule_at m y).owner ≡ Some rd → IsStart realm y) → level h < suc fuel → (granule_at m h).state ≡ Rtt
       → (granule_at m h).owner ≡ Some rd → (granule_at m x).state ≡ s → uses m level x i k ≡ Some (used_at m level h) → IsUserOf s (granule_at m x).owner (level x) x i (used_at m level h) → IsStart realm h
   start_by fuel h x i k (Rd other) starts low table owned state gives user =
@@ -224,7 +224,7 @@ module _ (m : Machine) (proper : IsProper m) (rd : ℕ) (realm : RmmRealm) (is :
       let none = start_uses_none x (starts (suc (level x)) x (omega arith) table owned) i k in
       cc
 
-  -- no other granule of the realm is used
+  -- no granule of the realm that is not a table is used
   no_user : (h x i k : ℕ) (s : RmmGranuleState) → (granule_at m h).owner ≡ Some rd → ((granule_at m h).state ≡ Rtt → ⊥) → (granule_at m x).state ≡ s → uses m level x i k ≡ Some (used_at m level h)
       → IsUserOf s (granule_at m x).owner (level x) x i (used_at m level h) → ⊥
   no_user h x i k (Rd other) owned not_table state gives user = not_table (ap (λ (u : Used). u.attributes.state) user.1)
@@ -253,7 +253,7 @@ module _ (m : Machine) (proper : IsProper m) (rd : ℕ) (realm : RmmRealm) (is :
   not_owned h Data no_start state orderly owned = used_not h owned (λ table. cc) (ap has_user state)
   not_owned h RecAux no_start state orderly owned = used_not h owned (λ table. cc) (ap has_user state)
 
-  -- another RD is one still
+  -- an RD of another realm is no starting table of the destroyed realm
   rd_kept_then : (x : ℕ) → x ≢ rd → is_rd (granule_at m x).state ≡ true → NoStart realm x
   rd_kept_then x other sure i lt same =
       let never : is_rd (granule_at m x).state ≡ false = ap (λ (y : ℕ). is_rd (granule_at m y).state) same ∙ ap (λ (r : RmmGranule). is_rd r.state) (start_is m proper.linked rd realm is dead i lt).0 in
@@ -316,7 +316,7 @@ module _ (m : Machine) (proper : IsProper m) (rd : ℕ) (realm : RmmRealm) (is :
       total-alike before g (of_no_realm Delegated) x (omega arith) (sym (plain_in (granule_at before g) x (ap is_counter table)))
       ∙ cleared_total k x (omega arith)
 
-  -- the RD, before it is DELEGATED
+  -- the RD is still the RD of the realm after the starting tables have become DELEGATED
   rd_before : (granule_at cleared rd).state ≡ Rd realm
   rd_before =
       ap (λ (r : RmmGranule). r.state)

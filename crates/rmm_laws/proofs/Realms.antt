@@ -73,7 +73,8 @@ start_or_none realm g =
     (cases_lt g (realm.first_table + realm.table_count)))
     (cases_lt g realm.first_table)
 
--- Granules are DELEGATED in one machine, and in the other the RD of a realm and its starting tables, which use nothing.
+-- The granules of an RD and its starting tables are DELEGATED in one machine. In the other they are the realm's, and
+-- the tables use nothing. All other granules are the same.
 pub record IsRealm (p q : Machine) (before after : ℕ → ℕ) (rd : ℕ) (realm : RmmRealm) : Type 0 where
   pub settings : q.settings ≡ p.settings
   pub count : length q.granules ≡ length p.granules
@@ -160,7 +161,7 @@ module _ (p q : Machine) (before after : ℕ → ℕ) (rd : ℕ) (realm : RmmRea
     number_after = λ g. refl;
   }
 
-  -- a table of the machine with the realm is one of its starting tables, or as before
+  -- each table of the machine with the realm is a starting table of that realm, or neither its RD nor such a table
   table_cases : (g : ℕ) → (granule_at q g).state ≡ Rtt → IsStart realm g ⊎ ((g ≢ rd) × NoStart realm g)
   table_cases g is =
       ⊎_elim
@@ -304,7 +305,7 @@ all_delegated m first (suc count) (suc k) all lt =
     let next : first + 1 + k ≡ first + suc k = omega arith in
     subst (λ (x : ℕ). (granule_at m x).state ≡ Delegated) next (all_delegated m (first + 1) count k (and_parts _ _ all).1 (omega arith))
 
--- as many parts as hold a number, rounded up
+-- a number is at most its quotient by `d`, rounded up, times `d`
 ceiling : (n d : ℕ) → 0 < d → n ≤ (n + (d - 1)) / d * d
 ceiling n d some =
     let whole = div-add-mod' (n + (d - 1)) d in
@@ -383,7 +384,7 @@ module _ (m : Machine) (proper : IsLinked m) (rd : ℕ) (realm : RmmRealm) (fit 
   pub realm_there : IsLinked new
   realm_there = realm_made m new proper levels rd realm is_realm new_sound fit.level
 
--- an address that is none of a starting table's is another granule than each of them
+-- an RD's address that is not the address of a starting table is in no starting table's granule
 pub not_start : (m : Machine) (p : RealmParams) (rd i : ℕ) → is_start_table p rd ≡ false → is_inside m rd ≡ true → is_inside m p.rtt_base ≡ true → rd % 4096 ≡ 0 → p.rtt_base % 4096 ≡ 0
     → m.settings.base % 4096 ≡ 0 → i < p.rtt_num_start → number_of m p.rtt_base + i ≢ number_of m rd
 unfolding is_inside number_of
@@ -472,7 +473,7 @@ module _ (m : Machine) (proper : IsLinked m) (rd : ℕ) (realm : RmmRealm) (is :
   pub rd_in : rd < length m.granules
   rd_in = taken_inside m rd (λ free. cc)
 
-  -- a starting table
+  -- each starting table is a table of the realm at the realm's starting level
   pub start_is : (i : ℕ) → i < realm.table_count → (granule_at m (realm.first_table + i) ≡ of_realm rd Rtt) × (proper.level (realm.first_table + i) ≡ realm.start_level)
   unfolding uses
   start_is i lt =

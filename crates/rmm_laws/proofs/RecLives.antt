@@ -43,7 +43,8 @@ use Rattle.rmm_laws.proofs.Writes.{is_user, granule_at-same, granule_at-other, p
 
 -- ---- a REC with its auxiliary granules
 
--- Granules are DELEGATED in one machine, and in the other a REC and its auxiliary granules.
+-- The granules of a REC and its auxiliary granules are DELEGATED in one machine. In the other they are a REC and its
+-- auxiliary granules, and all other granules are the same.
 pub record IsRecMade (p q : Machine) (owner : Option ℕ) (g : ℕ) : Type 0 where
   pub settings : q.settings ≡ p.settings
   pub count : length q.granules ≡ length p.granules
@@ -62,7 +63,7 @@ module _ (p q : Machine) (level : ℕ → ℕ) (owner : Option ℕ) (g : ℕ) (s
   abbrev is_new : ℕ → ℕ → Bool
   is_new i k = (nat_lt i q.settings.aux && k == 0) && is_some (granule_named q (aux_of (page_in q g) i))
 
-  -- what a new place says
+  -- a new place of a use belongs to an auxiliary granule that the REC's page names
   new_place : (i k : ℕ) → is_new i k ≡ true → (i < q.settings.aux) × (k ≡ 0) × (name i ≡ Some (unwrap_or (name i) 0))
   new_place i k sure =
       let parts = and_parts (nat_lt i q.settings.aux && k == 0) (is_some (name i)) sure in
@@ -203,7 +204,7 @@ all_from-at test i (suc count) (suc k) all lt =
 all_at : (test : ℕ → Bool) (count k : ℕ) → all_from test 0 count ≡ true → k < count → test k ≡ true
 all_at test count k all lt = let here : k ≡ 0 + k = omega arith in ap test here ∙ all_from-at test 0 count k all lt
 
--- an auxiliary granule that the page of a new REC names
+-- the page of a new REC names the auxiliary granules that the parameters name
 rec_aux : (page : List ℕ) (i : ℕ) → i < 16 → aux_in page i < 2 ^ 64 → aux_of (rec_page page) i ≡ aux_in page i
 unfolding rec_page
 rec_aux page i lt few =
@@ -254,7 +255,7 @@ module _ (m : Machine) (proper : IsLinked m) (owner rec : ℕ) (realm : RmmRealm
   one_page : page_in one g ≡ rec_page page
   one_page = let p = proper.sound.pages in let i = g_in in page_in-same marked g (rec_page page) (omega arith)
 
-  -- the granule that is named
+  -- each auxiliary granule that the new REC's page names is the granule at the address in the parameters
   aux_named : (i : ℕ) → i < m.settings.aux → granule_named one (aux_of (page_in one g) i) ≡ Some (number_of m (aux_in page i))
   aux_named i lt =
       let few = proper.sound.platform.aux in
@@ -264,7 +265,7 @@ module _ (m : Machine) (proper : IsLinked m) (owner rec : ℕ) (realm : RmmRealm
       ∙ named-same m one refl one_count (aux_in page i)
       ∙ named_inside m (aux_in page i) (inside i lt)
 
-  -- equal numbers are those of equal addresses
+  -- two aligned addresses inside the machine whose granules have the same number are equal
   same_address : (a b : ℕ) → is_inside m a ≡ true → is_inside m b ≡ true → a % 4096 ≡ 0 → b % 4096 ≡ 0 → number_of m a ≡ number_of m b → a ≡ b
   same_address a b a_in b_in a_aligned b_aligned same =
       (begins m a proper.sound a_in a_aligned).1 ∙ ap (λ (k : ℕ). m.settings.base + k * 4096) same ∙ sym (begins m b proper.sound b_in b_aligned).1
@@ -326,7 +327,7 @@ module _ (m : Machine) (proper : IsLinked m) (owner rec : ℕ) (realm : RmmRealm
       cc)).0
       ∙ granule_at-other m g owner (of_realm owner (IsRec new)) owner_not_g
 
-  -- owners and counts
+  -- the number of granules stays the same
   aux_count : length all.granules ≡ length m.granules
   aux_count = wiped.count ∙ one_count
 
@@ -379,7 +380,7 @@ module _ (m : Machine) (proper : IsLinked m) (owner rec : ℕ) (realm : RmmRealm
       (first_named (λ i. granule_named one (aux_of (page_in one g) i)) h m.settings.aux))
       (cases_eq h g))
 
-  -- one REC more of that realm
+  -- the count of RECs rises by one for the realm of the owner, and stays the same for each other realm
   total_then : (x : ℕ) → count_by (is_rec_in x) all.granules ≡ count_by (is_rec_in x) m.granules + cond (owner == x) 1 0
   total_then x =
       let now : ℕ = count_by (is_rec_in x) one.granules in
@@ -446,7 +447,7 @@ module _ (m : Machine) (proper : IsLinked m) (owner rec : ℕ) (realm : RmmRealm
       keep_realm all owner realm next (rec_made m all proper (Some owner) g is_made wiped.sound) (ap (λ (r : RmmGranule). r.state) owner_still ∙ rd_is) tables first level
       (subst (λ (n : ℕ). IsServed n next) (sym (wiped.count ∙ one_count)) served)
 
-  -- granules of a state that is neither an RD's nor DELEGATED
+  -- creating a REC leaves each granule as it was, if its state is neither an RD's nor DELEGATED
   pub created_some : (P : RmmGranuleState → Type 0) → ((r : RmmRealm) → P (Rd r) → ⊥) → (P Delegated → ⊥) → (next : RmmRealm)
       → KeepsSome P m (with_granule (with_aux (with_created_rec m owner (number_of m rec) page) (number_of m rec) (of_realm owner RecAux) m.settings.aux) owner (of_no_realm (Rd next)))
   created_some P no_rd no_free next =
@@ -457,7 +458,7 @@ module _ (m : Machine) (proper : IsLinked m) (owner rec : ℕ) (realm : RmmRealm
       (λ i h lt is it. no_free (subst P (ap (λ (x : ℕ). (granule_at m x).state) (some_same (sym is ∙ aux_named i lt)) ∙ free i lt) it)))
       (λ x other. (granule_at-other all owner x (of_no_realm (Rd next)) other, refl))
 
-  -- the REC itself
+  -- the REC's granule has the attributes and the page of the new REC
   pub created_rec : (next : RmmRealm)
       → (granule_at (with_granule (with_aux (with_created_rec m owner (number_of m rec) page) (number_of m rec) (of_realm owner RecAux) m.settings.aux) owner (of_no_realm (Rd next))) (number_of m rec)
       ≡ of_realm owner (IsRec (new_rec (is_runnable_in page) (mpidr_in page))))
@@ -477,7 +478,7 @@ module _ (m : Machine) (proper : IsLinked m) (owner rec : ℕ) (realm : RmmRealm
       (λ i h lt is. inr (ap (λ (x : ℕ). (granule_at m x).state) (some_same (sym is ∙ aux_named i lt)) ∙ free i lt)))
       (inl (inl refl))
 
--- the checks of RMI_REC_CREATE, as facts
+-- The checks of RMI_REC_CREATE have passed, and give facts about its operands.
 module _ (rd rec params : ℕ) (m : Machine) (proper : IsProper m) (ok : Passed (rec_create rd rec params m).checks) where
   abbrev params_page : List ℕ
   params_page = page_in m (number_of m params)

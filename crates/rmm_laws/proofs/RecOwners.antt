@@ -18,13 +18,13 @@ RecsStay m n = (g : ℕ) (rec : RmmRec) → (granule_at n g).state ≡ IsRec rec
 pub recs_all : (m : Machine) → RecsStay m m
 recs_all m g rec is = (rec, is, refl)
 
--- a granule beside the one that is written
+-- a REC in a granule that is not written was a REC of the same owner before
 beside : (m k : Machine) (x g : ℕ) (kept : RmmGranule) (rec : RmmRec) → g ≢ x → RecsStay m k → (granule_at (with_granule k x kept) g).state ≡ IsRec rec → IsRecOf m g (granule_at (with_granule k x kept) g).owner
 beside m k x g kept rec other stay is =
     let same : granule_at (with_granule k x kept) g ≡ granule_at k g = granule_at-other k x g kept other in
     subst (λ (r : RmmGranule). IsRecOf m g r.owner) (sym same) (stay g rec (sym (ap (λ (r : RmmGranule). r.state) same) ∙ is))
 
--- a granule that is no REC after a write
+-- writing a granule that is no REC after the write keeps `RecsStay`
 pub recs_plain : (m k : Machine) (x : ℕ) (kept : RmmGranule) → rec_of kept.state ≡ None → RecsStay m k → RecsStay m (with_granule k x kept)
 recs_plain m k x kept plain stay g rec is =
     let n : Machine = with_granule k x kept in
@@ -38,7 +38,7 @@ recs_plain m k x kept plain stay g rec is =
     (λ (other : g ≢ x). beside m k x g kept rec other stay is)
     (cases_eq g x)
 
--- a REC that is written
+-- writing the attributes of a REC keeps `RecsStay`
 pub recs_rec : (m k : Machine) (x : ℕ) (new old : RmmRec) → (granule_at k x).state ≡ IsRec old → RecsStay m k → RecsStay m (with_rec k x new)
 recs_rec m k x new old was stay g rec is =
     let kept : RmmGranule = record (granule_at k x) { state = IsRec new } in

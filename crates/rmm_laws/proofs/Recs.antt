@@ -41,7 +41,7 @@ memory_plain _ is = absurd (cc)
 
 -- ---- RDs
 
--- an RD of a realm whose starting tables are the same
+-- replacing an RD's realm by one with the same starting tables keeps `IsLinked`
 pub keep_realm : (m : Machine) (rd : ℕ) (realm other : RmmRealm) → IsLinked m → (granule_at m rd).state ≡ Rd realm → other.table_count ≡ realm.table_count → other.first_table ≡ realm.first_table
     → other.start_level ≡ realm.start_level → IsServed (length m.granules) other → IsLinked (with_granule m rd (of_no_realm (Rd other)))
 keep_realm m rd realm other proper is count first level served =
@@ -55,7 +55,7 @@ keep_realm m rd realm other proper is count first level served =
 
 -- ---- RECs
 
--- a REC with other attributes
+-- writing the attributes of a REC keeps `IsLinked`
 pub keep_rec : (m : Machine) (g : ℕ) (old rec : RmmRec) → IsLinked m → (granule_at m g).state ≡ IsRec old → IsLinked (with_rec m g rec)
 keep_rec m g old rec proper is =
     keep_granule m g (record (granule_at m g) { state = IsRec rec }) proper (taken_inside m g (λ free. cc)) (ap has_user is) refl
@@ -74,7 +74,7 @@ same_aux m rec owner level page other g i part few same =
     ∙ sym (cond-false (nat_lt i m.settings.aux && part == 0) (option_map (used RecAux owner 0) (granule_named m (aux_of other i))) None out))
     (cases_lt i m.settings.aux)
 
--- a REC whose page names the same auxiliary granules
+-- writing the page of a REC keeps `IsLinked`, if the new page names the same auxiliary granules
 pub keep_rec_page : (m : Machine) (g : ℕ) (rec : RmmRec) (page : List ℕ) → IsLinked m → (granule_at m g).state ≡ IsRec rec → length page ≡ 4096
     → ((k : ℕ) → k < 16 → aux_of page k ≡ aux_of (page_in m g) k) → IsLinked (with_page m g page)
 keep_rec_page m g rec page proper is whole same =
@@ -89,7 +89,7 @@ keep_rec_page m g rec page proper is whole same =
 no_memory : (s : RmmGranuleState) → is_memory_state s ≡ true → s ≡ Rtt → ⊥
 no_memory s memory table = let never : is_memory_state s ≡ false = ap is_memory_state table in cc
 
--- a granule of the host beside one that is written
+-- an UNDELEGATED granule keeps its attributes when a granule in another state is written
 host_beside : (o m : Machine) (x : ℕ) (kept : RmmGranule) (h : ℕ) → (granule_at o h).state ≡ Undelegated → ((granule_at m x).state ≡ Undelegated → ⊥) → granule_at m h ≡ granule_at o h
     → granule_at (with_granule m x kept) h ≡ granule_at o h
 host_beside o m x kept h free plain same =
@@ -119,7 +119,7 @@ pub record IsGoing (o : Machine) (w : ℕ) (g : ℕ) (m : Machine) : Type 0 wher
   pub recs : RecsStay o m
   pub states : (rd : ℕ) (realm : RmmRealm) → (granule_at m rd).state ≡ Rd realm → IsAsBefore o rd realm ⊎ ((rd ≡ w) × (realm.state ≡ IsSystemOff) × HasRim o rd realm.rim)
 
--- a REC before any write
+-- `IsGoing` holds of a REC before any write
 pub going_first : (g w : ℕ) (m : Machine) (rec : RmmRec) → IsProper m → (granule_at m g).state ≡ IsRec rec → (granule_at m g).owner ≡ Some w → IsGoing m w g m
 going_first g w m rec proper is owned = record { proper = proper.linked; ordered = proper.ordered; rec = rec; is = is; touches = untouched true m (Some w); owned = owned; mine = inl (inr owned); vmids = refl; held = held_all m; lasts = lasts_all m; tables = tables_all m; hosts = λ h free. refl; secure = λ h it. refl; recs = recs_all m; states = λ rd realm at. inl (realm, at, refl, refl) }
 
@@ -179,7 +179,7 @@ module _ (o : Machine) (w : ℕ) where
         states = going.states;
       }
 
-  -- a word of the REC's page that names no auxiliary granule
+  -- `IsGoing` still holds after a write to a word of the REC's page that names no auxiliary granule
   pub going_word : (g : ℕ) (m : Machine) (i word : ℕ) → IsGoing o w g m → i < 512 → (i < 32) ⊎ (48 ≤ i) → IsGoing o w g (with_word m g i word)
   going_word g m i word going index beside =
       let whole = going.proper.sound.whole g (going_inside g m going) in
@@ -193,7 +193,8 @@ module _ (o : Machine) (w : ℕ) where
       (λ k lt. word_of_page-with_words_from_other first f (page_in m g) whole count (32 + k) within (omega arith)
       (⊎_elim (λ (low : first + count ≤ 32). inr (omega arith)) (λ (high : 48 ≤ first). inl (omega arith)) beside))
 
-  -- a page of memory
+  -- `IsGoing` still holds after the write of a page of memory that is the realm's, or the host's and outside the secure
+  -- world
   pub going_plain : (g h : ℕ) (m : Machine) (page : List ℕ) → IsGoing o w g m → h < length m.granules → length page ≡ 4096 → is_memory_state (granule_at m h).state ≡ true → IsMine true m (Some w) h
       → (IsSecureHost o h → ⊥) → IsGoing o w g (with_page m h page)
   going_plain g h m page going inside whole memory mine normal = record {
@@ -214,7 +215,7 @@ module _ (o : Machine) (w : ℕ) where
     states = going.states;
   }
 
-  -- the realm of an RD, which is off
+  -- `IsGoing` still holds after the realm of the REC is switched off
   pub going_realm : (g rd : ℕ) (m : Machine) (realm other : RmmRealm) → IsGoing o w g m → rd ≡ w → (granule_at m rd).state ≡ Rd realm → other.table_count ≡ realm.table_count → other.first_table ≡ realm.first_table
       → other.start_level ≡ realm.start_level → other.rec_count ≡ realm.rec_count → other.s2sz ≡ realm.s2sz → other.state ≡ IsSystemOff → other.rim ≡ realm.rim → fixed other ≡ fixed realm → IsServed (length m.granules) other
       → IsGoing o w g (with_granule m rd (of_no_realm (Rd other)))

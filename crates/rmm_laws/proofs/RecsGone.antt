@@ -100,13 +100,14 @@ module _ (m : Machine) (g aux : ℕ) (proper : IsLinked m) (old : RmmRec) (is_ol
   destroyed : IsLinked gone
   destroyed = rec_gone gone m proper owner g was_made gone_sound
 
-  -- the REC and its auxiliary granules are DELEGATED and zero
+  -- the REC is DELEGATED and zero afterwards
   rec_gone_is : (granule_at gone g ≡ of_no_realm Delegated) × (page_in gone g ≡ zero_page)
   rec_gone_is =
       let pages = clean.sound.pages in
       let within = g_there in
       (granule_at-same cleared g (of_no_realm Delegated) g_there, page_in-same (with_granule cleared g (of_no_realm Delegated)) g zero_page (omega arith))
 
+  -- each auxiliary granule of the REC is DELEGATED and zero afterwards
   aux_gone : (i h : ℕ) → i < aux → called i ≡ Some h → (granule_at gone h ≡ of_no_realm Delegated) × (page_in gone h ≡ zero_page)
   aux_gone i h lt is =
       let apart : h ≢ g = λ same. not_self i lt (is ∙ ap (λ (x : ℕ). Some x) same) in (
@@ -124,7 +125,7 @@ module _ (m : Machine) (g aux : ℕ) (proper : IsLinked m) (old : RmmRec) (is_ol
   gone_count : length gone.granules ≡ length m.granules
   gone_count = length-set cleared.granules g (of_no_realm Delegated) ∙ clean.count
 
-  -- an RD is none of these
+  -- an RD is neither the REC nor one of its auxiliary granules
   pub rd_apart : (h : ℕ) → is_rd (granule_at m h).state ≡ true → (h ≢ g) × ((i : ℕ) → i < aux → called i ≢ Some h)
   rd_apart h sure = (
     λ same. both_ways (is_rd (granule_at m h).state) (ap (λ (x : ℕ). is_rd (granule_at m x).state) same ∙ ap is_rd is_old) sure,
@@ -158,14 +159,14 @@ module _ (m : Machine) (g aux : ℕ) (proper : IsLinked m) (old : RmmRec) (is_ol
       (first_named called h aux))
       (cases_eq h g))
 
-  -- an RD of after is one of before
+  -- each RD of the machine afterwards was the RD of the same realm before
   pub rd_before : (x : ℕ) (realm : RmmRealm) → (granule_at gone x).state ≡ Rd realm → (granule_at m x).state ≡ Rd realm
   rd_before x realm is =
       let ne : x ≢ g = λ same. (let free : (granule_at gone x).state ≡ Delegated = ap (λ (y : ℕ). (granule_at gone y).state) same ∙ ap (λ (r : RmmGranule). r.state) rec_gone_is.0 in cc) in
       let none : (i : ℕ) → i < aux → called i ≢ Some x = λ i lt at. (let free : (granule_at gone x).state ≡ Delegated = ap (λ (r : RmmGranule). r.state) (aux_gone i x lt at).0 in cc) in
       sym (ap (λ (r : RmmGranule). r.state) (beside_gone x ne none).0) ∙ is
 
-  -- one REC less of the owner's realm
+  -- the count of RECs falls by one for the realm of the owner, and stays the same for each other realm
   pub gone_total : (w x : ℕ) → (granule_at m g).owner ≡ Some w → count_by (is_rec_in x) gone.granules + cond (w == x) 1 0 ≡ count_by (is_rec_in x) m.granules
   gone_total w x owned =
       let still = (clean.other g (λ i lt. not_self i lt)).0 in
@@ -182,7 +183,7 @@ less_one before after is = omega arith
 
 -- ---- with one REC less
 
--- what the realm of an RD keeps from its creation on
+-- the attributes that the realm of an RD keeps from its creation on
 abbrev pub fixed_of : RmmGranuleState → RmmRealm
 fixed_of s = fixed (unwrap_or (realm_of s) no_realm)
 
@@ -290,7 +291,7 @@ module _ (rec : ℕ) (m : Machine) (proper : IsProper m) (ok : Passed (rec_destr
   unfolding rec_destroy
   rec_destroyed = subst (λ (k : Machine). IsProper (with_blank (with_aux k here (of_no_realm Delegated) m.settings.aux) here Delegated)) (sym less_is) after_proper
 
-  -- what it touches: the REC, its auxiliary granules, and the RD
+  -- RMI_REC_DESTROY changes only granules that belong to the REC's realm or are DELEGATED
   after_touches : Touches false m after (Some w)
   after_touches =
       let aux : ℕ = m.settings.aux in
@@ -300,7 +301,7 @@ module _ (rec : ℕ) (m : Machine) (proper : IsProper m) (ok : Passed (rec_destr
       (λ i h lt is. mine_before false m less (Some w) h first (inl (inr (ap (λ (r : RmmGranule). r.owner) (aux_there less here aux less_linked (rec_at m rec) still_rec refl i h lt is) ∙ still_owned)))))
       (inl (inr of_rec.1))
 
-  -- granules of a state that is none of an RD, a REC or an auxiliary granule
+  -- each granule keeps its page and attributes, if its state is not that of an RD, a REC or an auxiliary granule
   after_some : (P : RmmGranuleState → Type 0) → ((r : RmmRealm) → P (Rd r) → ⊥) → ((r : RmmRec) → P (IsRec r) → ⊥) → (P RecAux → ⊥) → KeepsSome P m after
   after_some P no_rd no_rec no_aux =
       let aux : ℕ = m.settings.aux in
@@ -326,10 +327,11 @@ module _ (rec : ℕ) (m : Machine) (proper : IsProper m) (ok : Passed (rec_destr
       subst (λ (o : Option ℕ). Touches false m (rec_destroy rec m).machine o) (sym (rec_named-is m rec ok.0 ok.1.0 ok.1.1.0 ∙ of_rec.1))
       (subst (λ (k : Machine). Touches false m (with_blank (with_aux k here (of_no_realm Delegated) m.settings.aux) here Delegated) (Some w)) (sym less_is) after_touches)
 
-  -- what comes back: the REC, and its auxiliary granules
+  -- a granule is DELEGATED and zero
   abbrev IsBack : Machine → ℕ → Type 0
   IsBack n h = (granule_at n h ≡ of_no_realm Delegated) × (page_in n h ≡ zero_page)
 
+  -- the REC and its auxiliary granules are DELEGATED and zero
   abbrev AllBack : Machine → Type 0
   AllBack n = IsBack n (number_of m rec) × ((k h : ℕ) → k < m.settings.aux → aux_granule m (number_of m rec) k ≡ Some h → IsBack n h)
 
@@ -345,7 +347,7 @@ module _ (rec : ℕ) (m : Machine) (proper : IsProper m) (ok : Passed (rec_destr
   unfolding rec_destroy
   destroyed_back = subst (λ (k : Machine). AllBack (with_blank (with_aux k here (of_no_realm Delegated) m.settings.aux) here Delegated)) (sym less_is) all_back
 
-  -- what is left as it was
+  -- each granule keeps its attributes, except the REC, its auxiliary granules and the RD
   abbrev OthersStay : Machine → Type 0
   OthersStay n = (h : ℕ) → IsBeside m (number_of m rec) h → granule_at n h ≡ granule_at m h
 
@@ -361,7 +363,7 @@ module _ (rec : ℕ) (m : Machine) (proper : IsProper m) (ok : Passed (rec_destr
   unfolding rec_destroy
   destroyed_beside = subst (λ (k : Machine). OthersStay (with_blank (with_aux k here (of_no_realm Delegated) m.settings.aux) here Delegated)) (sym less_is) others_stay
 
-  -- the realm whose REC it was
+  -- the realm of the destroyed REC is the realm of RD `w`
   destroyed_of : realm_of_rec m rec ≡ Some w
   unfolding rec_destroy
   destroyed_of = rec_named-is m rec ok.0 ok.1.0 ok.1.1.0 ∙ of_rec.1

@@ -8,7 +8,7 @@ use Rattle.rmm_model.specs.Granule.{of_no_realm, is_undelegated}
 use Rattle.rmm_model.specs.Machine.{Machine, granule_at, with_granule}
 use Rattle.rmm_laws.proofs.Writes.{granule_at-same, granule_at-other}
 
--- a granule that is UNDELEGATED after another one's state was written
+-- writing a state other than UNDELEGATED makes no granule UNDELEGATED
 free_back : (k : Machine) (x g : ℕ) (kept : RmmGranule) → is_undelegated kept.state ≡ false → (granule_at (with_granule k x kept) g).state ≡ Undelegated → (granule_at k g).state ≡ Undelegated
 free_back k x g kept taken is =
     let n : Machine = with_granule k x kept in
@@ -22,7 +22,7 @@ free_back k x g kept taken is =
     (λ (other : g ≢ x). sym (ap (λ (r : RmmGranule). r.state) (granule_at-other k x g kept other)) ∙ is)
     (cases_eq g x)
 
--- each granule that is UNDELEGATED was so
+-- each granule that is UNDELEGATED in the second machine is UNDELEGATED in the first
 abbrev pub Held : Machine → Machine → Type 0
 Held m n = (g : ℕ) → (granule_at n g).state ≡ Undelegated → (granule_at m g).state ≡ Undelegated
 

@@ -77,7 +77,7 @@ use Rattle.rmm_laws.proofs.Writes.{granule_at-same, granule_at-other, taken_insi
 pub same_rec : {a b : RmmRec} → IsRec a ≡ IsRec b → a ≡ b
 same_rec {a} {b} same = let both : Some a ≡ Some b = ap rec_of same in cc
 
--- a REC after a granule was written: that granule, or a REC of before
+-- after a granule is written, each REC is in that granule, or was the same REC before
 rec_back : (k : Machine) (x g : ℕ) (kept : RmmGranule) (rec : RmmRec) → (granule_at (with_granule k x kept) g).state ≡ IsRec rec → ((g ≡ x) × (kept.state ≡ IsRec rec)) ⊎ ((granule_at k g).state ≡ IsRec rec)
 rec_back k x g kept rec is =
     let n : Machine = with_granule k x kept in
@@ -89,14 +89,14 @@ rec_back k x g kept rec is =
     (λ (other : g ≢ x). inr (sym (ap (λ (r : RmmGranule). r.state) (granule_at-other k x g kept other)) ∙ is))
     (cases_eq g x)
 
--- each REC but one asks for what it asked for before
+-- each REC has the same RIPAS request as before, except the REC that is left out, if any
 abbrev Beside : Machine → Option ℕ → Machine → Type 0
 Beside m but n = (g : ℕ) (rec : RmmRec) → (granule_at n g).state ≡ IsRec rec → (but ≡ Some g) ⊎ (rec.ripas ≡ (rec_in m g).ripas)
 
 all_beside : (m : Machine) (but : Option ℕ) → Beside m but m
 all_beside m but g rec is = inr (sym (ap (λ (s : RmmGranuleState). (unwrap_or (rec_of s) no_rec).ripas) is))
 
--- a granule that is no REC after a write
+-- writing a granule that is no REC after the write keeps `Beside`
 beside_plain : (m k : Machine) (but : Option ℕ) (x : ℕ) (kept : RmmGranule) → rec_of kept.state ≡ None → Beside m but k → Beside m but (with_granule k x kept)
 beside_plain m k but x kept plain beside g rec is =
     ⊎_elim
@@ -104,7 +104,7 @@ beside_plain m k but x kept plain beside g rec is =
     (λ (before : (granule_at k g).state ≡ IsRec rec). beside g rec before)
     (rec_back k x g kept rec is)
 
--- a granule that is a REC after a write, and asks for what it asked for
+-- writing a REC with the request that it had before keeps `Beside`
 beside_same : (m k : Machine) (but : Option ℕ) (x : ℕ) (kept : RmmGranule) (other : RmmRec) → kept.state ≡ IsRec other → other.ripas ≡ (rec_in m x).ripas → Beside m but k → Beside m but (with_granule k x kept)
 beside_same m k but x kept other is_rec same beside g rec is =
     ⊎_elim
@@ -114,7 +114,7 @@ beside_same m k but x kept other is_rec same beside g rec is =
     (λ (before : (granule_at k g).state ≡ IsRec rec). beside g rec before)
     (rec_back k x g kept rec is)
 
--- the REC that is left out
+-- writing the REC that is left out keeps `Beside`
 beside_but : (m k : Machine) (x : ℕ) (rec : RmmRec) → Beside m (Some x) k → Beside m (Some x) (with_rec k x rec)
 beside_but m k x rec beside g new is =
     ⊎_elim
@@ -214,7 +214,7 @@ quiet _ m is = absurd (cc)
 
 -- ---- calls on RECs
 
--- a REC that is created asks for nothing, as the granule did before
+-- RMI_REC_CREATE keeps each RIPAS request; the new REC has no request, as its granule had none before
 created : (rd rec params : ℕ) (m : Machine) → Passed (rec_create rd rec params m).checks → Beside m None (rec_create rd rec params m).machine
 unfolding rec_create
 created rd rec params m ok =
@@ -228,7 +228,7 @@ created rd rec params m ok =
     beside_plain m (with_aux made x (of_realm r RecAux) m.settings.aux) None r (of_no_realm (Rd (with_one_more m.settings (realm_at m rd) page))) refl
     (beside_aux m made x (of_realm r RecAux) m.settings.aux refl (beside_same m m None x (of_realm r (IsRec new)) new refl (sym none) (all_beside m None)))
 
--- the rest of a range is what a REC asks for after RMI_RTT_SET_RIPAS
+-- RMI_RTT_SET_RIPAS changes only the request of its REC, and only to the rest of the old request
 changed : (rd rec base top : ℕ) (m : Machine) → Passed (rtt_set_ripas rd rec base top m).checks → KeepsRequests m (Some (RttSetRipas rd rec base top)) (rtt_set_ripas rd rec base top m).machine
 unfolding rtt_set_ripas ripas_request_checks with_ripas_from
 changed rd rec base top m ok g new is =

@@ -48,7 +48,7 @@ use Rattle.rmm_laws.proofs.StateCalls.{new_if}
 use Rattle.rmm_laws.proofs.Tops.{same_end}
 use Rattle.rmm_laws.proofs.Writes.{page_in-same, page_in-other, taken_inside}
 
--- the address of a realm in another machine has the RIPAS that it had, or a call gives it another one
+-- a protected address of a realm has in another machine the RIPAS that it had, or the call gives it another
 abbrev pub Keeps : Call → Machine → Machine → ℕ → ℕ → RmmRealm → RmmRealm → Type 0
 Keeps call m n rd x before after =
     (granule_at n rd).state ≡ Rd after → after.start_level ≡ before.start_level → after.first_table ≡ before.first_table → is_protected before x ≡ true
@@ -59,7 +59,7 @@ Keeps call m n rd x before after =
 module _ (call : Call) (m n : Machine) (proper : IsProper m) (settings : n.settings ≡ m.settings) (count : length n.granules ≡ length m.granules) (rd ipa level : ℕ) (realm : RmmRealm)
     (is : (granule_at m rd).state ≡ Rd realm) (within : ipa < 2 ^ realm.s2sz) (least : realm.start_level ≤ level)
     (others : (g : ℕ) → IsTableOf m rd g → g ≢ (walk m realm ipa level).table → page_in n g ≡ page_in m g) where
-  -- an entry that leads to no table takes the place of another one
+  -- An entry that is no TABLE replaces another such entry at the end of a walk.
   module _ (e : RmmRttEntry) (page : page_in n (walk m realm ipa level).table ≡ page_with_word (page_in m (walk m realm ipa level).table) (entry_index (walk m realm ipa level).level ipa) (entry_word e))
       (before : is_table (entry_at m (walk m realm ipa level) ipa) ≡ false) (leaf : is_table e ≡ false) where
     leaf_written : ((x : ℕ) → x / entry_size (walk m realm ipa level).level ≡ ipa / entry_size (walk m realm ipa level).level
@@ -71,7 +71,7 @@ module _ (call : Call) (m n : Machine) (proper : IsProper m) (settings : n.setti
         (λ protected covers. subst (λ (r : RmmRipas). (r ≡ old) ⊎ IsRipasGiven m (Some call) rd x old r) (sym (word_ripas e)) (given x covers))
         after
 
-    -- the RIPAS at an address of the entry, if its walk ends there
+    -- after a walk to level 3, the RIPAS of an address that the entry covers is the new entry's RIPAS
     leaf_ripas : level ≡ 3 → (x : ℕ) → x / entry_size (walk m realm ipa level).level ≡ ipa / entry_size (walk m realm ipa level).level → ripas_at n realm x ≡ ripas_in e
     unfolding entry_at entry_index
     leaf_ripas three x covers =
@@ -85,7 +85,7 @@ module _ (call : Call) (m n : Machine) (proper : IsProper m) (settings : n.setti
         let entry = now x RmmRipas (λ f l. ripas_in f) (λ r was now. Unit {0}) m n proper settings count rd ipa level realm is within least others e page before leaf in
         ap (λ (q : RttWalk). ripas_in (entry_at n q x)) (same ∙ there) ∙ ap (λ (j : ℕ). ripas_in (entry_in_page (page_in n found.table) j)) index ∙ ap ripas_in entry ∙ word_ripas e
 
-  -- entries of a range get another RIPAS
+  -- The first entries from `ipa` on that can be changed, up to `top` and the end of the table, get another RIPAS.
   module _ (changeable : Changeable) (ripas : RmmRipas) (top : ℕ) (begins : ipa % entry_size (walk m realm ipa level).level ≡ 0)
       (page : page_in n (walk m realm ipa level).table ≡ page_in (with_ripas_from m (walk m realm ipa level).table (entry_index (walk m realm ipa level).level ipa) ripas (change_count m changeable (walk m realm ipa level) ipa top)) (walk m realm ipa level).table)
       (given : (x : ℕ) (e : RmmRttEntry) → IsBetween ipa top x → can_change changeable e ≡ true → IsRipasGiven m (Some call) rd x (ripas_in e) ripas) where
@@ -111,7 +111,7 @@ unassigned_leaf : (e : RmmRttEntry) → is_unassigned e ≡ true → is_table e 
 unassigned_leaf (Unassigned ripas) is = refl
 unassigned_leaf _ is = absurd (cc)
 
--- a page is at the address of a page
+-- an address covered by the entry of level 3 that begins at `ipa` is in the 4,096 bytes from `ipa` on
 pub page_between : (l ipa x : ℕ) → l ≡ 3 → ipa % 4096 ≡ 0 → x / entry_size l ≡ ipa / entry_size l → IsBetween ipa (ipa + 4096) x
 unfolding entry_size
 page_between l ipa x three begins covers = subst (λ (k : ℕ). x / entry_size k ≡ ipa / entry_size k → IsBetween ipa (ipa + 4096) x) (sym three) (λ same. (omega arith, omega arith)) covers
@@ -120,7 +120,8 @@ module _ (call : Call) (m n : Machine) (proper : IsProper m) (settings : n.setti
     (is : (granule_at m (number_of m rd)).state ≡ Rd (realm_at m rd)) (protected : is_protected (realm_at m rd) ipa ≡ true) (free : state_at m page ≡ Delegated)
     (vacant : is_unassigned (entry_at m (walk m (realm_at m rd) ipa 3) ipa) ≡ true) (kept : RmmGranule) (content : List ℕ) (ripas : RmmRipas)
     (pages : n.pages ≡ (with_entry (with_page (with_granule m (number_of m page) kept) (number_of m page) content) (walk m (realm_at m rd) ipa 3) ipa (Assigned ripas page)).pages) where
-  -- a DELEGATED granule becomes a page
+  -- mapping a DELEGATED granule changes the RIPAS of addresses as `Keeps` allows, if it does so at the addresses that
+  -- the entry covers
   page_written : ((x : ℕ) → x / entry_size (walk m (realm_at m rd) ipa 3).level ≡ ipa / entry_size (walk m (realm_at m rd) ipa 3).level
       → (ripas ≡ ripas_in (entry_at m (walk m (realm_at m rd) ipa 3) ipa)) ⊎ IsRipasGiven m (Some call) (number_of m rd) x (ripas_in (entry_at m (walk m (realm_at m rd) ipa 3) ipa)) ripas)
       → (x : ℕ) (after : RmmRealm) → Keeps call m n (number_of m rd) x (realm_at m rd) after
@@ -158,7 +159,7 @@ own_unknown rd page ipa m proper ok count x after =
     page_written (DataCreateUnknown rd page ipa) m (data_create_unknown rd page ipa m).machine proper refl count rd page ipa is protected free vacant
     (of_realm (number_of m rd) Data) zero_page (ripas_in (entry_at m (walk m realm ipa 3) ipa)) refl (λ y covers. inl refl) x after
 
--- the addresses of a page
+-- an address in the 4,096 bytes from `ipa` on is covered by the entry of level 3 that begins at `ipa`
 pub page_covers : (l ipa x : ℕ) → l ≡ 3 → ipa % 4096 ≡ 0 → IsBetween ipa (ipa + 4096) x → x / entry_size l ≡ ipa / entry_size l
 unfolding entry_size
 page_covers l ipa x three begins between = (let low = between.0 in let high = between.1 in subst (λ (k : ℕ). x / entry_size k ≡ ipa / entry_size k) (sym three) (omega arith))
@@ -177,7 +178,7 @@ left_given m of ipa rd x Empty named between = inl refl
 left_given m of ipa rd x Ram named between = inr (named, between, refl)
 left_given m of ipa rd x Destroyed named between = inl refl
 
--- the page at an address is destroyed
+-- The checks of an RMI_DATA_DESTROY have passed, so it destroys the page at an address.
 module _ (rd ipa : ℕ) (m : Machine) (proper : IsProper m) (ok : Passed (data_destroy rd ipa m).checks) (count : length (data_destroy rd ipa m).machine.granules ≡ length m.granules) where
   abbrev realm : RmmRealm
   realm = realm_at m rd
@@ -251,7 +252,7 @@ module _ (rd ipa : ℕ) (m : Machine) (proper : IsProper m) (ok : Passed (data_d
       leaf_written (DataDestroy rd ipa) m (data_destroy rd ipa m).machine proper refl count r ipa 3 realm is within least others e page (memory_leaf m old g named) refl
       (λ y covers. left_given m rd ipa r y (ripas_in old) refl (page_between end.level ipa y reaches begins covers)) x after
 
-  -- what is left at each address of the page is not RAM
+  -- no address of the destroyed page has RIPAS RAM
   pub left_not_ram : (x : ℕ) → IsBetween ipa (ipa + 4096) x → is_ram (ripas_at (data_destroy rd ipa m).machine (realm_at m rd) x) ≡ false
   unfolding data_destroy
   left_not_ram x between =

@@ -95,7 +95,7 @@ module _ (o : Machine) (x g : ℕ) (other : x ≢ g) where
 
 -- ---- pages of data
 
--- the realm of an RD is off
+-- switching off a realm leaves each DATA granule as it was
 off_at : (m : Machine) (x rd : ℕ) (there : Option RmmRealm) → (granule_at m x).state ≡ Data → realm_of (granule_at m rd).state ≡ there → IsSameAt m (with_realm_off m rd there) x
 off_at m x rd (Some realm) its is = same_granule m x m rd _ (λ same. (let none : realm_of (granule_at m rd).state ≡ None = ap (λ (y : ℕ). realm_of (granule_at m y).state) (sym same) ∙ ap (λ (s : RmmGranuleState). realm_of s) its in cc)) (refl, refl)
 off_at m x rd None its is = (refl, refl)

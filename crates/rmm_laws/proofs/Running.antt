@@ -42,7 +42,7 @@ Runs m g = (rec : RmmRec) × ((granule_at m g).state ≡ IsRec rec) × (is_runni
 runs_inside : (m : Machine) (g : ℕ) → Runs m g → g < length m.granules
 runs_inside m g run = let is = run.1 in taken_inside m g (λ free. cc)
 
--- the attributes of a REC that runs
+-- the attributes of a REC that runs have the state RUNNING
 pub runs_in : (m : Machine) (g : ℕ) → Runs m g → is_running (rec_in m g).state ≡ true
 runs_in m g run = ap (λ (s : RmmGranuleState). is_running (unwrap_or (rec_of s) no_rec).state) run.1 ∙ run.2
 

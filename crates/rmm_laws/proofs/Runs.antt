@@ -26,7 +26,7 @@ has_run (suc count) g flags m =
     let next : Machine = after_first_step m g flags in
     goes_on (first_step_outcome m g flags) next g (after_steps next g flags count) (HasRun next g flags count) (has_run count g flags next)
 
--- a REC that is entered has a run
+-- an RMI_REC_ENTER that is not refused has a run of at most 16 steps after the entry
 pub entered_run : (m : Machine) (rec run : ℕ) → is_refusal (performed (RecEnter rec run) m).0.word ≡ false
     → HasRun (after_entry m (number_of m rec) run (flags_in (page_in m (number_of m run)))) (number_of m rec) (flags_in (page_in m (number_of m run))) 16 (performed (RecEnter rec run) m).0.word (performed (RecEnter rec run) m).1
 unfolding rec_enter

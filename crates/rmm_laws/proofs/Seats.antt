@@ -48,7 +48,7 @@ child_table m linked table i child is lt leads =
 -- ---- walks
 
 module _ (m : Machine) (linked : IsLinked m) (halves : HasHalves m) (rd ipa : ℕ) (realm : RmmRealm) where
-  -- a place of a walk whose table is at the place of the address
+  -- a place of a walk whose table has the level of the place, and the index by IPA that covers the address
   pub record IsSeat (at : RttWalk) : Type 0 where
     pub is : IsPlace m linked rd ipa at
     pub depth : halves.level at.table ≡ at.level
@@ -96,7 +96,7 @@ module _ (m : Machine) (linked : IsLinked m) (halves : HasHalves m) (rd ipa : �
       abbrev i : ℕ
       i = entry_index (walk m realm ipa level).level ipa
 
-      -- the entry at the end of a walk
+      -- the entry at the end of a walk is allowed in the half of the walk's address
       pub walk_half : IsOfHalf realm ipa (entry_at m (walk m realm ipa level) ipa)
       unfolding entry_at
       walk_half =
@@ -121,7 +121,7 @@ module _ (m : Machine) (linked : IsLinked m) (halves : HasHalves m) (rd ipa : �
           let few = found_few in
           subst (λ (l : ℕ). entry_size l ≤ entry_size realm.start_level) (sym depth) (sizes_fall realm.start_level deep.levels (omega arith))
 
-      -- an address of the entry is on the side of the walk's address
+      -- an address that the entry at the end of a walk covers is in the lower half if the walk's address is
       pub in_half : (x : ℕ) → x / entry_size (walk m realm ipa level).level ≡ ipa / entry_size (walk m realm ipa level).level → ipa < 2 ^ (realm.s2sz - 1) → x < 2 ^ (realm.s2sz - 1)
       in_half x same low =
           let size = found_size in
@@ -143,7 +143,8 @@ module _ (m : Machine) (linked : IsLinked m) (halves : HasHalves m) (rd ipa : �
           let wide = halves.is.wide rd realm is in
           side found.level found_few realm.s2sz ipa x (omega arith) (sym same) within
 
-      -- an entry that is of each half in which the walk's address is
+      -- an entry that is allowed at each address covered at the end of a walk is allowed there for each realm that owns
+      -- the table
       pub at_seat : (e : RmmRttEntry) → ((x : ℕ) → x / entry_size (walk m realm ipa level).level ≡ ipa / entry_size (walk m realm ipa level).level → IsOfHalf realm x e)
           → (other x : ℕ) (some : RmmRealm) → (granule_at m other).state ≡ Rd some → granule_at m (walk m realm ipa level).table ≡ of_realm other Rtt
           → x / entry_size (halves.level (walk m realm ipa level).table) ≡ halves.place (walk m realm ipa level).table * 512 + entry_index (walk m realm ipa level).level ipa → IsOfHalf some x e

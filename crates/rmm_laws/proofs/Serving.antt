@@ -46,7 +46,7 @@ pub base_high : (l ipa : ℕ) → l ≤ 3 → ipa < base_of l ipa + 512 * entry_
 unfolding entry_size
 base_high l ipa few = level_cases (λ (k : ℕ). ipa < base_of k ipa + 512 * entry_size k) (omega arith) (omega arith) (omega arith) (omega arith) l few
 
--- the table below serves from where its entry does
+-- the range that the table below an entry serves begins where the entry does
 pub base_next : (l ipa : ℕ) → l ≤ 2 → base_of (l + 1) ipa ≡ base_of l ipa + entry_index l ipa * entry_size l
 unfolding entry_size entry_index
 base_next zero ipa few = omega arith
@@ -57,7 +57,7 @@ base_next (suc (suc (suc l))) ipa few = absurd (omega arith)
 -- ---- walks
 
 module _ (m : Machine) (linked : IsLinked m) (rd ipa : ℕ) (realm : RmmRealm) where
-  -- a place of a walk whose table serves the address
+  -- a place of a walk whose table serves the range with the walk's address
   pub record IsServing (place : RttWalk) : Type 0 where
     pub is : IsPlace m linked rd ipa place
     pub levels : ℕ
@@ -111,7 +111,7 @@ module _ (m : Machine) (linked : IsLinked m) (rd ipa : ℕ) (realm : RmmRealm) w
         serves = (start_table_index realm.start_level ipa, start_inside realm.start_level ipa realm.s2sz realm.table_count within fit.served, refl, refl);
       }
 
-  -- the end of a walk
+  -- the table at the end of a walk serves the range with the walk's address
   pub walk_serves : (level : ℕ) → (granule_at m rd).state ≡ Rd realm → ipa < 2 ^ realm.s2sz → IsServing (walk m realm ipa level)
   unfolding walk
   walk_serves level is within = from (level - realm.start_level) (start_of realm ipa) (start_serves is within)

@@ -45,7 +45,7 @@ use Rattle.rmm_laws.proofs.Writes.{granule_at-same, page_in-same, page_in-other,
 
 -- ---- addresses of entries
 
--- an address of a range is of an entry of the range
+-- an address in the range of `k` entries from `base` on is covered by one of these entries
 in_entries : (l : ℕ) → l ≤ 3 → (base x k : ℕ) → base % entry_size l ≡ 0 → base ≤ x → x < base + k * entry_size l → entry_index l base + k ≤ 512
     → (entry_index l base ≤ entry_index l x) × (entry_index l x < entry_index l base + k) × (x / entry_size l / 512 ≡ base / entry_size l / 512)
 unfolding entry_size entry_index
@@ -59,7 +59,7 @@ in_entries l few =
     (λ base x k begins low high most. (omega arith, omega arith, omega arith))
     l few
 
--- an address of an entry of a range is of the range
+-- an address covered by one of the `k` entries from `base` on is in the range of these entries
 of_entries : (l : ℕ) → l ≤ 3 → (base x k j : ℕ) → base % entry_size l ≡ 0 → x / entry_size l ≡ base / entry_size l / 512 * 512 + j → entry_index l base ≤ j → j < entry_index l base + k → IsBetween base (base + k * entry_size l) x
 unfolding entry_size entry_index
 of_entries l few =
@@ -71,14 +71,14 @@ of_entries l few =
     (λ base x k j begins covers low high. (omega arith, omega arith))
     l few
 
--- whole entries below a top end at it at most
+-- entries from `base` on that fit whole below `top` end at `top` or before it
 ends_below : (l : ℕ) → l ≤ 3 → (base top k : ℕ) → base < top → k ≤ (top - base) / entry_size l → base + k * entry_size l ≤ top
 unfolding entry_size
 ends_below l few =
     level_cases (λ (j : ℕ). (base top k : ℕ) → base < top → k ≤ (top - base) / entry_size j → base + k * entry_size j ≤ top)
     (λ base top k some below. omega arith) (λ base top k some below. omega arith) (λ base top k some below. omega arith) (λ base top k some below. omega arith) l few
 
--- one entry at least is below a top
+-- at least one entry fits below a top that is an entry's size or more above `base`
 one_below : (l : ℕ) → l ≤ 3 → (base top : ℕ) → base + entry_size l ≤ top → 0 < (top - base) / entry_size l
 unfolding entry_size
 one_below l few =
@@ -173,11 +173,11 @@ module _ (m n : Machine) (proper : IsProper m) (settings : n.settings ≡ m.sett
       (λ (kept : (j < at) ⊎ (at + k ≤ j)). inl (kept_there j lt kept))
       (changed_or_kept m found.table at k ripas proper.linked table few j)
 
-  -- walks end where they did
+  -- the walk of a protected address ends at the same place in both machines
   same_walk : (x : ℕ) → is_protected realm x ≡ true → walk n realm x 3 ≡ walk m realm x 3
   same_walk x protected = (changed m n proper settings count r base 3 realm is within x RmmRipas (λ e l. ripas_in e) (λ was now. Unit {0}) (each x) (λ h here other. others h other) realm refl refl (protected_within realm x protected)).0
 
-  -- an address of the range
+  -- A protected address in the range whose RIPAS is changed.
   module _ (x : ℕ) (between : IsBetween base (base + change_count m changeable (walk m realm base 3) base top * entry_size (walk m realm base 3).level) x) (protected : is_protected realm x ≡ true) where
     abbrev j : ℕ
     j = entry_index (walk m realm base 3).level x
@@ -203,7 +203,7 @@ module _ (m n : Machine) (proper : IsProper m) (settings : n.settings ≡ m.sett
     unfolding entry_at
     entry_before = ap (λ (q : RttWalk). entry_at m q x) walk_before
 
-  -- an address beside the range
+  -- the entry of a protected address outside the range is the same in both machines
   entry_beside : (x : ℕ) → is_protected realm x ≡ true → (IsBetween base stop x → ⊥) → entry_at n (walk m realm x 3) x ≡ entry_at m (walk m realm x 3) x
   unfolding entry_at
   entry_beside x protected out =
@@ -287,7 +287,8 @@ init_after rd base top m proper ok =
       stop_most m n proper refl count r base top realm is within changeable Ram begins can fits refl others,
     )
 
--- RMI_RTT_SET_RIPAS gives a range up to X1 what was asked for, and leaves all other addresses
+-- a successful RMI_RTT_SET_RIPAS gives protected addresses from `base` up to X1 the requested RIPAS, and leaves all
+-- others as they were; X1 is at most `top` and the request's top
 pub range_after : (m : Machine) (rd rec base top : ℕ) → IsProper m → (performed (RttSetRipas rd rec base top) m).0.word ≡ Success
     → IsRipasSet m (performed (RttSetRipas rd rec base top) m).1 (realm_at m rd) (rec_at m rec).ripas.ripas base (performed (RttSetRipas rd rec base top) m).0.x1 × ((performed (RttSetRipas rd rec base top) m).0.x1 ≤ top)
     × ((performed (RttSetRipas rd rec base top) m).0.x1 ≤ (rec_at m rec).ripas.top)
@@ -299,7 +300,8 @@ range_after m rd rec base top proper success =
     (RttSetRipas rd rec base top) m refl success
     (λ ok now. subst (λ (p : SmcResult × Machine). IsRipasSet m p.1 (realm_at m rd) (rec_at m rec).ripas.ripas base p.0.x1 × (p.0.x1 ≤ top) × (p.0.x1 ≤ (rec_at m rec).ripas.top)) (sym now) (set_after rd rec base top m proper ok))
 
--- RMI_RTT_INIT_RIPAS gives a range up to X1 RAM, and leaves all other addresses
+-- a successful RMI_RTT_INIT_RIPAS gives protected addresses from `base` up to X1 RIPAS RAM, and leaves all others as
+-- they were; X1 is at most `top`
 pub range_inited : (m : Machine) (rd base top : ℕ) → IsProper m → (performed (RttInitRipas rd base top) m).0.word ≡ Success
     → IsRipasSet m (performed (RttInitRipas rd base top) m).1 (realm_at m rd) Ram base (performed (RttInitRipas rd base top) m).0.x1 × ((performed (RttInitRipas rd base top) m).0.x1 ≤ top)
 unfolding rtt_init_ripas range_checks
@@ -311,7 +313,8 @@ range_inited m rd base top proper success =
 
 -- ---- the rest of a request
 
--- a range begins where a REC asks, and the REC asks for the rest from X1 on
+-- the range of a successful RMI_RTT_SET_RIPAS begins where the REC's request does, and afterwards the REC requests the
+-- rest from X1 on
 pub rest_after : (m : Machine) (rd rec base top : ℕ) → (performed (RttSetRipas rd rec base top) m).0.word ≡ Success → IsRestFrom m (performed (RttSetRipas rd rec base top) m).1 rec base (performed (RttSetRipas rd rec base top) m).0.x1
 unfolding rtt_set_ripas ripas_request_checks with_ripas_from
 rest_after m rd rec base top success =

@@ -13,7 +13,7 @@ power_few j k few =
     (λ (other : j ≢ k). (let less = pow_below j k (omega arith) in omega arith))
     (cases_eq j k)
 
--- a power that is no smaller is a multiple
+-- a power of 2 that is at least another is a multiple of it
 multiple_of : (k e : ℕ) → 2 ^ k ≤ 2 ^ e → (d : ℕ) × (2 ^ e ≡ 2 ^ d * 2 ^ k)
 multiple_of k e few =
     ⊎_elim
@@ -24,7 +24,7 @@ multiple_of k e few =
 abbrev IsSided : ℕ → Type 0
 IsSided l = (e a b : ℕ) → entry_size l ≤ 2 ^ e → a / entry_size l ≡ b / entry_size l → a < 2 ^ e → b < 2 ^ e
 
--- addresses of one entry are below an end, or none is
+-- an address covered by the same entry as an address below 2^e is below 2^e, if the entry's size is at most 2^e
 pub side : (l : ℕ) → l ≤ 3 → (e a b : ℕ) → entry_size l ≤ 2 ^ e → a / entry_size l ≡ b / entry_size l → a < 2 ^ e → b < 2 ^ e
 unfolding entry_size
 side l few =
@@ -35,7 +35,7 @@ side l few =
     (λ e a b size same low. (let it = multiple_of 12 e size in let whole = it.1 in omega arith))
     l few
 
--- half of a space that has more than one entry has whole entries
+-- an entry that is smaller than an address space is at most half of it
 half_of : (k s : ℕ) → 2 ^ k < 2 ^ s → 2 ^ k ≤ 2 ^ (s - 1)
 half_of k s less =
     ⊎_elim
@@ -63,14 +63,14 @@ sizes_fall (suc (suc zero)) (suc zero) few = omega arith
 sizes_fall (suc (suc (suc zero))) zero few = omega arith
 sizes_fall l d few = absurd (omega arith)
 
--- where the entry of an address begins
+-- an entry that covers an address begins at its number times its size, not after the address
 pub entry_start : (l : ℕ) → l ≤ 3 → (n ipa : ℕ) → ipa / entry_size l ≡ n → (n * entry_size l ≤ ipa) × (n * entry_size l / entry_size l ≡ n)
 unfolding entry_size
 entry_start l few =
     level_cases (λ (k : ℕ). (n ipa : ℕ) → ipa / entry_size k ≡ n → (n * entry_size k ≤ ipa) × (n * entry_size k / entry_size k ≡ n))
     (λ n ipa is. (omega arith, omega arith)) (λ n ipa is. (omega arith, omega arith)) (λ n ipa is. (omega arith, omega arith)) (λ n ipa is. (omega arith, omega arith)) l few
 
--- an address in a table is in the entry above it
+-- the table that serves an address has the number of the entry above it that covers the address
 pub above : (l ipa : ℕ) → l ≤ 2 → ipa / entry_size (l + 1) / 512 ≡ ipa / entry_size l
 unfolding entry_size
 above zero ipa few = omega arith

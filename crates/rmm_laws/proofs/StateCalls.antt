@@ -75,7 +75,8 @@ keep call m stay rd realm is = (let old = stay rd realm is in inl (old.0, old.1,
 keep_rim : (call : Call) (m : Machine) → Stay m (command_of call m).machine → KeepsRims m (Some call) (command_of call m).machine
 keep_rim call m stay rd realm is = (let old = stay rd realm is in inl (old.0, old.1, old.3))
 
--- an RD whose realm has another RIM after a write
+-- once a NEW realm's RIM is written, each realm has its old state and RIM, or is that realm, still NEW, with the new
+-- RIM
 by_rim : (m k : Machine) (x : ℕ) (realm : RmmRealm) (rim : List ℕ) (g : ℕ) (new : RmmRealm) → Stay m k → (granule_at m x).state ≡ Rd realm → realm.state ≡ New
     → (other : RmmRealm) → other.state ≡ realm.state → other.rim ≡ rim → (granule_at (with_granule k x (of_no_realm (Rd other))) g).state ≡ Rd new
     → IsAsBefore m g new ⊎ ((g ≡ x) × IsRealmIn m g New × (new.rim ≡ rim) × (new.state ≡ New))
@@ -207,7 +208,7 @@ activated rd m ok g new is =
     (λ (before : (granule_at m g).state ≡ Rd new). inl (new, before, refl, refl))
     (write_back m (number_of m rd) g (of_no_realm (Rd (record old { state = Active }))) new is)
 
--- a realm is as before, or it is NEW still and has that RIM
+-- a realm has its old state and RIM, or is the realm of RD `r`, still NEW, with the given RIM
 abbrev IsMore : Machine → ℕ → List ℕ → ℕ → RmmRealm → Type 0
 IsMore m r rim g new = IsAsBefore m g new ⊎ ((g ≡ r) × IsRealmIn m g New × (new.rim ≡ rim) × (new.state ≡ New))
 

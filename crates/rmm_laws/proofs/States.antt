@@ -13,7 +13,7 @@ use Rattle.rmm_laws.proofs.Writes.{granule_at-same, granule_at-other, taken_insi
 pub same_realm : {a b : RmmRealm} → Rd a ≡ Rd b → a ≡ b
 same_realm {a} {b} same = let both : Some a ≡ Some b = ap realm_of same in cc
 
--- an RD after a granule was written: that granule, or an RD of before
+-- after a granule is written, each RD is that granule, or was the RD of the same realm before
 pub write_back : (k : Machine) (x g : ℕ) (kept : RmmGranule) (realm : RmmRealm) → (granule_at (with_granule k x kept) g).state ≡ Rd realm → ((g ≡ x) × (kept.state ≡ Rd realm)) ⊎ ((granule_at k g).state ≡ Rd realm)
 write_back k x g kept realm is =
     let n : Machine = with_granule k x kept in
@@ -29,14 +29,14 @@ write_back k x g kept realm is =
 abbrev pub IsAsBefore : Machine → ℕ → RmmRealm → Type 0
 IsAsBefore m g realm = (old : RmmRealm) × ((granule_at m g).state ≡ Rd old) × (old.state ≡ realm.state) × (old.rim ≡ realm.rim)
 
--- each realm is as it was
+-- each realm has the state and the RIM that it had before
 abbrev pub Stay : Machine → Machine → Type 0
 Stay m n = (g : ℕ) (realm : RmmRealm) → (granule_at n g).state ≡ Rd realm → IsAsBefore m g realm
 
 pub stay_all : (m : Machine) → Stay m m
 stay_all m g realm is = (realm, is, refl, refl)
 
--- a granule that is no RD after a write
+-- writing a granule that is no RD after the write keeps `Stay`
 pub stay_plain : (m k : Machine) (x : ℕ) (kept : RmmGranule) → is_rd kept.state ≡ false → Stay m k → Stay m (with_granule k x kept)
 stay_plain m k x kept plain stay g realm is =
     ⊎_elim
@@ -44,7 +44,7 @@ stay_plain m k x kept plain stay g realm is =
     (λ (before : (granule_at k g).state ≡ Rd realm). stay g realm before)
     (write_back k x g kept realm is)
 
--- an RD whose realm is in the same state after a write, and has the same RIM
+-- replacing an RD's realm by one with the same state and RIM keeps `Stay`
 pub stay_realm : (m k : Machine) (x : ℕ) (realm other : RmmRealm) → other.state ≡ realm.state → other.rim ≡ realm.rim → Stay m k → (granule_at m x).state ≡ Rd realm → Stay m (with_granule k x (of_no_realm (Rd other)))
 stay_realm m k x realm other same rim stay was g new is =
     ⊎_elim

@@ -39,7 +39,7 @@ module _ (m : Machine) (g flags rd other ipa value x : ℕ) (size : AccessSize) 
   abbrev outcome : StepOutcome
   outcome = step_outcome m realm g flags (first_step m g)
 
-  -- a granule that is neither the REC nor written
+  -- a granule that is neither the REC nor reached by the write stays as it was
   beside : (h : ℕ) → h ≢ g → ((k : ℕ) → access m realm ipa true size (low_bytes size value) ≡ Ok k → h ≢ k) → IsSameAt m (after_first_step m g flags) h
   unfolding after_step
   beside h not_g not_written =
@@ -81,7 +81,8 @@ module _ (m : Machine) (g flags rd other ipa value x : ℕ) (size : AccessSize) 
   stepped : content_at n its x ≡ content_at m its x
   stepped = ap (content_of n) same_place ∙ same_by (location_at m its x) refl
 
--- a step that writes leaves the bytes at each protected address of another page
+-- a step that writes leaves the bytes at a protected address unchanged, unless it writes at a protected address of the
+-- same realm and page
 pub step_written : (m : Machine) (rd other g flags ipa value x : ℕ) (size : AccessSize) (realm its : RmmRealm) → IsProperRun m g → (granule_at m g).owner ≡ Some rd → (granule_at m rd).state ≡ Rd realm → (granule_at m other).state ≡ Rd its
     → first_step m g ≡ Write ipa value size → is_protected its x ≡ true → (is_protected realm ipa ≡ false) ⊎ ((other ≢ rd) ⊎ (x / 4096 ≢ ipa / 4096)) → content_at (after_first_step m g flags) its x ≡ content_at m its x
 unfolding after_first_step

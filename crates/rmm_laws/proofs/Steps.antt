@@ -56,7 +56,7 @@ deeper_start (suc zero) few p i = omega arith
 deeper_start (suc (suc zero)) few p i = omega arith
 deeper_start (suc (suc (suc l))) few p i = absurd (omega arith)
 
--- the address at which entry i of table p of a level begins
+-- the address `i` entries after the beginning of table `p` of a level begins an entry of that table, and has index `i`
 abbrev IsAddress : ℕ → Type 0
 IsAddress l = (p i first : ℕ) → i < 512 → first ≡ p * (512 * entry_size l)
     → ((first + i * entry_size l) / entry_size l ≡ p * 512 + i) × ((first + i * entry_size l) / entry_size l % 512 ≡ i) × ((first + i * entry_size l) % entry_size l ≡ 0)
@@ -162,7 +162,7 @@ or_right : (a b : Bool) → a ≡ false → (a || b) ≡ true → b ≡ true
 or_right true b never some = absurd (cc)
 or_right false b never some = some
 
--- a starting table with a live entry
+-- if the test for a live starting table succeeds, one of the starting tables has a live entry
 live_start : (m : Machine) (first count : ℕ) → has_live_table m first count ≡ true → (k : ℕ) × (k < count) × (has_live (page_in m (first + k)) ≡ true)
 unfolding has_live_table
 live_start m first zero some = absurd (cc)
@@ -202,7 +202,7 @@ module _ (m : Machine) (proper : IsProper m) (rd : ℕ) (named : rd_named m rd �
   is : (granule_at m (number_of m rd)).state ≡ Rd (realm_at m rd)
   is = realm_of-some (state_at m rd) (rd_tests m rd named).2
 
-  -- an entry of a table of the realm, at the address where it begins
+  -- The teardown's next step at entry `i` of a table of the realm, by the address at which the entry begins.
   module _ (table i : ℕ) (there : IsTableOf m (number_of m rd) table) (index : i < 512) (server : IsServer m proper.linked (number_of m rd) realm is table) where
     abbrev l : ℕ
     l = realm.start_level + server.levels
@@ -242,13 +242,13 @@ module _ (m : Machine) (proper : IsProper m) (rd : ℕ) (named : rd_named m rd �
     unfolding entry_size
     page_size deepest = subst (λ (n : ℕ). ipa % entry_size n ≡ 0) deepest address.2
 
-    -- a page at level 3
+    -- RMI_DATA_DESTROY succeeds at an ASSIGNED entry of level 3
     leaf_step : (ripas : RmmRipas) (a : ℕ) → l ≡ 3 → entry_in_page (page_in m table) i ≡ Assigned ripas a → IsOfHalf realm ipa (Assigned ripas a) → (performed (DataDestroy rd ipa) m).0.word ≡ Success
     leaf_step ripas a deepest at kind =
         page_step m rd ipa a ripas proper named (page_size deepest) (lt-ltb ipa (2 ^ (realm.s2sz - 1)) kind) (subst (λ (n : ℕ). (walk m realm ipa n).level ≡ n) deepest reaches)
         (subst (λ (n : ℕ). entry_at m (walk m realm ipa n) ipa ≡ Assigned ripas a) deepest (entry_is ∙ at))
 
-    -- with a spare granule
+    -- The steps of a teardown when some spare granule is DELEGATED.
     module _ (spare : ℕ) (spare_aligned : spare % 4096 ≡ 0) (spare_inside : is_inside m spare ≡ true) (spare_free : (granule_at m (number_of m spare)).state ≡ Delegated) where
       unfold_step : (ripas : RmmRipas) (a : ℕ) → l < 3 → ipa < 2 ^ realm.s2sz → entry_in_page (page_in m table) i ≡ Assigned ripas a → HasNextStep m rd spare
       unfold_step ripas a upper within at =
@@ -272,7 +272,7 @@ module _ (m : Machine) (proper : IsProper m) (rd : ℕ) (named : rd_named m rd �
                 (subst (λ (n : ℕ). table_below m (entry_at m (walk m realm ipa n) ipa) ≡ Some child) (sym back) (ap (table_below m) entry_is ∙ leads)) dead,
           )
 
-      -- by the entry
+      -- the realm has a next step if the entry is live, and if a live table below it gives a next step
       step_by : (e : RmmRttEntry) → entry_in_page (page_in m table) i ≡ e → is_live e ≡ true → IsOfHalf realm ipa e → LeadsInside m e
           → ((child : ℕ) → table_below m (entry_in_page (page_in m table) i) ≡ Some child → has_live (page_in m child) ≡ true → HasNextStep m rd spare) → HasNextStep m rd spare
       step_by (Unassigned ripas) at live kind leads rest = absurd (cc)
@@ -298,7 +298,7 @@ module _ (m : Machine) (proper : IsProper m) (rd : ℕ) (named : rd_named m rd �
           (λ (dead : has_live (page_in m (number_of m a)) ≡ false). destroy_step (number_of m a) below kind dead)
           (cases_Bool (has_live (page_in m (number_of m a))))
 
-  -- a page of memory at level 3 of a table of the realm
+  -- RMI_DATA_DESTROY succeeds at some address for an ASSIGNED entry of level 3 in a table of the realm
   pub page_removal : (table i : ℕ) (ripas : RmmRipas) (a : ℕ) → IsTableOf m (number_of m rd) table → i < 512 → proper.linked.level table ≡ 3 → entry_in_page (page_in m table) i ≡ Assigned ripas a
       → (ipa : ℕ) × ((performed (DataDestroy rd ipa) m).0.word ≡ Success)
   page_removal table i ripas a there index deepest at =
@@ -307,7 +307,7 @@ module _ (m : Machine) (proper : IsProper m) (rd : ℕ) (named : rd_named m rd �
       let first : ℕ = server.1 + i * entry_size (realm.start_level + server.0) in
       (first, leaf_step table i there index s ripas a (sym server.3 ∙ deepest) at (subst (IsOfHalf realm first) at (of_half table i there index s)))
 
-  -- a REC of the realm that does not run
+  -- a realm with a REC that does not run has a removal: RMI_REC_DESTROY succeeds
   rec_removal : (g : ℕ) (rec : RmmRec) → granule_at m g ≡ of_realm (number_of m rd) (IsRec rec) → is_running rec.state ≡ false → HasRemoval m rd
   rec_removal g rec there ready =
       let a : ℕ = m.settings.base + g * 4096 in
@@ -320,7 +320,7 @@ module _ (m : Machine) (proper : IsProper m) (rd : ℕ) (named : rd_named m rd �
       let owner : (granule_at m (number_of m a)).owner ≡ Some (number_of m rd) = ap (λ (h : ℕ). (granule_at m h).owner) (begin_number m g) ∙ ap (λ (r : RmmGranule). r.owner) there in
       (RecDestroy a, cond-true (is_rec_named m a) (granule_at m (number_of m a)).owner None tests ∙ owner, rec_step m a tests (ap (λ (r : RmmRec). is_running r.state) at ∙ ready))
 
-  -- a REC of the realm among the first granules, or none
+  -- some granule is a REC of the realm, or none of the first `count` granules is
   some_rec_or_none : (count : ℕ) → ((g : ℕ) × (is_rec_in (number_of m rd) (granule_at m g) ≡ true)) ⊎ ((g : ℕ) → g < count → is_rec_in (number_of m rd) (granule_at m g) ≡ false)
   some_rec_or_none zero = inr (λ g lt. absurd (omega arith))
   some_rec_or_none (suc count) =
@@ -371,7 +371,7 @@ module _ (m : Machine) (proper : IsProper m) (rd : ℕ) (named : rd_named m rd �
         (λ (dead : has_live_table m realm.first_table realm.table_count ≡ false). inr (RealmDestroy rd, refl, realm_step m rd proper named none dead))
         (cases_Bool (has_live_table m realm.first_table realm.table_count))
 
-    -- a realm none of whose RECs runs is never stuck
+    -- a realm none of whose RECs runs has a next step or a removal
     pub step_or_end : ((g : ℕ) (rec : RmmRec) → granule_at m g ≡ of_realm (number_of m rd) (IsRec rec) → is_running rec.state ≡ false) → HasNextStep m rd spare ⊎ HasRemoval m rd
     step_or_end ready =
         ⊎_elim

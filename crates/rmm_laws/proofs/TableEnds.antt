@@ -27,8 +27,8 @@ use Rattle.rmm_laws.proofs.Serving.{few_at}
 use Rattle.rmm_laws.proofs.Sides.{whole_index}
 use Rattle.rmm_laws.proofs.Walks.{by_entry, one_place, start_inside, uses-entry, entry_index-few}
 
--- The machines differ in one entry of a table of a realm, and in the table that it leads to. What is read is by the entry
--- at which a walk ends, and its level.
+-- The machines differ in one entry of a realm's table and in the table to which that entry leads. `F` gives the value
+-- that is read at an address, from the entry where its walk ends and that entry's level.
 module _ (m n : Machine) (proper : IsProper m) (settings : n.settings ≡ m.settings) (count : length n.granules ≡ length m.granules) (rd ipa level : ℕ) (realm : RmmRealm)
     (is : (granule_at m rd).state ≡ Rd realm) (within : ipa < 2 ^ realm.s2sz) (g : ℕ)
     (beside : (j : ℕ) → j < 512 → j ≢ entry_index (walk m realm ipa level).level ipa
@@ -51,19 +51,19 @@ module _ (m n : Machine) (proper : IsProper m) (settings : n.settings ≡ m.sett
   abbrev entry_here : RttWalk → RmmRttEntry
   entry_here p = entry_in_page (page_in n (walk m realm ipa level).table) (entry_index p.level x)
 
-  -- a place whose entry is another one of the table
+  -- an address at another index of the table has the same entry in both machines
   same_beside : (p : RttWalk) → p.table ≡ (walk m realm ipa level).table → entry_index p.level x ≢ entry_index (walk m realm ipa level).level ipa → entry_at n p x ≡ entry_at m p x
   unfolding entry_at
   same_beside p here other =
       subst (λ (t : ℕ). entry_in_page (page_in n t) (entry_index p.level x) ≡ entry_in_page (page_in m t) (entry_index p.level x)) (sym here) (beside (entry_index p.level x) (entry_index-few p.level x) other)
 
-  -- a place whose entry is the one that differs
+  -- an address at the index of `ipa` in the table has the entry that differs
   same_place : (k : Machine) (p : RttWalk) → p.table ≡ (walk m realm ipa level).table → entry_index p.level x ≡ entry_index (walk m realm ipa level).level ipa
       → entry_at k p x ≡ entry_in_page (page_in k (walk m realm ipa level).table) (entry_index (walk m realm ipa level).level ipa)
   unfolding entry_at
   same_place k p here same = ap (λ (t : ℕ). entry_in_page (page_in k t) (entry_index p.level x)) here ∙ ap (λ (j : ℕ). entry_in_page (page_in k found.table) j) same
 
-  -- the address is one of the entry
+  -- an address at the index of `ipa` in the table is covered by the entry that differs
   same_entry : (p : RttWalk) → Seat p → p.table ≡ (walk m realm ipa level).table → entry_index p.level x ≡ entry_index (walk m realm ipa level).level ipa
       → x / entry_size (walk m realm ipa level).level ≡ ipa / entry_size (walk m realm ipa level).level
   unfolding entry_at
@@ -141,14 +141,14 @@ module _ (m n : Machine) (proper : IsProper m) (settings : n.settings ≡ m.sett
     abbrev Met : RttWalk → Type 0
     Met p = IsMet m n proper.linked proper.ordered.halves rd x realm Other Q p
 
-    -- the table is used by the entry
+    -- the table `g` is used by the entry that differs
     user : uses m proper.linked.level (walk m realm ipa level).table (entry_index (walk m realm ipa level).level ipa) 0 ≡ Some (used Rtt (Some rd) ((walk m realm ipa level).level + 1) g)
     unfolding entry_at
     user =
         uses-entry m proper.linked rd ipa found at 0 there.is (entry_index-few found.level ipa)
         ∙ by_entry m proper.linked rd ipa (Some rd) found.level g (entry_in_page (page_in m found.table) at) leads
 
-    -- no other entry leads to it
+    -- no other entry on the walk of the address leads to the table `g`
     only_here : (p : RttWalk) → Seat p → table_below m (entry_at m p x) ≡ Some g → (p.table ≡ (walk m realm ipa level).table) × (entry_index p.level x ≡ entry_index (walk m realm ipa level).level ipa)
     unfolding entry_at
     only_here p seat to =

@@ -43,7 +43,7 @@ child_below m page e level j is leaf =
 
 -- ---- RMI_RTT_CREATE
 
--- a table reads as the entry in whose place it is, if the child that covers the address does
+-- After RMI_RTT_CREATE an address reads as before, if the child that covers it reads as the replaced entry did.
 module _ (rd rtt ipa level : ℕ) (m : Machine) (proper : IsProper m) (ok : Passed (rtt_create rd rtt ipa level m).checks) (count : length (rtt_create rd rtt ipa level m).machine.granules ≡ length m.granules)
     (x : ℕ) (A : Type 0) (F : RmmRttEntry → ℕ → A)
     (alike : F (entry_of (entry_word (child_entry (entry_at m (walk m (realm_at m rd) ipa (level - 1)) ipa) level (entry_index level x)))) level ≡ F (entry_at m (walk m (realm_at m rd) ipa (level - 1)) ipa) (level - 1)) where
@@ -92,7 +92,7 @@ module _ (rd rtt ipa level : ℕ) (m : Machine) (proper : IsProper m) (ok : Pass
 
 -- ---- RMI_RTT_FOLD, and RMI_RTT_DESTROY
 
--- an entry takes the place of the table that it led to
+-- An entry that is no TABLE takes the place of the table to which the old entry led.
 module _ (m n : Machine) (proper : IsProper m) (settings : n.settings ≡ m.settings) (count : length n.granules ≡ length m.granules) (rd ipa level g : ℕ)
     (is : (granule_at m (number_of m rd)).state ≡ Rd (realm_at m rd)) (within : ipa < 2 ^ (realm_at m rd).s2sz) (least : (realm_at m rd).start_level ≤ level)
     (named : table_below m (entry_at m (walk m (realm_at m rd) ipa level) ipa) ≡ Some g) (e : RmmRttEntry) (fits : descriptor_of e < 2 ^ 48) (leaf : is_table e ≡ false)
@@ -132,7 +132,8 @@ first_few : (page : List ℕ) → descriptor_of (entry_in_page page 0) < 2 ^ 48
 unfolding entry_in_page
 first_few page = descriptor-few (word_of_page page 0)
 
--- the first entry reads as the table in whose place it is, if the child that covers the address does
+-- After RMI_RTT_FOLD an address reads as before, if the child that covers it reads as the first entry does one level
+-- up.
 module _ (rd ipa level : ℕ) (m : Machine) (proper : IsProper m) (ok : Passed (rtt_fold rd ipa level m).checks) (count : length (rtt_fold rd ipa level m).machine.granules ≡ length m.granules)
     (x : ℕ) (A : Type 0) (F : RmmRttEntry → ℕ → A)
     (alike : F (entry_of (entry_word (child_entry (entry_in_page (page_in m (unwrap_or (table_below m (entry_at m (walk m (realm_at m rd) ipa (level - 1)) ipa)) 0)) 0) level (entry_index level x)))) level

@@ -75,7 +75,7 @@ by_table : (m : Machine) (owner : Option ℕ) (level k : ℕ) (entry : RmmRttEnt
 by_table m owner level k (Table address) g named rest = others_none m owner level address k rest
 by_table m owner level k _ g named rest = absurd (cc)
 
--- the table that an entry of a place leads to, and that is no more used
+-- The table to which the entry at a walk's place leads becomes unused.
 module _ (m : Machine) (proper : IsLinked m) (rd ipa : ℕ) (place : RttWalk) (end : IsPlace m proper rd ipa place) (g : ℕ) (named : table_below m (entry_at m place ipa) ≡ Some g) where
   gives : uses m proper.level place.table (entry_index place.level ipa) 0 ≡ Some (used Rtt (Some rd) (place.level + 1) g)
   unfolding entry_at

@@ -65,7 +65,7 @@ neither : (a b : Bool) → a ≡ false → b ≡ false → (a || b) ≡ false
 neither true b one two = one
 neither false b one two = two
 
--- the RD at an address
+-- An RD begins at the address `rd`.
 module _ (m : Machine) (rd : ℕ) (named : rd_named m rd ≡ Some (number_of m rd)) where
   named_tests : (is_aligned rd && is_inside m rd && is_some (realm_of (state_at m rd))) ≡ true
   named_tests =
@@ -211,7 +211,7 @@ granule_step m address aligned inside free =
     own_word (GranuleUndelegate address) m
     (no_more (address % 4096 == 0) (eq-eqb (address % 4096) 0 aligned), (no_more (is_inside m address) inside, (no_more (is_delegated (state_at m address)) (ap is_delegated free), tt)))
 
--- a granule that is UNDELEGATED again
+-- after an RMI_GRANULE_UNDELEGATE that succeeds, its granule is UNDELEGATED and zero
 pub undelegated : (m : Machine) (address : ℕ) → IsProper m → (performed (GranuleUndelegate address) m).0.word ≡ Success
     → (granule_at (performed (GranuleUndelegate address) m).1 (number_of m address) ≡ of_no_realm Undelegated) × (page_in (performed (GranuleUndelegate address) m).1 (number_of m address) ≡ zero_page)
 unfolding granule_undelegate
@@ -224,7 +224,7 @@ undelegated m address proper success =
     subst (λ (p : SmcResult × Machine). (granule_at p.1 g ≡ of_no_realm Undelegated) × (page_in p.1 g ≡ zero_page)) (sym now)
     (granule_at-same m g (of_no_realm Undelegated) inside, page_in-same (with_granule m g (of_no_realm Undelegated)) g zero_page (omega arith)))
 
--- a granule that is DELEGATED
+-- after an RMI_GRANULE_DELEGATE that succeeds, its granule is DELEGATED and zero
 pub delegated : (m : Machine) (address : ℕ) → IsProper m → (performed (GranuleDelegate address) m).0.word ≡ Success
     → (granule_at (performed (GranuleDelegate address) m).1 (number_of m address) ≡ of_no_realm Delegated) × (page_in (performed (GranuleDelegate address) m).1 (number_of m address) ≡ zero_page)
 unfolding granule_delegate
@@ -265,7 +265,7 @@ nothing_left m rd g proper success ours =
     (start_or_none realm g))
     ours))
 
--- what a realm has until then
+-- before an RMI_REALM_DESTROY that succeeds, the realm has no granules except its RD and its starting tables
 pub nothing_else : (m : Machine) (rd g : ℕ) → IsProper m → (performed (RealmDestroy rd) m).0.word ≡ Success → IsOfRealm m (Some (number_of m rd)) g
     → (g ≡ number_of m rd) ⊎ (((realm_at m rd).first_table ≤ g) × (g < (realm_at m rd).first_table + (realm_at m rd).table_count))
 unfolding realm_destroy is_realm_live

@@ -54,7 +54,8 @@ first_live-live page (suc count) i =
 
 -- ---- addresses in one table
 
--- the index of a later address that is before a live entry
+-- An address from `ipa` on and before the entry at index `live` is in the same table. Its index is at least that of
+-- `ipa`, and below `live`. The index 512 is the table's end.
 before_live : (l : ℕ) → l ≤ 3 → (ipa x live : ℕ) → ipa ≤ x → x < (ipa / entry_size l + (live - entry_index l ipa)) * entry_size l → live ≤ 512 → entry_index l ipa ≤ live
     → (entry_index l ipa ≤ entry_index l x) × (entry_index l x < live) × (x / entry_size l / 512 ≡ ipa / entry_size l / 512)
 unfolding entry_size entry_index
@@ -92,7 +93,7 @@ module _ (m : Machine) (ipa x : ℕ) where
   abbrev child : RttWalk → ℕ → RttWalk
   child place table = record { table = table; level = place.level + 1 }
 
-  -- walks go down
+  -- a walk from a place ends at that place's level or further down, if walks from the table below do
   down_at : (levels : ℕ) (place : RttWalk) (o : Option ℕ) → ((table : ℕ) → place.level + 1 ≤ (walk_from m ipa levels (child place table)).level)
       → place.level ≤ (option_map_or (λ (table : ℕ). walk_from m ipa levels (child place table)) o place).level
   down_at levels place (Some table) rest = let far = rest table in omega arith
@@ -103,7 +104,8 @@ module _ (m : Machine) (ipa x : ℕ) where
   down zero place = omega arith
   down (suc levels) place = down_at levels place (table_below m (entry_at m place ipa)) (λ table. down levels (child place table))
 
-  -- an address that is of the same entries above the end of a walk, and whose entry there leads to no table
+  -- an address follows the walk of `ipa`, if its indices above the end agree, its entry there leads to no table, and
+  -- the same holds from the table below
   follows_at : (levels more : ℕ) (place : RttWalk) (o : Option ℕ) → table_below m (entry_at m place ipa) ≡ o
       → ((p : ℕ) → p < (option_map_or (λ (table : ℕ). walk_from m ipa levels (child place table)) o place).level → entry_index p x ≡ entry_index p ipa)
       → table_below m (entry_at m (option_map_or (λ (table : ℕ). walk_from m ipa levels (child place table)) o place) x) ≡ None
@@ -158,7 +160,7 @@ module _ (m : Machine) (found : RttWalk) (ipa : ℕ) (few : found.level ≤ 3) w
       subst (λ (t : ℕ). t ≤ ipa) (sym (cond-true (live == i) _ _ (eq-eqb live i same)))
       (cond_both m.settings.aligns_live_top (ipa / entry_size found.level * entry_size found.level) ipa (λ (t : ℕ). t ≤ ipa) (λ sure. aligned_low) (λ never. omega arith))
 
-  -- an address before the top
+  -- the entry of an address from `ipa` on and before the top is in the same table, and is not live
   pub before_top : (x : ℕ) → ipa ≤ x → x < top m found ipa → (is_live (entry_at m found x) ≡ false) × (x / entry_size found.level / 512 ≡ ipa / entry_size found.level / 512)
   unfolding entry_at
   before_top x from to =
@@ -177,7 +179,8 @@ module _ (m : Machine) (linked : IsLinked m) (rd ipa level : ℕ) (realm : RmmRe
   few_here : found_here.level ≤ 3
   few_here = few_at m linked rd ipa realm found_here (walk_ends m linked rd ipa realm level is within least).place_is
 
-  -- the walk of an address that the same table serves, if its entry there leads to no table
+  -- if the table at the end of a walk serves an address, and its entry for the address leads to no table, the walk of
+  -- the address ends there too
   pub same_end : (x : ℕ) → x / entry_size (walk m realm ipa level).level / 512 ≡ ipa / entry_size (walk m realm ipa level).level / 512 → table_below m (entry_at m (walk m realm ipa level) x) ≡ None
       → walk m realm x 3 ≡ walk m realm ipa level
   unfolding walk start_of start_table_index entry_index
@@ -202,7 +205,7 @@ module _ (m : Machine) (linked : IsLinked m) (rd ipa level : ℕ) (realm : RmmRe
 
 -- ---- where tops are
 
--- the address that is that many entries further on in a table
+-- moving `ipa` on by the entries between its index and the live index gives an address with the live index
 further_index : (l : ℕ) → l ≤ 3 → (ipa live : ℕ) → entry_index l ipa ≤ live → live < 512 → entry_index l ((ipa / entry_size l + (live - entry_index l ipa)) * entry_size l) ≡ live
 unfolding entry_size entry_index
 further_index l few =
@@ -220,11 +223,11 @@ unfolding entry_size entry_index
 aligned_index l few =
     level_cases (λ (k : ℕ). (ipa : ℕ) → entry_index k (ipa / entry_size k * entry_size k) ≡ entry_index k ipa) (λ ipa. omega arith) (λ ipa. omega arith) (λ ipa. omega arith) (λ ipa. omega arith) l few
 
--- where an address of a level is, against the entry of another one: not before it, at the beginning of an entry, and
--- before the end of the table
+-- An entry begins at the address `to`, and it is not before the entry of `ipa`.
 abbrev IsFrom : ℕ → ℕ → ℕ → Type 0
 IsFrom l ipa to = (ipa / entry_size l ≤ to / entry_size l) × (to % entry_size l ≡ 0)
 
+-- The address `to` is before the end of the table that covers `ipa`.
 abbrev IsBefore : ℕ → ℕ → ℕ → Type 0
 IsBefore l ipa to = to < (ipa / entry_size l / 512 + 1) * (512 * entry_size l)
 
@@ -251,7 +254,7 @@ further_before l few =
     level_cases (λ (k : ℕ). (ipa live : ℕ) → live < 512 → IsBefore k ipa ((ipa / entry_size k + (live - entry_index k ipa)) * entry_size k))
     (λ ipa live below. omega arith) (λ ipa live below. omega arith) (λ ipa live below. omega arith) (λ ipa live below. omega arith) l few
 
--- an address of the entry of another one
+-- an address that is not after `ipa`, but in an entry that is not before that of `ipa`, has the same index as `ipa`
 same_index : (l : ℕ) → l ≤ 3 → (ipa to : ℕ) → to ≤ ipa → ipa / entry_size l ≤ to / entry_size l → entry_index l ipa ≡ entry_index l to
 unfolding entry_size entry_index
 same_index l few =
@@ -273,7 +276,7 @@ module _ (m : Machine) (found : RttWalk) (ipa : ℕ) (few : found.level ≤ 3) w
       (λ (end : next_live ≡ at + (512 - at)). inr (end ∙ omega arith))
       (first_live-live (page_in m found.table) (512 - at) at)
 
-  -- an address whose entry is live
+  -- an address at the index of the next live entry has a live entry
   live_there : (to : ℕ) → entry_index found.level to ≡ next_live → is_live (entry_in_page (page_in m found.table) next_live) ≡ true → is_live (entry_at m found to) ≡ true
   unfolding entry_at
   live_there to index is = ap (λ (k : ℕ). is_live (entry_in_page (page_in m found.table) k)) index ∙ is
@@ -314,7 +317,7 @@ module _ (m : Machine) (found : RttWalk) (ipa : ℕ) (few : found.level ≤ 3) w
       (cases_eq next_live 512)))
       (cases_eq next_live at)
 
--- the next top of an address whose entry is not live is after it
+-- if the entry of an address is not live, the top of the address is after it
 pub after_dead : (m : Machine) (found : RttWalk) (ipa to : ℕ) → found.level ≤ 3 → is_live (entry_at m found ipa) ≡ false → IsAtLive m found ipa to → ipa < to
 unfolding entry_at
 after_dead m found ipa to few dead met =

@@ -46,7 +46,7 @@ module _ (o : Machine) (rd r : ℕ) where
   Down m = (calls : List Call) × (after : Machine) × LeadsDown rd m calls after × ((g : ℕ) → IsOfRealm o (Some r) g → IsGivenBack after g)
       × ((g : ℕ) → (IsOfRealm m (Some r) g → ⊥) → (IsSpare m g → ⊥) → IsSameAt m after g) × (is_vmid_used after old_vmid ≡ false)
 
-  -- a call names the realm, or none
+  -- a call is on the realm of RD `r`, or on no realm
   abbrev IsOn : Machine → Call → Type 0
   IsOn m call = (g : ℕ) → IsOfRealm m (named_realm m call) g → IsOfRealm m (Some r) g
 
@@ -77,7 +77,7 @@ module _ (o : Machine) (rd r : ℕ) where
 
   -- ---- the granules are undelegated
 
-  -- the granules of the realm before one are UNDELEGATED, and the others are DELEGATED
+  -- the realm's granules below `p` are given back, and its granules from `p` on are DELEGATED; its VMID is free
   record IsFreeing (p : ℕ) (m : Machine) : Type 0 where
     proper : IsProper m
     count : length m.granules ≡ length o.granules
@@ -161,7 +161,7 @@ module _ (o : Machine) (rd r : ℕ) where
 
   -- ---- the realm is taken down
 
-  -- the realm is there still, and what it had is of it or DELEGATED
+  -- the realm still exists and none of its RECs runs; each granule that it had is its own or DELEGATED
   record IsGoingDown (m : Machine) : Type 0 where
     kin : IsKin o m
     number : number_of m rd ≡ r
@@ -193,7 +193,7 @@ module _ (o : Machine) (rd r : ℕ) where
             ∙ going.vmid;
       }
 
-  -- after RMI_REALM_DESTROY
+  -- the teardown can be completed if RMI_REALM_DESTROY succeeds
   last_call : (m : Machine) → IsGoingDown m → (performed (RealmDestroy rd) m).0.word ≡ Success → Down m
   last_call m going success =
       let n : Machine = (performed (RealmDestroy rd) m).1 in
@@ -213,7 +213,7 @@ module _ (o : Machine) (rd r : ℕ) where
         vmid = subst (λ (v : ℕ). is_vmid_used n v ≡ false) going.vmid then_is.2;
       }))
 
-  -- the rest of a teardown, from machines in which less is left
+  -- with a DELEGATED granule, the teardown can be completed if the realm weighs less than `w`
   abbrev Lighter : ℕ → Type 0
   Lighter w = (n : Machine) (spare : ℕ) → IsGoingDown n → (granule_at n spare).state ≡ Delegated → heavy r n < w → Down n
 
@@ -238,7 +238,7 @@ module _ (o : Machine) (rd r : ℕ) where
       freed_down w m (RttDestroy rd ipa level) (number_of m x1) (number_of m rd) rest going light (named_r m going) refl success going.number
       (of_back m (performed (RttDestroy rd ipa level) m).1 (number_of m rd) x1 Rtt refl (λ same. cc) back (table_kin m rd ipa level going.kin.0 success))
 
-  -- a block that is unfolded, and whose first page is destroyed
+  -- the teardown can be completed by unfolding a block and destroying its first page, which leaves a lighter realm
   block_down : (w : ℕ) (m : Machine) (rtt ipa level : ℕ) → Lighter w → IsGoingDown m → heavy r m < suc w → IsAssignedAt m rd ipa (level - 1) → (performed (RttCreate rd rtt ipa level) m).0.word ≡ Success → Down m
   block_down w m rtt ipa level rest going light block success =
       let n : Machine = (performed (RttCreate rd rtt ipa level) m).1 in
@@ -259,7 +259,8 @@ module _ (o : Machine) (rd r : ℕ) where
       one_call m (RttCreate rd rtt ipa level) going.kin.0 (by_named m (RttCreate rd rtt ipa level) (named_r m going)) (refl, block) success
       (one_call n (DataDestroy rd page.0) proper (by_named n (DataDestroy rd page.0) (named_r n next)) refl page.1 (rest k y (step_down n k y next freed.step) (ap (λ (c : RmmGranule). c.state) freed.free) (omega arith)))
 
-  -- the rest, from machines that are as light and have fewer mappings of the host's memory
+  -- with a DELEGATED granule, the teardown can be completed if the realm weighs at most `w` and there are fewer than
+  -- `ns` mappings of host memory
   abbrev Fewer : ℕ → ℕ → Type 0
   Fewer w ns = (n : Machine) (spare : ℕ) → IsGoingDown n → (granule_at n spare).state ≡ Delegated → heavy r n < suc w → mapped n < ns → Down n
 

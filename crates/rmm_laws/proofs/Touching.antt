@@ -44,7 +44,7 @@ same_mine false o m named h same (inr free) = inr (sym (ap (λ (r : RmmGranule).
 pub untouched : (host : Bool) (m : Machine) (named : Option ℕ) → Touches host m m named
 untouched host m named = record { settings = refl; count = refl; each = λ g. inl (refl, refl) }
 
--- a machine that is as another one at each granule but one
+-- a change of one granule that the call may touch keeps `Touches`
 touched : (host : Bool) (m k n : Machine) (named : Option ℕ) (x : ℕ) → n.settings ≡ k.settings → length n.granules ≡ length k.granules → Touches host m k named → IsMine host m named x → ((g : ℕ) → g ≢ x → IsSameAt k n g)
     → Touches host m n named
 touched host m k n named x settings count before mine same = record {
@@ -69,7 +69,8 @@ touch_page host m k named x page before mine = touched host m k (with_page k x p
 pub touch_blank : (host : Bool) (m k : Machine) (named : Option ℕ) (x : ℕ) (state : RmmGranuleState) → Touches host m k named → IsMine host m named x → Touches host m (with_blank k x state) named
 touch_blank host m k named x state before mine = touch_page host m (with_granule k x (of_no_realm state)) named x _ (touch_granule host m k named x (of_no_realm state) before mine) mine
 
--- what is of the realm after writes that touched the realm alone was so before
+-- after writes that touch only what a call may touch, a granule that the call may touch is one that it could touch
+-- before
 pub mine_before : (host : Bool) (o m : Machine) (named : Option ℕ) (h : ℕ) → Touches host o m named → IsMine host m named h → IsMine host o named h
 mine_before host o m named h touches mine =
     ⊎_elim

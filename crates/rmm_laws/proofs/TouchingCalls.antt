@@ -41,11 +41,11 @@ use Rattle.rmm_laws.proofs.Realms.{all_delegated, start_is, or_none}
 use Rattle.rmm_laws.proofs.Touching.{Touches, IsMine, untouched, touch_granule, touch_page, touch_blank}
 use Rattle.rmm_laws.proofs.Walks.{IsPlace, next, right, uses-entry, entry_index-few}
 
--- the granule at an address, as the RD of a realm
+-- the RD that a call names by an address: the number of the granule there
 abbrev By : Machine → ℕ → Option ℕ
 By m rd = Some (number_of m rd)
 
--- a call on the RD at an address
+-- `Touches` for the RD at an address gives `Touches` for the realm that a call names by this address
 pub by_rd : (m n : Machine) (rd : ℕ) → not (is_aligned rd) ≡ false → not (is_inside m rd) ≡ false → is_none (realm_of (state_at m rd)) ≡ false → Touches false m n (By m rd) → Touches false m n (rd_named m rd)
 by_rd m n rd aligned inside is touches = subst (λ (o : Option ℕ). Touches false m n o) (sym (rd_named-is m rd aligned inside is)) touches
 
@@ -116,17 +116,17 @@ realm_destroy_touches rd m proper ok =
 -- ---- tables
 
 module _ (m : Machine) (proper : IsLinked m) (rd ipa level : ℕ) (is : (granule_at m (number_of m rd)).state ≡ Rd (realm_at m rd)) (within : ipa < 2 ^ (realm_at m rd).s2sz) (least : (realm_at m rd).start_level ≤ level) where
-  -- the table at which a walk ends
+  -- a call may touch the table at which a walk ends, since it belongs to the realm
   own_place : IsMine false m (By m rd) (walk m (realm_at m rd) ipa level).table
   own_place = own m rd (walk m (realm_at m rd) ipa level).table (ap (λ (r : RmmGranule). r.owner) (place_is m proper (number_of m rd) ipa level (realm_at m rd) is within least).table)
 
-  -- the table that its entry leads to
+  -- a call may touch the table to which the last entry of a walk leads, since it belongs to the realm
   own_below : (g : ℕ) → table_below m (entry_at m (walk m (realm_at m rd) ipa level) ipa) ≡ Some g → IsMine false m (By m rd) g
   own_below g named =
       own m rd g (ap (λ (r : RmmGranule). r.owner)
       (next m proper (number_of m rd) ipa (walk m (realm_at m rd) ipa level) g (place_is m proper (number_of m rd) ipa level (realm_at m rd) is within least) named).table)
 
-  -- the page that its entry leads to
+  -- a call may touch the page to which the last entry of a walk leads, since it belongs to the realm
   own_memory : (g : ℕ) → level ≡ 3 → (walk m (realm_at m rd) ipa level).level ≡ 3 → memory_below m (entry_at m (walk m (realm_at m rd) ipa level) ipa) ≡ Some g → IsMine false m (By m rd) g
   unfolding entry_at
   own_memory g three reaches named =

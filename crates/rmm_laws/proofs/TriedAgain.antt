@@ -35,7 +35,7 @@ unanswered m g page flags UnprotectedAbort none = cond-false (injects_sea flags)
 unanswered m g page flags EmulatableAbort none = cond-false (injects_sea flags) _ _ none.0 ∙ cond-false (emulates_mmio flags) _ _ none.1
 unanswered m g page flags Other none = no_psci m g (rec_in m g).psci none
 
--- a REC whose page has the words that it had
+-- a granule has the same attributes in both machines, and words 0 to 191 of its page are the same
 abbrev IsLike : Machine → Machine → ℕ → Type 0
 IsLike m n g = (granule_at n g ≡ granule_at m g) × ((i : ℕ) → i < 192 → word_of_page (page_in n g) i ≡ word_of_page (page_in m g) i)
 

@@ -266,7 +266,7 @@ module _ (m : Machine) (rd ipa level : ℕ) (proper : IsProper m) (ok : Passed (
       let w = taken_inside m end_at.table (λ none. cc) in
       omega arith
 
-  -- pages beside the table
+  -- once the new table is filled, each other page is as RMI_RTT_FOLD left it when it wrote the entry
   page_marked : (h : ℕ) → h ≢ g → page_in marked h ≡ page_in (with_entry m end_at ipa first) h
   page_marked h other = page_in-other (with_granule f g (of_realm rd_at Rtt)) g h (children_page first level) other ∙ f_page h other
 

@@ -61,7 +61,7 @@ module _ (m : Machine) (proper : IsLinked m) (rd rtt ipa level : ℕ) (place : R
   table_is : (granule_at m t).state ≡ Rtt
   table_is = ap (λ (r : RmmGranule). r.state) end.table
 
-  -- the block
+  -- the memory of the block begins where a granule begins
   begin : IsBegin m a
   unfolding entry_at
   begin = subst (LeadsInside m) is (proper.inside t i table_is index)
@@ -76,7 +76,7 @@ module _ (m : Machine) (proper : IsLinked m) (rd rtt ipa level : ℕ) (place : R
       let it : (granule_at m (number_of m a + k)).state ≡ Data = sym (ap (λ (u : Used). u.attributes.state) (right m proper t i k (used Data (Some rd) 0 (number_of m a + k)) gives)) in
       taken_inside m (number_of m a + k) (λ none. cc)
 
-  -- the entries of the new table
+  -- the memory of each entry of the new table begins where a granule begins
   child_at : (j : ℕ) → j < 512 → IsBegin m (a + j * entry_size (place.level + 1))
   child_at j lt =
       let s = sizes place.level few in
@@ -122,7 +122,7 @@ module _ (m : Machine) (proper : IsLinked m) (rd rtt ipa level : ℕ) (place : R
   state_new : (granule_at n t).state ≡ Rtt
   state_new = ap (λ (r : RmmGranule). r.state) (granule_beside m proper rd ipa place end g in_machine free Rtt content page_long (Table rtt) tt fits t apart) ∙ table_is
 
-  -- what the table uses now
+  -- in the new machine, the table at the walk's place uses at each index what its entry there uses
   table_uses : (j k : ℕ) → j < 512 → G t j k ≡ entry_uses m (Some rd) place.level (entry_in_page (page_in n t) j) k
   table_uses j k lt =
       uses-table_in n after t j k state_new lt
@@ -167,7 +167,7 @@ module _ (m : Machine) (proper : IsLinked m) (rd rtt ipa level : ℕ) (place : R
       (level_beside m proper rd ipa place end g in_machine free Rtt content page_long (Table rtt) tt fits x other))
       (cases_eq x t)
 
-  -- the cut uses of the table g
+  -- leaving out the uses by entry `i` of table `t` does not change the uses of the new table `g`
   cut_part : (j k : ℕ) → cut G t i g j k ≡ G g j k
   cut_part j k = cut_beside G t i g j k (inl (λ same. apart (sym same)))
 

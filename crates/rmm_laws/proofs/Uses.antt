@@ -6,7 +6,7 @@ use Rattle.rmm_laws.specs.Role.{Used, has_user, IsUsed, HasNoUser, HasOneRole}
 abbrev pub has_user_at : Used → Bool
 has_user_at u = has_user u.attributes.state
 
--- a granule is as it was, or it is not used by others before and after
+-- a granule is the same before and after, or its state is not one that others use, before and after
 abbrev pub IsAlike : Used → Used → Type 0
 IsAlike u v = (v ≡ u) ⊎ ((has_user_at u ≡ false) × (has_user_at v ≡ false))
 
@@ -70,12 +70,12 @@ module _ (F G : ℕ → ℕ → ℕ → Option Used) (S T : ℕ → Used) (more 
       (λ (other : x ≢ more.user). inr (inl other))
       (cases_eq x more.user)
 
-  -- no place is new and old
+  -- a new place is not an old place
   not_both : (i k : ℕ) → more.is_new i k ≡ true → IsOldPlace more.user i k → ⊥
   not_both i k sure (inl other) = other refl
   not_both i k sure (inr never) = both_ways (more.is_new i k) never sure
 
-  -- what is used at a new place
+  -- a use at a new place is the use of the new granule for this place
   at_new : (x i k : ℕ) (u : Used) → IsNewPlace x i k → G x i k ≡ Some u → u ≡ T (more.new i k)
   at_new x i k u (here, sure) gives =
       let there : G x i k ≡ Some (T (more.new i k)) = ap (λ (y : ℕ). G y i k) here ∙ more.after i k sure in
@@ -90,7 +90,7 @@ module _ (F G : ℕ → ℕ → ℕ → Option Used) (S T : ℕ → Used) (more 
       (λ (old : IsOldPlace x i k). old)
       (place_cases x i k)
 
-  -- what is used at a new place is a new granule
+  -- the granule that is used at a new place has the number of the new granule for this place
   number_new : (x i k : ℕ) (u : Used) → IsNewPlace x i k → G x i k ≡ Some u → u.number ≡ more.new i k
   number_new x i k u new gives = ap (λ (v : Used). v.number) (at_new x i k u new gives) ∙ more.number_after (more.new i k)
 

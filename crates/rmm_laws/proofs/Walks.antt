@@ -40,7 +40,7 @@ module _ (m : Machine) (proper : IsLinked m) where
   abbrev level_of : ℕ → ℕ
   level_of = proper.level
 
-  -- what a granule uses is as it is used
+  -- a granule that is used has the attributes and the level with which it is used
   pub right : (x i k : ℕ) (u : Used) → uses m level_of x i k ≡ Some u → u ≡ used_at m level_of u.number
   right x i k u gives =
       ⊎_elim
@@ -64,7 +64,7 @@ module _ (m : Machine) (proper : IsLinked m) where
       (λ (r : HasNoUser (uses m level_of) (used_at m level_of) v.number). absurd (r.none y j l v two refl))
       (proper.roles v.number)
 
-  -- a table that is used, and its level
+  -- a table that is used has the owner and the level with which it is used
   pub table_right : (owner : Option ℕ) (level g : ℕ) → used Rtt owner level g ≡ used_at m level_of g → (granule_at m g ≡ record { state = Rtt; owner = owner }) × (level_of g ≡ level)
   table_right owner level g same =
       let attributes : granule_at m g ≡ record { state = Rtt; owner = owner } = sym (ap (λ (u : Used). u.attributes) same) in
@@ -74,7 +74,7 @@ module _ (m : Machine) (proper : IsLinked m) where
     abbrev at : ℕ → ℕ → RttWalk
     at table level = record { table = table; level = level }
 
-    -- a place of a walk: a table of the realm, of its level
+    -- a place of a walk: a table of the realm, with the level of that table
     pub record IsPlace (place : RttWalk) : Type 0 where
       pub table : IsTableOf m rd place.table
       pub level : level_of place.table ≡ place.level
@@ -83,7 +83,7 @@ module _ (m : Machine) (proper : IsLinked m) where
     by_entry owner level child (Table address) is = ap (option_map (used Rtt owner (level + 1))) is
     by_entry owner level child _ is = absurd (cc)
 
-    -- what an entry of a table uses
+    -- the table at a walk's place uses at each index what its entry there uses, for the realm and the place's level
     pub uses-entry : (place : RttWalk) (i k : ℕ) → IsPlace place → i < 512 → uses m level_of place.table i k ≡ entry_uses m (Some rd) place.level (entry_in_page (page_in m place.table) i) k
     unfolding uses
     uses-entry place i k is lt =
@@ -99,7 +99,7 @@ module _ (m : Machine) (proper : IsLinked m) where
         let there = table_right (Some rd) (place.level + 1) child (right place.table i 0 (used Rtt (Some rd) (place.level + 1) child) gives) in
         record { table = there.0; level = there.1 }
 
-    -- the starting table of an address
+    -- the starting table of an address is a place of the walk
     pub start_is : (realm : RmmRealm) → (granule_at m rd).state ≡ Rd realm → ipa < 2 ^ realm.s2sz → IsPlace (start_of realm ipa)
     unfolding uses start_of
     start_is realm is within =
@@ -112,7 +112,7 @@ module _ (m : Machine) (proper : IsLinked m) where
         let there = table_right (Some rd) realm.start_level (realm.first_table + i) (right rd i 0 (used Rtt (Some rd) realm.start_level (realm.first_table + i)) gives) in
         record { table = there.0; level = there.1 }
 
-    -- a walk that ends at a place
+    -- a place at which a walk to level `to` ends: at that level, or above it at an entry that leads to no table
     pub record IsEnd (to : ℕ) (place : RttWalk) : Type 0 where
       pub place_is : IsPlace place
       pub above : place.level ≤ to

@@ -73,7 +73,7 @@ total_most f h (suc k) each =
     let last = each k (omega arith) in
     omega arith
 
--- sums of two functions of which one is greater at one place at most
+-- if `f` is at most `h` everywhere but at `x`, the sum of `f` plus `h x` is at most the sum of `h` plus `f x`
 total_but : (f h : ℕ → ℕ) (x k : ℕ) → x < k → ((g : ℕ) → g < k → g ≢ x → f g ≤ h g) → total f k + h x ≤ total h k + f x
 unfolding total
 total_but f h x zero within each = absurd (omega arith)
@@ -126,11 +126,12 @@ mapped m = total (λ g. total (ns_at (page_in m g)) 512) (length m.granules)
 
 -- ---- steps
 
--- A granule becomes DELEGATED, or is the RD still, of a realm that has kept what it had, or stays as it was.
+-- A granule stays as it was, or it was no RD and becomes DELEGATED, or it is the RD of realm `r` and keeps its fixed
+-- attributes.
 abbrev pub IsLess : ℕ → ℕ → RmmGranule → RmmGranule → Type 0
 IsLess r g a b = (b ≡ a) ⊎ (((is_rd a.state ≡ false) × (b ≡ of_no_realm Delegated)) ⊎ ((g ≡ r) × (is_rd b.state ≡ true) × (b.owner ≡ None) × (fixed_of b.state ≡ fixed_of a.state)))
 
--- Or one granule becomes a table of the realm.
+-- A granule changes as `IsLess` says, or it is the DELEGATED granule `x` and becomes a table of the realm.
 abbrev pub IsNext : ℕ → ℕ → ℕ → RmmGranule → RmmGranule → Type 0
 IsNext r x g a b = IsLess r g a b ⊎ ((g ≡ x) × (a.state ≡ Delegated) × (b ≡ of_realm r Rtt))
 
@@ -200,7 +201,7 @@ back_step m n r address s plain back kin = record {
       (cases_eq g (number_of m address));
 }
 
--- a machine after a granule of the realm has come back
+-- a step of a teardown after which granule `x` of the realm is DELEGATED
 pub record IsFreed (m n : Machine) (r x : ℕ) : Type 0 where
   pub step : IsStep m n r x
   pub inside : x < length m.granules
@@ -237,7 +238,7 @@ as_next r x g a b owner of_r (inl same) = inl (inl same)
 as_next r x g a b owner of_r (inr (inl freed)) = inl (inr (inl freed))
 as_next r x g a b owner of_r (inr (inr rd)) = inl (inr (inr (some_same (sym rd.0 ∙ of_r), rd.1, rd.2, rd.3)))
 
--- a REC that is destroyed
+-- an RMI_REC_DESTROY that succeeds makes the granule of the REC DELEGATED, as `IsFreed` says
 pub rec_freed : (m : Machine) (rd rec : ℕ) → IsProper m → realm_of_rec m rec ≡ Some (number_of m rd) → (performed (RecDestroy rec) m).0.word ≡ Success
     → IsFreed m (performed (RecDestroy rec) m).1 (number_of m rd) (number_of m rec)
 unfolding rec_destroy
@@ -341,7 +342,7 @@ unmap_then m rd ipa level proper success =
 
 -- ---- a block that is unfolded
 
--- a block that is unfolded is of level 2: a machine has no memory for one above
+-- a block that is unfolded is at level 2, since a machine has too few granules for a larger block
 unfolded_deep : (m : Machine) (proper : IsProper m) (rd rtt ipa level : ℕ) (place : RttWalk) (end : IsPlace m proper.linked rd ipa place) → place.level + 1 ≡ level → level ≤ 3 → is_inside m rtt ≡ true → rtt % 4096 ≡ 0
     → (granule_at m (number_of m rtt)).state ≡ Delegated → (ripas : RmmRipas) (a : ℕ) → entry_at m place ipa ≡ Assigned ripas a → level ≡ 3
 unfolded_deep m proper rd rtt ipa level place end one_below most inside aligned free ripas a at =
@@ -358,7 +359,7 @@ unfolded_deep m proper rd rtt ipa level place end one_below most inside aligned 
     (λ (low : 2 ≤ place.level). omega arith)
     (cases_lt place.level 2)
 
--- the spare granule is a table whose entries are the pages of a block
+-- a step of a teardown after which the spare granule is a table whose entries map the pages of a block
 pub record HasUnfolded (m n : Machine) (r x : ℕ) : Type 0 where
   pub step : IsStep m n r x
   pub inside : x < length m.granules
@@ -448,7 +449,7 @@ unfolded_level n proper r x first ripas table pages =
 
 -- ---- granules that are undelegated
 
--- one granule is UNDELEGATED and zero, and others are as they were
+-- a proper machine with the same settings and VMIDs, in which all granules but `x` are as they were
 pub record IsUndelegated (m n : Machine) (x : ℕ) : Type 0 where
   pub kin : IsKin m n
   pub vmids : n.vmids ≡ m.vmids
@@ -472,7 +473,7 @@ IsGivenBack m g = (granule_at m g ≡ of_no_realm Undelegated) × (page_in m g �
 
 -- ---- the end of a realm
 
--- a VMID that is freed
+-- a VMID that is marked as free is free
 vmid_free : (vmids : List Bool) (vmid : ℕ) → get_or (set vmids vmid false) vmid false ≡ false
 vmid_free vmids vmid =
     ⊎_elim
@@ -480,7 +481,8 @@ vmid_free vmids vmid =
     (λ (past : length vmids ≤ vmid). get_or_past (set vmids vmid false) vmid false (subst (λ (c : ℕ). c ≤ vmid) (sym (length-set vmids vmid false)) past))
     (cases_lt vmid (length vmids))
 
--- no granule is of the realm after RMI_REALM_DESTROY, and DELEGATED ones are so still; its VMID is free
+-- after an RMI_REALM_DESTROY that succeeds, the machine is proper, DELEGATED granules are so still, and the realm's
+-- VMID is free
 pub realm_then : (m : Machine) (rd : ℕ) → IsProper m → (performed (RealmDestroy rd) m).0.word ≡ Success
     → IsKin m (performed (RealmDestroy rd) m).1 × ((g : ℕ) → (granule_at m g).state ≡ Delegated → (granule_at (performed (RealmDestroy rd) m).1 g).state ≡ Delegated)
     × (is_vmid_used (performed (RealmDestroy rd) m).1 (realm_at m rd).vmid ≡ false)

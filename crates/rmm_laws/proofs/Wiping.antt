@@ -42,7 +42,7 @@ is_or_not None h = inr (λ is. cc)
 
 -- ---- numbers that are among the first of a list
 
--- whether one of the first names is that of a granule
+-- one of the first `count` names is that of granule `h`, or none is
 pub first_named : (named : ℕ → Option ℕ) (h count : ℕ) → ((i : ℕ) × (i < count) × (named i ≡ Some h)) ⊎ ((i : ℕ) → i < count → named i ≢ Some h)
 first_named named h zero = inr (λ i lt is. omega arith)
 first_named named h (suc count) =
@@ -63,7 +63,7 @@ module _ (m : Machine) (g : ℕ) (kept : RmmGranule) (served : (n : ℕ) → IfS
   abbrev named : ℕ → Option ℕ
   named k = granule_named m (aux_of (page_in m g) k)
 
-  -- a machine in which the first of these are wiped
+  -- the granules that the first `k` words name are zero and have the attributes `kept`, and all others are as they were
   pub record IsWiped (k : ℕ) (n : Machine) : Type 0 where
     pub settings : n.settings ≡ m.settings
     pub count : length n.granules ≡ length m.granules
@@ -117,7 +117,7 @@ module _ (m : Machine) (g : ℕ) (kept : RmmGranule) (served : (n : ℕ) → IfS
         (cases_eq i k);
   }
 
-  -- the granule that a word names after earlier ones are wiped
+  -- once the granules of earlier words are wiped, word `k` still names the same granule
   name_still : (k : ℕ) → IsSound m → ((i : ℕ) → i < k → named i ≢ Some g) → IsWiped k (with_aux m g kept k) → aux_granule (with_aux m g kept k) g k ≡ named k
   name_still k sound apart before =
       let n : Machine = with_aux m g kept k in
@@ -133,7 +133,7 @@ module _ (m : Machine) (g : ℕ) (kept : RmmGranule) (served : (n : ℕ) → IfS
       let same = name_still k sound (λ i lt. apart i (omega arith)) before in
       subst (λ (o : Option ℕ). IsWiped (suc k) (with_wiped_if n o kept)) (sym same) (wiped_more k n (named k) refl before)
 
-  -- no REC is counted or lost
+  -- Wiping granules that are neither RDs nor RECs, before and after, does not change the number of a realm's RECs.
   module _ (plain : is_counter kept.state ≡ false) (sound : IsSound m) (rd : ℕ) where
     total_more : (k : ℕ) (o : Option ℕ) → named k ≡ o → ((i h : ℕ) → i < suc k → named i ≡ Some h → is_counter (granule_at m h).state ≡ false) → IsWiped k (with_aux m g kept k)
         → count_by (is_rec_in rd) (with_wiped_if (with_aux m g kept k) o kept).granules ≡ count_by (is_rec_in rd) (with_aux m g kept k).granules
@@ -162,7 +162,7 @@ module _ (m : Machine) (g : ℕ) (kept : RmmGranule) (served : (n : ℕ) → IfS
         subst (λ (o : Option ℕ). count_by (is_rec_in rd) (with_wiped_if n o kept).granules ≡ count_by (is_rec_in rd) n.granules) (sym same) (total_more k (named k) refl old before)
         ∙ all_total k (λ i lt. apart i (omega arith)) (λ i h lt. old i h (omega arith))
 
--- granules of the realm, or of none, that are wiped
+-- wiping granules that the call may touch keeps `Touches`
 pub touch_wiped : (host : Bool) (o m : Machine) (named_realm : Option ℕ) (g : ℕ) (kept : RmmGranule) (served : (n : ℕ) → IfSome (realm_of kept.state) (IsServed n)) (k : ℕ) (n : Machine) → Touches host o m named_realm → IsWiped m g kept served k n
     → ((i h : ℕ) → i < k → granule_named m (aux_of (page_in m g) i) ≡ Some h → IsMine host o named_realm h) → Touches host o n named_realm
 touch_wiped host o m named_realm g kept served k n before wiped mine = record {

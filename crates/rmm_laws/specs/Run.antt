@@ -11,15 +11,16 @@ use Rattle.rmm_model.specs.declared.step.StepOutcome.TheVariants.{Result as IsRe
 use Rattle.rmm_model.specs.Machine.{Machine}
 use Rattle.rmm_model.specs.Command.RecEnter.{after_exit, first_step_outcome, after_first_step}
 
--- After a step, a REC's run goes on, or ends with this word and machine, according to the outcome of the step. A result
--- leads on, an exit ends the run with RMI_SUCCESS, and spinning ends it with the word for a REC that is still running.
+-- After a step, a REC's run goes on, or ends with this word and machine, according to the outcome of the step. After a
+-- result it goes on, an exit ends it with RMI_SUCCESS, and spinning ends it with the word for a REC that is still
+-- running.
 abbrev pub GoesOn : StepOutcome → Machine → ℕ → Word → Machine → Type 0 → Type 0
 GoesOn (IsResult r) m g word n rest = rest
 GoesOn (IsExit exit last) m g word n rest = (word ≡ Success) × (n ≡ after_exit m g exit last)
 GoesOn Spins m g word n rest = (word ≡ Running) × (n ≡ m)
 
 -- A REC's run of at most a given number of steps ends with the given result word and machine. If no step ends the run,
--- the REC exits as by a timer of the host's.
+-- the REC exits by an IRQ, as if by a timer of the host.
 unfoldable pub HasRun : Machine → ℕ → ℕ → ℕ → Word → Machine → Type 0
 HasRun m g flags zero word n = (word ≡ Success) × (n ≡ after_exit m g (only_reason Irq) Other)
 HasRun m g flags (suc count) word n =

@@ -26,7 +26,7 @@ Serves m realm (suc levels) table first = (above : ℕ) × (from : ℕ) × (i : 
     × (first ≡ from + i * entry_size (realm.start_level + levels))
 
 -- The walk of an IPA towards level `to` ends at a table of the realm that serves the IPA. The walk's level is that of
--- the table, and at most `to`. It is `to`, unless the entry there is no TABLE.
+-- the table, and at most `to`. It is `to`, or the IPA's entry in that table is not TABLE.
 pub record EndsWell (m : Machine) (level : ℕ → ℕ) (rd : ℕ) (realm : RmmRealm) (ipa to : ℕ) (found : RttWalk) : Type 0 where
   pub table : IsTableOf m rd found.table
   pub is_level : level found.table ≡ found.level
@@ -48,7 +48,7 @@ abbrev pub end_of : RttWalk → ℕ → ℕ
 end_of found ipa = (ipa / entry_size found.level / 512 + 1) * (512 * entry_size found.level)
 
 -- A top is at a live entry of the table where a walk ended, or at that table's end. It is not at an entry before that
--- of the walked IPA. It is that IPA, or an entry begins there.
+-- of the walked IPA. It is the walked IPA itself, or the first address of an entry.
 pub record IsAtLive (m : Machine) (found : RttWalk) (ipa to : ℕ) : Type 0 where
   pub is : ((is_live (entry_at m found to) ≡ true) × (to < end_of found ipa)) ⊎ (to ≡ end_of found ipa)
   pub low : ipa / entry_size found.level ≤ to / entry_size found.level

@@ -64,10 +64,12 @@ ghost use Rattle.rmm_laws.specs.State.{IsRealmIn, IsRealmMadeOf, KeepsStates, Ke
 ghost use Rattle.rmm_laws.specs.Step.{HasNextStep, HasRemoval, CanBeTornDown};
 ghost use Rattle.rmm_laws.specs.Walk.{IsTableOf, Serves, EndsWell, IsPassed, IsAtLive, IsNextTop, LeadsToTable, walked_to};
 
-/// A refused call to the RMM changes nothing. Neither does a refused store or fill by the host. Nor do steps that no
-/// REC takes, and accesses of guests that are not done. An interrupt that is answered `None`, as of each REC that does
-/// not run, changes nothing. Only a call that enters a REC is answered with the word of a REC that runs on. That REC is
-/// RUNNING then, and was not before. A REC that is entered with RMI_SUCCESS does not run after the call.
+/// A refused call to the RMM changes nothing. Neither does a store or fill by the host that faults, nor a step that is
+/// not queued for a REC. A guest's access changes nothing unless its outcome is `Done`. An interrupt changes nothing if
+/// it is answered `None`. That is the answer if no REC runs at its address.
+///
+/// Only a call that enters a REC is answered with the word of a REC that runs on. That REC is RUNNING then, and was not
+/// before. A REC that is entered with RMI_SUCCESS does not run after the call.
 pub fn refusals_change_nothing()
     ensures calls { (r : Registers) (m : Machine) → IsRefused (rmi r m).0.x0 → (rmi r m).1 ≡ m }
     ensures running { (r : Registers) (m : Machine) → (rmi r m).0.x0 ≡ 2 ^ 64 - 2 → IsRecEnter m (rmi r m).1 (call_in r) }
@@ -160,8 +162,8 @@ pub fn granules_come_back()
 {}
 
 /// No live entry is between an address and the `top` of the walk of that address. The top is at the next live entry of
-/// the table, or at the table's end. RTT_DESTROY, DATA_DESTROY and RTT_UNMAP_UNPROTECTED return such a top of the
-/// machine after them, and it is after the address.
+/// the table, or at the table's end. RTT_DESTROY, DATA_DESTROY and RTT_UNMAP_UNPROTECTED return such a top for the
+/// machine after the call. It is above the address.
 pub fn tops_are_complete()
     ensures skipped { (m : Machine) (rd ipa level x : ℕ) (realm : RmmRealm) → IsProper m → (granule_at m rd).state ≡ Rd realm → ipa < 2 ^ realm.s2sz → realm.start_level ≤ level → level ≤ 3
         → ipa ≤ x → x < top m (walk m realm ipa level) ipa → IsPassed m realm (walk m realm ipa level) x }
@@ -175,13 +177,16 @@ pub fn tops_are_complete()
         → IsNextTop n (realm_at m rd) (walk n (realm_at m rd) ipa level) ipa answer.x1 }
 {}
 
-/// RMI commands of a realm's teardown succeed if their preconditions hold. RMI_REC_DESTROY succeeds for a REC that
-/// does not run, and RMI_DATA_DESTROY for a page. So do RMI_RTT_UNMAP_UNPROTECTED of a mapping, and RMI_RTT_DESTROY of
-/// a table without live entries. RMI_REALM_DESTROY succeeds for a realm without RECs and live entries, and
-/// RMI_GRANULE_UNDELEGATE for a DELEGATED granule, which is UNDELEGATED and zero then. After RMI_GRANULE_DELEGATE a
-/// granule is DELEGATED and zero. If a granule is DELEGATED, a step of a teardown succeeds while an entry of a realm is
-/// live. If no REC of it runs either, one succeeds until the realm is destroyed. What a realm had until its
-/// RMI_REALM_DESTROY is its RD and its starting tables, which are DELEGATED and zero.
+/// RMI commands of a realm's teardown succeed if their preconditions hold. RMI_REC_DESTROY succeeds for a REC that does
+/// not run, and RMI_DATA_DESTROY for a page. So do RMI_RTT_UNMAP_UNPROTECTED of a mapping, and RMI_RTT_DESTROY of a
+/// table without live entries. RMI_REALM_DESTROY succeeds for a realm without RECs and live entries.
+///
+/// RMI_GRANULE_UNDELEGATE succeeds for a DELEGATED granule, which is UNDELEGATED and zero then. After
+/// RMI_GRANULE_DELEGATE a granule is DELEGATED and zero.
+///
+/// If some granule is DELEGATED, a step of a realm's teardown succeeds while an entry of the realm is live. If, in
+/// addition, no REC of the realm runs, a step succeeds until the realm is destroyed. RMI_REALM_DESTROY finds only the
+/// RD and the starting tables left of the realm, and makes them DELEGATED and zero.
 pub fn teardown_steps_succeed()
     ensures recs { (m : Machine) (rec : ℕ) → is_rec_named m rec ≡ true → is_running (rec_at m rec).state ≡ false → (performed (RecDestroy rec) m).0.word ≡ Success }
     ensures pages { (m : Machine) (rd ipa address : ℕ) (ripas : RmmRipas) → IsProper m → rd_named m rd ≡ Some (number_of m rd) → ipa % 4096 ≡ 0 → is_protected (realm_at m rd) ipa ≡ true
@@ -219,11 +224,12 @@ pub fn realms_can_be_torn_down()
         → ((granule : ℕ) (rec : RmmRec) → granule_at m granule ≡ of_realm (number_of m rd) (Rec rec) → is_running rec.state ≡ false) → CanBeTornDown m rd }
 {}
 
-/// A realm is activated at most once. It is NEW when it is created, and RMI_REALM_ACTIVATE makes it ACTIVE if it is
-/// NEW. An RMI_REC_ENTER of a REC of it can make it SYSTEM_OFF if it is ACTIVE. Nothing else changes its state: no
-/// other call, no step that a guest is given, and no interrupt. A REC is entered only while its realm is ACTIVE. A
-/// realm that is created has what its parameters ask for. Its VMID is used then, if the machine has a flag for it. It
-/// stays until its RMI_REALM_DESTROY, with what it was created with.
+/// A realm is activated at most once. It is NEW when it is created, and RMI_REALM_ACTIVATE makes it ACTIVE only if it
+/// is NEW. RMI_REC_ENTER of one of its RECs can make it SYSTEM_OFF if it is ACTIVE. Nothing else changes its state: no
+/// other call, no step that a guest is given, and no interrupt. A REC is entered only while its realm is ACTIVE.
+///
+/// A realm that is created has what its parameters ask for. Its VMID is used then, if the machine has a flag for it.
+/// The realm exists until its RMI_REALM_DESTROY, and keeps what its parameters asked for.
 pub fn activated_once()
     ensures calls { (r : Registers) (m : Machine) → IsProper m → KeepsStates m (call_in r) (rmi r m).1 }
     ensures steps { (m : Machine) (rec : ℕ) (w : StepWords) → KeepsStates m None (queued m rec w).1 }
@@ -250,12 +256,14 @@ pub fn rims_are_measured()
     ensures sources { (m : Machine) (call : Call) → IsProper m → (performed call m).0.word ≡ Success → IsFromHost m call }
 {}
 
-/// The RIPAS requests of RECs come from their guests alone. A call keeps what each REC asks for, but RMI_REC_ENTER of
-/// the REC, and RMI_RTT_SET_RIPAS, after which the REC asks for the rest. So do steps that a guest is given, and
-/// interrupts. A REC that keeps RIPAS_CHANGE as its exit has `no_request` once it is entered, and any other what it had
-/// before. A step of its guest asks for a range by `is_ripas_range`, or leaves what is asked for as it is, and so does
-/// the exit. RMI_RTT_SET_RIPAS begins where the REC asks, and then the REC asks for the rest from X1 on. RMI_REC_ENTER
-/// that is not refused is an entry, at most 16 steps, and an exit unless the guest spins.
+/// The RIPAS requests of RECs come from their guests alone. Only RMI_REC_ENTER of a REC and RMI_RTT_SET_RIPAS can
+/// change the REC's request. RMI_RTT_SET_RIPAS begins at the base of the request, and leaves the rest of the request
+/// from X1 on. Other calls, steps that a guest is given, and interrupts change no request.
+///
+/// A REC that is entered after an exit RIPAS_CHANGE has `no_request`, and any other REC the request that it had before.
+/// A step of the guest asks for a range that `is_ripas_range` accepts, or leaves the request unchanged. The REC's exit
+/// leaves it unchanged too. An RMI_REC_ENTER that is not refused is an entry, at most 16 steps, and an exit unless the
+/// guest spins.
 pub fn requests_are_the_guest_s()
     ensures calls { (r : Registers) (m : Machine) → KeepsRequests m (call_in r) (rmi r m).1 }
     ensures steps { (m : Machine) (rec : ℕ) (w : StepWords) → KeepsRequests m None (queued m rec w).1 }
@@ -272,14 +280,19 @@ pub fn requests_are_the_guest_s()
 
 /// In a realm that is no longer NEW, the RIPAS of protected addresses changes only as the guest asks, or to DESTROYED.
 /// RMI_RTT_INIT_RIPAS and RMI_DATA_CREATE can make RIPAS RAM, if the realm is NEW. RMI_DATA_DESTROY can make it
-/// DESTROYED where it was RAM, and RMI_RTT_DESTROY whatever it was. A page that is destroyed leaves RIPAS that is not
-/// RAM. RMI_RTT_SET_RIPAS can make it what a REC of the realm asks for, within the range that it asks for. If it
-/// succeeds, it does so up to X1 and no further, and leaves the pages. X1 is not after the end of the request.
-/// RMI_RTT_INIT_RIPAS does the same with RAM, without a request. No other call changes the RIPAS of a protected
-/// address, and neither do stores and fills of the host, steps that guests are given, and interrupts. A new realm is
-/// EMPTY and has no page at each protected address. An access of a guest to a protected address without RAM or without
-/// a page is answered an SEA or makes an exit. It reads and writes nothing. If the exit that a REC keeps has no answer,
-/// the REC goes on with its registers and its steps, and has no results.
+/// DESTROYED where it was RAM, and RMI_RTT_DESTROY whatever it was. After RMI_DATA_DESTROY of a page, RIPAS is not RAM
+/// there.
+///
+/// RMI_RTT_SET_RIPAS can give the RIPAS that a REC of the realm asks for, within the range of the REC's request. If it
+/// succeeds, it changes RIPAS up to X1 and no further, and leaves the pages. X1 is at most the top of the request.
+/// RMI_RTT_INIT_RIPAS does the same with RAM, without a request.
+///
+/// No other call changes the RIPAS of a protected address. Neither do stores and fills of the host, steps that guests
+/// are given, and interrupts. A new realm has RIPAS EMPTY and no page at each protected address.
+///
+/// A guest's access to a protected address without RAM or without a page ends in an SEA or an exit. It reads and writes
+/// nothing. If the host does not answer the last exit of a REC that it enters, the REC goes on with its registers and
+/// steps, and has no results.
 pub fn ripas_is_the_guest_s()
     ensures calls { (r : Registers) (m : Machine) → IsProper m → KeepsRipas m (call_in r) (rmi r m).1 }
     ensures taken { (m : Machine) (rd ipa x : ℕ) → IsProper m → (performed (DataDestroy rd ipa) m).0.word ≡ Success → IsBetween ipa (ipa + 4096) x
@@ -306,15 +319,20 @@ pub fn ripas_is_the_guest_s()
 
 /// Only the guest of a realm writes to the realm's pages. While a protected address of the realm has a page, only the
 /// guest's writes change the bytes of the page. RMI_DATA_CREATE and RMI_DATA_CREATE_UNKNOWN alone give a protected
-/// address a page, where there was none, and RMI_DATA_DESTROY alone takes it. So a page takes the place of another one
-/// only after that was destroyed. The first gives the bytes of a page of the host while the realm is NEW, the second
-/// gives zeros. Each address of a page that is given leads into it. Then the bytes stay, but while RECs of the realm
-/// are entered. The entry and the exit of a REC keep them too, and so does each step that is no write. A step is
-/// performed for the realm that owns the REC. Stores and fills of the host, steps that guests are given, and interrupts
-/// change neither. A guest reads the bytes of the page that its address leads to, if RIPAS is RAM. At an unprotected
-/// address it reads bytes of the host outside the secure world. What it writes at a protected address changes those at
-/// no protected address of another page or realm. What it writes at an unprotected one changes those at no protected
-/// address.
+/// address a page, where there was none. RMI_DATA_DESTROY alone takes it. So a page replaces another one only after
+/// RMI_DATA_DESTROY of the other one.
+///
+/// RMI_DATA_CREATE gives the bytes of a page of the host while the realm is NEW, and RMI_DATA_CREATE_UNKNOWN gives
+/// zeros. Each address of the IPA granule leads to its own offset in the page. While the page is there, a call changes
+/// its bytes only if it enters a REC of the realm. The entry and the exit of the REC keep the bytes, and so does each
+/// step that is no write.
+///
+/// A step is performed for the realm that owns the REC. Stores and fills of the host, steps that guests are given, and
+/// interrupts change neither the pages of protected addresses nor their bytes.
+///
+/// A guest reads the bytes of the page that a protected address leads to, if RIPAS is RAM. At an unprotected address it
+/// reads bytes of the host outside the secure world. A write at a protected address changes no bytes at protected
+/// addresses of other pages or realms. A write at an unprotected address changes no bytes at protected addresses.
 pub fn memory_is_the_guest_s()
     ensures calls { (r : Registers) (m : Machine) → IsProper m → KeepsLocations m (call_in r) (rmi r m).1 }
     ensures stores { (m : Machine) (address word : ℕ) → IsProper m → KeepsLocations m None (after_store m address word) }
@@ -349,8 +367,10 @@ pub fn memory_is_the_guest_s()
 /// RMI_RTT_CREATE and RMI_RTT_FOLD undo each other. Right after a successful RMI_RTT_CREATE, RMI_RTT_FOLD with the same
 /// RD, address and level succeeds and undoes the creation. And RMI_RTT_CREATE undoes RMI_RTT_FOLD, with the granule
 /// that comes back. Then each granule has the attributes that it had before both, and each entry of each table is as it
-/// was. A table is folded only if the entry can replace it. After each of both calls an address leads to the same
-/// memory as before.
+/// was.
+///
+/// A table is folded only if the resulting entry can replace it. After either call alone, each address leads to the
+/// same memory as before.
 pub fn fold_and_unfold()
     ensures created { (m : Machine) (rd rtt ipa level : ℕ) → IsProper m → (performed (RttCreate rd rtt ipa level) m).0.word ≡ Success
         → ((performed (RttFold rd ipa level) (performed (RttCreate rd rtt ipa level) m).1).0.word ≡ Success)
@@ -368,13 +388,17 @@ pub fn fold_and_unfold()
 
 /// A call leaves the granules of other realms unchanged. It changes only granules of the realm that it names by an RD
 /// or a REC, and granules that are UNDELEGATED or DELEGATED. So it keeps the RDs, tables, pages and RECs of all other
-/// realms. UNDELEGATED granules stay as they were, but for one that is delegated, and for pages that a REC writes which
-/// is entered. None of these is of the secure world. Stores and fills of the host change the granule of their address
-/// alone, if it is UNDELEGATED. A step that a guest is given changes its REC, and an interrupt its REC and its run
-/// page. A write of a guest changes pages of its realm, and of the host outside the secure world. At a protected
-/// address it changes none of the host. Calls keep settings and the number of granules. They keep VMIDs, but for that
-/// of a realm that is created or destroyed. Stores, fills, steps that guests are given, interrupts, and steps of guests
-/// keep settings and VMIDs. RMI_REC_CREATE alone makes RECs, and no REC comes to another realm.
+/// realms. An UNDELEGATED granule changes only if it is delegated, or if RMI_REC_ENTER writes its page. A granule that
+/// changes so is outside the secure world.
+///
+/// Stores and fills of the host change the granule of their address alone, if it is UNDELEGATED. A step that a guest is
+/// given changes only its REC, and an interrupt only its REC and the REC's run page. A write of a guest changes only
+/// pages of its realm, and pages of the host outside the secure world. At a protected address it changes no page of the
+/// host.
+///
+/// Calls keep the settings and the number of granules. They keep all VMIDs but that of a realm that is created or
+/// destroyed. Stores, fills, steps that guests are given, interrupts, and steps of guests keep settings and VMIDs.
+/// RMI_REC_CREATE alone makes RECs, and no REC comes to another realm.
 pub fn other_realms_stay()
     ensures calls { (r : Registers) (m : Machine) (granule : ℕ) → IsProper m → IsOfAnother m (call_in r) granule → IsSameAt m (rmi r m).1 granule }
     ensures hosts { (r : Registers) (m : Machine) (granule : ℕ) → IsProper m → (granule_at m granule).state ≡ Undelegated → IsSameAt m (rmi r m).1 granule ⊎ IsHostChanged m (rmi r m).1 (call_in r) granule }
@@ -405,9 +429,9 @@ pub fn other_realms_stay()
 {}
 
 /// The invariant `IsProper` rules out certain wrong definitions of RMI commands: the resulting machines do not satisfy
-/// it. By one such definition, RTT_DESTROY leaves the entry of the table. By another, a call maps a page that is mapped
-/// already. REC_DESTROY leaves the count of its realm. REALM_DESTROY leaves a granule of the realm. A granule becomes
-/// DELEGATED and is not wiped.
+/// it. One is an RTT_DESTROY that keeps the entry which leads to the table, and another a command that maps a page that
+/// is mapped already. A REC_DESTROY must not leave the realm's count of RECs as it was, and a REALM_DESTROY must not
+/// leave granules of the realm. A granule that becomes DELEGATED has to be wiped.
 pub fn wrong_definitions_are_detected()
     ensures entry_left { (m : Machine) (rd table i g : ℕ) → IsProper m → IsTableOf m rd table → i < 512 → table_below m (entry_in_page (page_in m table) i) ≡ Some g → IsProper (with_blank m g Delegated) → ⊥ }
     ensures named_twice { (m : Machine) (proper : IsProper m) (rd s x i p y j q address other : ℕ) (a b : RmmRipas) → IsTableOf m rd x → IsTableOf m s y → i < 512 → j < 512

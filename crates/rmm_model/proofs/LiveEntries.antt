@@ -5,21 +5,21 @@ use Rattle.page_arena.specs.Word.{word_of_page}
 use Rattle.rmm_model.specs.Entry.{is_live, entry_of, entry_at_kind}
 use Rattle.rmm_model.specs.Table.{entry_in_page, first_live}
 
--- a live entry is the first one from itself on
+-- the search from a live entry finds that entry
 pub first_live_here : (page : List ℕ) (i : ℕ) → i < 512 → is_live (entry_in_page page i) ≡ true → first_live page (512 - i) i ≡ i
 unfolding first_live
 first_live_here page i lt live =
     let more : 512 - i ≡ suc (511 - i) = omega arith in
     ap (λ (n : ℕ). first_live page n i) more ∙ cond-true _ _ _ live
 
--- one that is not live is passed
+-- the search from an entry that is not live goes on with the next entry
 pub first_live_on : (page : List ℕ) (i : ℕ) → i < 512 → is_live (entry_in_page page i) ≡ false → first_live page (512 - i) i ≡ first_live page (512 - (i + 1)) (i + 1)
 unfolding first_live
 first_live_on page i lt dead =
     let more : 512 - i ≡ suc (512 - (i + 1)) = omega arith in
     ap (λ (n : ℕ). first_live page n i) more ∙ cond-false _ _ _ dead
 
--- after the last entry there is none
+-- the search from the end of the table finds no entry, and gives 512
 pub first_live_end : (page : List ℕ) (i : ℕ) → i ≡ 512 → first_live page (512 - i) i ≡ 512
 unfolding first_live
 first_live_end page i end =
@@ -41,7 +41,7 @@ low_is_dead word low =
     let few : word / 2 ^ 56 < 4 = omega arith in
     low_kind_is_dead (word / 2 ^ 56) (word % 2 ^ 48) few
 
--- an entry whose word is below those of live ones is passed
+-- the search skips an entry whose word is below the words of all live entries
 pub first_live_past : (page : List ℕ) (i j word : ℕ) → i + 1 ≡ j → i < 512 → word ≡ word_of_page page i → word < 4 * 2 ^ 56 → first_live page (512 - i) i ≡ first_live page (512 - j) j
 unfolding entry_in_page
 first_live_past page i j word next lt is low =

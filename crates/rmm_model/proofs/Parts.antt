@@ -8,7 +8,8 @@ use Rattle.rmm_model.specs.Entry.{entry_word, child_entry}
 use Rattle.rmm_model.specs.Table.{has_parts}
 
 module _ (page : List ℕ) (whole : RmmRttEntry) (level i : ℕ) where
-  -- what the test of entry i decides
+  -- the test from entry i on succeeds if entry i is child i and the test from the next entry on succeeds, and fails
+  -- otherwise
   by_test : (is : Bool) → i < 512 → nat_eq (word_of_page page i) (entry_word (child_entry whole level i)) ≡ is
       → has_parts page whole level (512 - i) i ≡ (is && has_parts page whole level (512 - (i + 1)) (i + 1))
   unfolding has_parts

@@ -1,6 +1,6 @@
 -- The sizes of a guest's memory accesses, and the values that an access reads or writes. Arm Architecture Reference
--- Manual, ESR_EL2, SAS. A guest accesses a multiple of the size, so that an access is in one page: the lower bits of
--- another address do not count.
+-- Manual, ESR_EL2, SAS. The address of an access is rounded down to a multiple of its size, so that each access is in
+-- one page.
 use Rattle.std.specs.Prelude.{ℕ, ◌+◌, ◌*◌, ◌/◌, ◌%◌, ◌^◌, ◌==◌, List, slice_index_or, slice_set, if◌then◌else◌}
 use Rattle.page_arena.specs.Word.{word_of_page}
 use Rattle.rmm_model.specs.declared.access.AccessSize.{AccessSize}

@@ -1,5 +1,5 @@
--- The result words with which an RMM may answer a command. RMM 1.0 orders the failure conditions of a command in part:
--- if two checks that are not ordered fail, either decides.
+-- The result words with which an RMM may answer a command. RMM 1.0 has a partial order of a command's failure
+-- conditions: if two checks fail and neither comes before the other, either may decide the answer.
 use Rattle.std.specs.Prelude.{ℕ, ◌==◌, Bool, List, [], ◌∷◌, if◌then◌else◌}
 use Rattle.std.specs.List.{list_all, list_any}
 use Rattle.rmi_abi.specs.declared.word.Word.{Word}

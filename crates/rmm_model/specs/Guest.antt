@@ -1,6 +1,6 @@
--- The simulated guest of a REC: at most 16 steps, and their results. This RMM's own. The steps are a ring in words 48
--- to 127 of the REC's page, five words each. The results since the last entry are in words 128 to 191, two words each.
--- Words 192 to 208 are gicv3_hcr and the list registers of the last entry.
+-- The simulated guest of a REC: at most 16 steps, and their results. Simulated guests are this RMM's own. The steps are
+-- a ring in words 48 to 127 of the REC's page, five words each. The results since the last entry are in words 128 to
+-- 191, two words each. Words 192 to 208 are gicv3_hcr and the list registers of the last entry.
 use Rattle.std.specs.Prelude.{ℕ, ◌+◌, ◌-◌, ◌*◌, ◌%◌, ◌==◌, ◌&&◌, Bool, nat_lt, List, is_some, unwrap_or, if◌then◌else◌}
 use Rattle.page_arena.specs.Word.{word_of_page}
 use Rattle.rmm_model.specs.declared.rec.RmmRec.{RmmRec as Attributes}

@@ -36,8 +36,8 @@ is_unprotected realm ipa = not (is_protected realm ipa) && is_in_space realm ipa
 unfoldable pub start_count : ℕ → ℕ → ℕ
 start_count s2sz level = (2 ^ s2sz + (512 * entry_size level - 1)) / (512 * entry_size level)
 
--- The starting level and the number of starting tables are valid for an IPA width. The tables are as many as it needs,
--- at most 16, and it spans more than one entry of the level.
+-- The starting level and the number of starting tables are valid for an IPA width. The tables are as many as the width
+-- needs, at most 16, and the address space is larger than one entry of the level.
 unfoldable pub is_start : ℕ → ℕ → ℕ → Bool
 is_start s2sz level count = nat_le level 3 && nat_lt (entry_size level) (2 ^ s2sz) && nat_le count 16 && count == start_count s2sz level
 

@@ -13,8 +13,8 @@ pub struct FailedCondition {
 }
 
 impl FailedCondition {
-    /// Returns the RMM's answer to the refused command. The answer is copied field by field. So a caller keeps it in
-    /// registers, while a copy of the whole goes through memory.
+    /// Returns the RMM's answer to the refused command. The answer is copied field by field, so that a caller keeps it
+    /// in registers. A copy of the whole structure would go through memory.
     pub fn into_answer(self) -> SmcResult
         ensures { result ≡ self.answer }
     {

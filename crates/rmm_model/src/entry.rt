@@ -25,8 +25,8 @@ pub enum RmmRttEntry {
     AssignedNs(u64),
 }
 
-/// The kinds of translation table entries whose RIPAS a command changes. UNASSIGNED entries are always among them,
-/// unless their RIPAS is DESTROYED.
+/// The kinds of translation table entries whose RIPAS a command changes. UNASSIGNED entries are always among them, but
+/// those with RIPAS DESTROYED only if `destroyed` is set.
 #[derive(Clone, Copy)]
 pub struct Changeable {
     /// Whether a command changes the RIPAS of ASSIGNED entries.

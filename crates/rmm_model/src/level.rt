@@ -1,7 +1,7 @@
 //! Levels of translation tables. The level decides the size of an entry, and which entry covers an address.
 //!
 //! The size of an entry is written as a power of two, so that no division or multiplication by it is left in the
-//! program. A remainder by a known size is cheaper still, and has an arm of its own for each level.
+//! program. A remainder by a constant is cheaper still, so `entry_offset` has a match arm for each level.
 ghost use Rattle.std.specs.Prelude.{◌≡◌, ◌<◌, ◌≤◌, ◌/◌, ◌%◌, ◌^◌};
 ghost use Rattle.rmm_model.specs.Level as levels;
 

@@ -6,7 +6,7 @@ use crate::{AccessSize, LastExit};
 use page_arena::word_in;
 use rmi_abi::RecExit;
 
-/// A step of a simulated guest, such as a memory access, an RSI call or a wait. This RMM's own: a guest is simulated.
+/// A step of a simulated guest, such as a memory access, an RSI call or a wait. Simulated guests are this RMM's own.
 #[derive(Clone, Copy)]
 pub enum GuestStep {
     Write {

@@ -34,7 +34,7 @@ pub none_left : (ws : List TraceWord) → length ws ≤ 0 → ws ≡ []
 none_left [] none = refl
 none_left (w ∷ ws) none = absurd (omega arith)
 
--- words before the first part
+-- the given parts, with the given words in front of the first part
 abbrev pub onto_all : List TraceWord → List (List TraceWord) → List (List TraceWord)
 onto_all [] ps = ps
 onto_all (x ∷ xs) ps = onto_first x (onto_all xs ps)
@@ -52,7 +52,7 @@ onto_all-none [] some = absurd (omega arith)
 onto_all-none (x ∷ []) some = refl
 onto_all-none (x ∷ y ∷ xs) some = ap (onto_first x) (onto_all-none (y ∷ xs) (omega arith))
 
--- the word at a place
+-- the word at index `end` is `w`, and the words after it are `rest`
 pub record NextWord (words : List TraceWord) (end : ℕ) (w : TraceWord) (rest : List TraceWord) : Type 0 where
   pub front : take (end + 1) words ≡ take end words ++ w ∷ []
   pub left : rest ≡ drop (end + 1) words
@@ -68,7 +68,7 @@ next_word (x ∷ words) (suc end) w rest e =
     let more = next_word words end w rest e in
     record { front = rw add-one (ap (λ t. x ∷ t) (rw add-one at more.front)); left = rw add-one (rw add-one at more.left); within = omega (arith, more.within) }
 
--- the words up to a place are in the first part
+-- the first `end` words are in the first part, and the words after them are `left`
 pub record InFirst (words : List TraceWord) (end : ℕ) (left : List TraceWord) : Type 0 where
   pub is_left : left ≡ drop end words
   pub in_first : parts words ≡ onto_all (take end words) (parts left)
@@ -88,7 +88,7 @@ in_first_more words end left w rest is test so_far =
           ∙ sym (onto_all-more (take end words) w (parts rest)) ∙ ap (λ ws. onto_all ws (parts rest)) (sym next.front);
     }
 
--- the first part ends here
+-- a next word that ends a part is the last word of the first part; the other parts are those of the words after it
 pub first_ends : (words : List TraceWord) (end : ℕ) (left : List TraceWord) (w : TraceWord) (rest : List TraceWord) → left ≡ w ∷ rest → ends_part w rest ≡ true → InFirst words end left
     → parts words ≡ take (end + 1) words ∷ parts rest
 first_ends words end left w rest is test so_far =
@@ -104,13 +104,14 @@ rest_is_smaller words end left w rest is so_far =
 pub within_words : (words : List TraceWord) (end : ℕ) (left : List TraceWord) (w : TraceWord) (rest : List TraceWord) → left ≡ w ∷ rest → InFirst words end left → end < length words
 within_words words end left w rest is so_far = (next_word words end w rest (sym so_far.is_left ∙ is)).within
 
--- all words are the first part
+-- if no word is left after the first `end` words, these are all the words
 take_past : (words : List TraceWord) (end : ℕ) → drop end words ≡ [] → take end words ≡ words
 take_past [] zero e = refl
 take_past [] (suc end) e = refl
 take_past (x ∷ words) zero e = absurd (cc)
 take_past (x ∷ words) (suc end) e = ap (λ t. x ∷ t) (take_past words end e)
 
+-- if no word is left after words that are in the first part, the first part has all the words
 pub first_is_all : (words : List TraceWord) (end : ℕ) (left : List TraceWord) → 0 < length words → left ≡ [] → InFirst words end left → parts words ≡ words ∷ parts left
 first_is_all words end left some is so_far =
     let whole = take_past words end (sym so_far.is_left ∙ is) in

@@ -52,7 +52,7 @@ glyph_not_sign d = sign_by d (ltb d 10) refl
 
 -- ---- digits
 
--- one digit more
+-- a digit `r` that is read after the number `q` gives the number `n`, which is `q * base + r`
 value_more : (base q r n b : ℕ) (bs : List ℕ) → digit_of b ≡ r → r < base → q * base + r ≡ n → n < 2 ^ 64 → value_after base q (b ∷ bs) ≡ value_after base n bs
 value_more base q r n b bs is small whole fits =
     let a : ltb r base ≡ true = lt-ltb r base small in
@@ -90,7 +90,7 @@ module _ (base : ℕ) (low : 2 ≤ base) (high : base ≤ 16) where
       let next : n / base < 2 ^ 64 = omega (arith, div-le_self n base) in
       reads_step k n acc (eqb (n / base) 0) fits refl (reads_back k (n / base) (digit_glyph false (n % base) ∷ acc) (half k n small) next)
 
-  -- the first digit of a number above 0
+  -- the text is not empty, and its first byte is not `0`
   starts_above : List ℕ → Bool
   starts_above [] = false
   starts_above (b ∷ bs) = not (eqb b 48)
@@ -130,7 +130,7 @@ module _ (base : ℕ) (low : 2 ≤ base) (high : base ≤ 16) where
       let back : value_after base 0 (digits_onto 64 base false n []) ≡ Some n = reads_back 64 n [] small small in
       rw (plain, back) refl
 
-  -- no digit is a mark
+  -- a number's text lacks the byte `mark`, if it does both when it ends at this digit and when more digits follow
   unmarked_step : (mark k n : ℕ) (acc : List ℕ) (t : Bool) → list_all (λ b. not (eqb b mark)) (digit_glyph false (n % base) ∷ acc) ≡ true
       → list_all (λ b. not (eqb b mark)) (digits_onto k base false (n / base) (digit_glyph false (n % base) ∷ acc)) ≡ true
       → list_all (λ b. not (eqb b mark)) (cond t (digit_glyph false (n % base) ∷ acc) (digits_onto k base false (n / base) (digit_glyph false (n % base) ∷ acc))) ≡ true
@@ -143,16 +143,17 @@ module _ (base : ℕ) (low : 2 ≤ base) (high : base ≤ 16) where
       let here : list_all (λ b. not (eqb b mark)) (digit_glyph false (n % base) ∷ acc) ≡ true = rw (apart (n % base), h) refl in
       unmarked_step mark k n acc (eqb (n / base) 0) here (unmarked mark k (n / base) (digit_glyph false (n % base) ∷ acc) apart here)
 
+  -- if no glyph is the byte `mark`, no digit of a printed number is that byte
   pub digits_unmarked : (mark n : ℕ) → ((d : ℕ) → eqb (digit_glyph false d) mark ≡ false) → list_all (λ b. not (eqb b mark)) (digits base false n) ≡ true
   unfolding digits
   digits_unmarked mark n apart = unmarked mark 64 n [] apart refl
 
--- plain digits are some digits
+-- a text of plain digits is not empty
 pub some-plain : (ds : List ℕ) → is_plain ds ≡ true → 0 < length ds
 some-plain [] h = absurd (cc)
 some-plain (b ∷ ds) h = omega arith
 
--- plain digits do not begin as a hexadecimal number does
+-- a text of plain digits does not begin with `0x`, as a hexadecimal number does
 pub not_hexadecimal : (ds : List ℕ) → is_plain ds ≡ true → starts_with nat_eq ds (48 ∷ 120 ∷ []) ≡ false
 not_hexadecimal [] h = refl
 not_hexadecimal (b ∷ []) h = and-false (eqb 48 b)

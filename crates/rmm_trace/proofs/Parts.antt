@@ -7,16 +7,17 @@ use Rattle.rmm_trace.specs.Cuts.{before_mark, after_mark}
 use Rattle.rmm_trace.specs.Words.{word_in}
 use Rattle.rmm_trace.specs.Sentences.{words_in}
 
--- the texts of the words in the rest of a text, and a measure of the rest
+-- the texts between the spaces in the rest of a text; no texts if there is no rest
 abbrev pub parts_of : Option (List ℕ) → List (List ℕ)
 parts_of None = []
 parts_of (Some bs) = slice_split (λ b. b == 32) bs
 
+-- the size of the rest of a text: its length plus 1, or 0 if there is no rest
 abbrev pub size_of : Option (List ℕ) → ℕ
 size_of None = 0
 size_of (Some bs) = length bs + 1
 
--- the first word, and the others
+-- splitting a text at its spaces gives the text before the first space, and then the texts in the rest after it
 pub split_cut : (bs : List ℕ) → slice_split (λ b. b == 32) bs ≡ before_mark 32 bs ∷ parts_of (after_mark 32 bs)
 split_cut [] = refl
 split_cut (b ∷ bs) = elim (b == 32) as (λ t. cond t ([] ∷ slice_split (λ c. c == 32) bs) (onto_first b (slice_split (λ c. c == 32) bs)) ≡ cond t [] (b ∷ before_mark 32 bs) ∷ parts_of (cond t (Some bs) (after_mark 32 bs))) [
@@ -31,7 +32,7 @@ size-after (b ∷ bs) = elim (b == 32) as (λ t. size_of (cond t (Some bs) (afte
   | false ↦ omega (arith, size-after bs)
 ]
 
--- the rest of a text has a first word
+-- the texts in `rest` are the one before the first space of `bs` and those after it, which are in a smaller rest
 pub record First (rest : Option (List ℕ)) (bs : List ℕ) : Type 0 where
   pub parts : parts_of rest ≡ before_mark 32 bs ∷ parts_of (after_mark 32 bs)
   pub smaller : size_of (after_mark 32 bs) < size_of rest
@@ -51,7 +52,7 @@ mapped_more : (found : List TraceWord) (w : TraceWord) (o : Option (List TraceWo
 mapped_more found w None = refl
 mapped_more found w (Some ws) = ap Some (sym (append_assoc found (w ∷ []) ws))
 
--- one more word is found
+-- if the next text spells a word, reading goes on with that word added to those found so far
 pub found_more : (all : Option (List TraceWord)) (found : List TraceWord) (rest : Option (List ℕ)) (bs : List ℕ) (w : TraceWord) → length found < 64 → rest ≡ Some bs → Some w ≡ word_in (before_mark 32 bs)
     → all ≡ option_map (λ ws. found ++ ws) (words_in (64 - length found) (parts_of rest))
     → all ≡ option_map (λ ws. (found ++ w ∷ []) ++ ws) (words_in (64 - length (found ++ w ∷ [])) (parts_of (after_mark 32 bs)))
@@ -65,7 +66,7 @@ found_more all found rest bs w room is here so_far =
     ∙ mapped_more found w (words_in (64 - length found - 1) (parts_of (after_mark 32 bs)))
     ∙ ap (λ m. option_map (λ ws. (found ++ w ∷ []) ++ ws) (words_in m (parts_of (after_mark 32 bs)))) less
 
--- the next text is no word
+-- if the next text spells no word, reading fails
 pub found_no_word : (all : Option (List TraceWord)) (found : List TraceWord) (rest : Option (List ℕ)) (bs : List ℕ) → length found < 64 → rest ≡ Some bs → None ≡ word_in (before_mark 32 bs)
     → all ≡ option_map (λ ws. found ++ ws) (words_in (64 - length found) (parts_of rest)) → None ≡ all
 found_no_word all found rest bs room is here so_far =
@@ -75,7 +76,7 @@ found_no_word all found rest bs room is here so_far =
     ∙ ap (option_map (λ ws. found ++ ws)) (words_first (64 - length found) (before_mark 32 bs) (parts_of (after_mark 32 bs)) some
     ∙ ap (option_and_then (λ x. option_map (λ ws. x ∷ ws) (words_in (64 - length found - 1) (parts_of (after_mark 32 bs))))) (sym here)))
 
--- there is one text too many
+-- if 64 words are found and another text is left, reading fails
 pub found_too_many : (all : Option (List TraceWord)) (found : List TraceWord) (rest : Option (List ℕ)) (bs : List ℕ) → length found ≡ 64 → rest ≡ Some bs
     → all ≡ option_map (λ ws. found ++ ws) (words_in (64 - length found) (parts_of rest)) → None ≡ all
 found_too_many all found rest bs full is so_far =
@@ -84,7 +85,7 @@ found_too_many all found rest bs full is so_far =
     sym (so_far ∙ ap (λ ts. option_map (λ ws. found ++ ws) (words_in (64 - length found) ts)) first.parts
     ∙ ap (λ m. option_map (λ ws. found ++ ws) (words_in m (before_mark 32 bs ∷ parts_of (after_mark 32 bs)))) none)
 
--- no text is left
+-- if no text is left, the words found so far are the result
 pub found_all : (all : Option (List TraceWord)) (found : List TraceWord) (rest : Option (List ℕ)) → rest ≡ None → all ≡ option_map (λ ws. found ++ ws) (words_in (64 - length found) (parts_of rest)) → Some (found ++ []) ≡ all
 found_all all found rest is so_far =
     sym (so_far ∙ ap (λ r. option_map (λ ws. found ++ ws) (words_in (64 - length found) (parts_of r))) is ∙ ap (option_map (λ ws. found ++ ws)) (words_in_none (64 - length found)))

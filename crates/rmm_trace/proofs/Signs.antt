@@ -17,7 +17,7 @@ before_at xs b bs t is test = ap before_answer is ∙ ap (λ (u : Bool). cond u 
 answer_at : (xs : List ℕ) (b : ℕ) (bs : List ℕ) (t : Bool) → xs ≡ b ∷ bs → begins xs ≡ t → answer_in xs ≡ cond t (Some (drop 3 (b ∷ bs))) (answer_in bs)
 answer_at xs b bs t is test = ap answer_in is ∙ ap (λ (u : Bool). cond u (Some (drop 3 (b ∷ bs))) (answer_in bs)) (sym (ap begins is) ∙ test)
 
--- up to a place, no answer begins
+-- the first `at` bytes are in the question, and the text after them has the rest of the question and the answer
 pub record NoSign (text : List ℕ) (at : ℕ) : Type 0 where
   pub before : before_answer text ≡ take at text ++ before_answer (drop at text)
   pub answer : answer_in text ≡ answer_in (drop at text)
@@ -43,11 +43,11 @@ answer_here text at within test passed =
     let is = drop-cons text at 0 within in
     sym (passed.answer ∙ answer_at (drop at text) (get_or text at 0) (drop (suc at) text) true is test ∙ ap (λ t. Some (drop 3 t)) (sym is) ∙ ap Some (drop-drop 3 at text))
 
--- the slice of a text from a place to the end
+-- the slice of a text from index `at` to its end is the text without its first `at` bytes
 pub rest_from : (text : List ℕ) (at : ℕ) → take (length text - at) (drop at text) ≡ drop at text
 rest_from text at = take_all (length text - at) (drop at text) (omega (arith, length-drop at text))
 
--- a sign begins with a space
+-- no answer's sign ` = ` begins at a byte that is not a space
 other_byte : (b : ℕ) (bs : List ℕ) → eqb b 32 ≡ false → begins (b ∷ bs) ≡ false
 other_byte b bs apart = let other : eqb 32 b ≡ false = ne_eqb 32 b (λ e. eqb-false b 32 apart (sym e)) in rw other refl
 

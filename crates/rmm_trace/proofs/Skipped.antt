@@ -8,7 +8,7 @@ use Rattle.rmm_trace.specs.Names.{names, commands, other_questions, steps_of_a_g
 abbrev begins_with : ℕ → List ℕ → Bool
 begins_with b text = starts_with nat_eq text (b ∷ [])
 
--- two texts of which one alone begins with a byte
+-- a text that begins with a given byte differs from a name that does not
 apart : (b : ℕ) (text name : List ℕ) → begins_with b text ≡ true → begins_with b name ≡ false → bytes_eq text name ≡ false
 apart b [] name is not_so = absurd (cc)
 apart b (x ∷ xs) [] is not_so = refl
@@ -21,7 +21,8 @@ apart b (x ∷ xs) (y ∷ ys) is not_so =
     first_false true e = e
     first_false false e = refl
 
--- the place of a text is not among names that begin otherwise
+-- the search for a text that begins with a given byte can skip the first `k` names, if none of them begins with that
+-- byte
 pub skipped : (b : ℕ) (text : List ℕ) (k i : ℕ) (ns : List (List ℕ)) → begins_with b text ≡ true → list_all (λ n. not (begins_with b n)) (take k ns) ≡ true
     → position_from (bytes_eq text) i ns ≡ position_from (bytes_eq text) (i + k) (drop k ns)
 skipped b text zero i ns is all = let same : i ≡ i + 0 = omega arith in ap (λ j. position_from (bytes_eq text) j ns) same
@@ -33,11 +34,12 @@ skipped b text (suc k) i (n ∷ ns) is all =
     ap (λ (t : Bool). cond t (Some i) (position_from (bytes_eq text) (i + 1) ns)) first ∙ skipped b text k (i + 1) ns is parts.1
     ∙ ap (λ j. position_from (bytes_eq text) j (drop k ns)) same
 
--- before the checks no name begins with a bracket, and before the results none with an R
+-- no name before those of the checks begins with `(`
 no_bracket : list_all (λ n. not (begins_with 40 n)) (take 180 names) ≡ true
 unfolding names commands other_questions steps_of_a_guest settings_and_their_values fields_of_parameter_pages words_of_results states exit_reasons outputs results_of_steps checks
 no_bracket = refl
 
+-- no name before the words of results begins with `R`
 no_letter : list_all (λ n. not (begins_with 82 n)) (take 108 names) ≡ true
 unfolding names commands other_questions steps_of_a_guest settings_and_their_values fields_of_parameter_pages words_of_results states exit_reasons outputs results_of_steps checks
 no_letter = refl

@@ -16,7 +16,7 @@ trimmed-kept : (xs : List ℕ) (b : ℕ) → is_blank b ≡ false → trimmed (x
 trimmed-kept [] b test = ap (λ (t : Bool). cond t [] (b ∷ [])) test
 trimmed-kept (x ∷ xs) b test = ap (before_trimmed x) (trimmed-kept xs b test) ∙ before_trimmed-more x xs b
 
--- the last byte is blank
+-- if the last of the first `end` bytes is blank, trimming removes it
 pub trim_more : (text : List ℕ) (end : ℕ) → 0 < end → end ≤ length text → is_blank (get_or text (end - 1) 0) ≡ true → trimmed (take end text) ≡ trimmed (take (end - 1) text)
 trim_more text zero some within test = absurd (omega arith)
 trim_more text (suc k) some within test =
@@ -24,7 +24,7 @@ trim_more text (suc k) some within test =
     let blank : is_blank (get_or text k 0) ≡ true = ap (λ j. is_blank (get_or text j 0)) (sym less) ∙ test in
     ap trimmed (take-suc text k 0 (omega arith)) ∙ trimmed-blank (take k text) (get_or text k 0) blank ∙ ap (λ j. trimmed (take j text)) (sym less)
 
--- the last byte is not blank
+-- if the last of the first `end` bytes is not blank, trimming leaves these bytes unchanged
 pub trim_here : (text : List ℕ) (end : ℕ) → 0 < end → end ≤ length text → is_blank (get_or text (end - 1) 0) ≡ false → take end text ≡ trimmed (take end text)
 trim_here text zero some within test = absurd (omega arith)
 trim_here text (suc k) some within test =

@@ -45,11 +45,11 @@ word_of_parts : (bs front middle value : List ℕ) (step mask : Option (List ℕ
     → atom_in value ≡ Some w.value → tail_in mask ≡ Some w.mask → tail_in step ≡ Some w.step → word_in bs ≡ Some w
 word_of_parts bs front middle value step mask w cut listed cut_step is_step cut_mask is_mask a m s = rw (cut, listed, cut_step, is_step, cut_mask, is_mask, a, m, s) refl
 
--- the text before the step
+-- the text of a word before its step has no mark in it other than `/`
 middle_lacks : (mark : ℕ) → IsMark mark → eqb 47 mark ≡ false → (w : TraceWord) → lacks mark (atom_text w.value ++ tail_text (codes "/") w.mask) ≡ true
 middle_lacks mark is slash w = lacks-append mark (atom_text w.value) (tail_text (codes "/") w.mask) (atom_lacks mark is w.value) (tail_lacks mark 47 is slash w.mask)
 
--- the text before the comma
+-- the text of a word before its comma has no mark in it other than `/` and `+`
 front_lacks : (mark : ℕ) → IsMark mark → eqb 47 mark ≡ false → eqb 43 mark ≡ false → (w : TraceWord)
     → lacks mark (atom_text w.value ++ tail_text (codes "/") w.mask ++ tail_text (codes "+") w.step) ≡ true
 front_lacks mark is slash plus w =
@@ -74,11 +74,12 @@ word_back w is =
     (before_tail 47 value w.mask lacks_slash) (after_tail 47 value w.mask lacks_slash)
     (atom_back w.value is.value) (tail_back w.mask is.mask) (tail_back w.step is.step)
 
--- no word is empty
+-- a text is not empty if its first part is not
 some-append : (xs ys : List ℕ) → 0 < length xs → 0 < length (xs ++ ys)
 some-append [] ys h = absurd (omega arith)
 some-append (x ∷ xs) ys h = omega arith
 
+-- no valid word has an empty text
 pub word_some : (w : TraceWord) → IsWord w → 0 < length (word_text w)
 word_some w is =
     let value = atom_text w.value in

@@ -1,9 +1,9 @@
 //! The text of traces: RMI calls with their operands as register values, and the answers. The crate reads lines, prints
 //! words as text, and compares answers.
 //!
-//! A line is words with one space between two. A word is a name or a number, with what may follow it: a mask after `/`,
-//! a step after `+`, and a comma. A number keeps its base, so words and their texts determine each other: what is
-//! printed is read back as itself, and no two sentences are written alike (`law.rt`). No function takes memory.
+//! A line is words that are separated by single spaces. A word is a name or a number, and can have a mask after `/`, a
+//! step after `+`, and a comma. A number keeps its base, so words and their texts determine each other: what is printed
+//! is read back as itself, and no two sentences are written alike (`law.rt`). No function takes memory.
 //!
 //! | Module | It has |
 //! |---|---|

@@ -16,7 +16,7 @@ use Rattle.rtt.proofs.TableAt.{table_at-same, entry_at-some}
 use Rattle.rtt.proofs.RowsIn.{get-rows_in, row_in-place}
 use Rattle.rtt.proofs.RowRuns.{all_rows_each, all_rows_true}
 
--- a level, and the one above it
+-- the first IPA granule of a table of the given level, and the level above it
 module _ (level above ipa : ℕ) (next : above + 1 ≡ level) (place : is_table_place ipa level ≡ true) where
   pub facts : IsTablePlace ipa level
   facts = table_place ipa level place
@@ -42,7 +42,7 @@ module _ (level above ipa : ℕ) (next : above + 1 ≡ level) (place : is_table_
   pub level_inside : (width : ℕ) → ipa < served_space width → IsInside width level ipa
   level_inside width below = let l = low in let h = high in record { least = omega arith; most = omega arith; below = below }
 
-  -- the places of the table are those under the entry above it
+  -- the places of the table are those under the entry that leads to the table
   pub among_under : (l i : ℕ) → is_among level ipa (512 * covered_count level) (l, i) ≡ is_under (suc above) above ipa l i
   among_under l i =
       ⊎_elim
@@ -77,11 +77,12 @@ module _ (level above ipa : ℕ) (next : above + 1 ≡ level) (place : is_table_
         ∙ entry_at-some entries root level i granule (table_at-same entries root level i ipa (level_inside root.width below).most same ∙ at)
         ∙ ap (λ (n : ℕ). Some (entries granule n)) index
 
-    -- A table is unused exactly if each of its entries is UNASSIGNED.
+    -- A table is unused if each of its entries is UNASSIGNED.
     pub table_unused : ((index : ℕ) → index < 512 → is_unassigned (entries granule index) ≡ true) → is_table_unused (rows_in entries root) level ipa ≡ true
     unfolding is_table_unused
     table_unused each = all_rows_true is_unassigned (rows_in entries root) level ipa 512 (entries granule) table_rows each
 
+    -- Each entry of an unused table is UNASSIGNED.
     pub unused_entry : is_table_unused (rows_in entries root) level ipa ≡ true → (index : ℕ) → index < 512 → is_unassigned (entries granule index) ≡ true
     unfolding is_table_unused
     unused_entry unused = all_rows_each is_unassigned (rows_in entries root) level ipa 512 (entries granule) table_rows unused

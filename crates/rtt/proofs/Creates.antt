@@ -89,7 +89,7 @@ module _ (entries new : Entries) (granules : List Granule) (rd : ℕ) (root : Ro
     (fresh : (index : ℕ) → index < 512 → new granule index ≡ unassigned ripas)
     (kept : (other index : ℕ) → IsIn granules other InRtt (Some rd) → other ≢ granule → index < 512 → ((other ≡ table) × (index ≡ entry_index above ipa) → ⊥)
     → new other index ≡ entries other index) where
-  -- no granule of the realm is the new table's
+  -- a granule of the realm in a state other than DELEGATED is not the granule of the new table
   apart : (state : GranuleState) (other : ℕ) → state ≢ Delegated → IsIn granules other state (Some rd) → other ≢ granule
   apart state other differ is = apart_states granules other granule state Delegated (Some rd) realm is delegated differ
 
@@ -107,7 +107,7 @@ module _ (entries new : Entries) (granules : List Granule) (rd : ℕ) (root : Ro
     kept = λ l i other index inside is few _ out. let there = own.tables l i other inside is in kept other index there (apart_table other there) few out;
   }
 
-  -- The rows afterwards have the table.
+  -- The rows afterwards are the rows before, with a TABLE row for the new table and with the table's own rows.
   pub created_rows : rows_in new root ≡ with_table (rows_in entries root) level ipa granule ripas
   unfolding with_table
   created_rows =
@@ -117,7 +117,7 @@ module _ (entries new : Entries) (granules : List Granule) (rd : ℕ) (root : Ro
       ∙ ap (λ (k : ℕ). put_rows (λ _. unassigned ripas) (put_row rows above ipa (table_row granule)) k ipa 512) (below_rows.suc_above level above ipa next place)
       ∙ ap (λ (k : ℕ). put_rows (λ _. unassigned ripas) (put_row rows k ipa (table_row granule)) level ipa 512) (sym (below_rows.above_is level above ipa next place))
 
-  -- The realm owns its granules, and with them the new table's, which was DELEGATED.
+  -- The realm still owns its granules, and now owns that of the new table too, which was DELEGATED.
   pub created_granules : (new_granules : List Granule) → Moves granules new_granules granule InRtt (Some rd) → HasGranules new new_granules rd root
   created_granules new_granules moves = HasGranules-written entries new granules rd root above ipa table (table_row granule) own writes new_granules (record {
     tables_stay = λ l i t inside is _. let was = own.tables l i t inside is in moves.others t InRtt (Some rd) (apart_table t was) was;
@@ -128,7 +128,7 @@ module _ (entries new : Entries) (granules : List Granule) (rd : ℕ) (root : Ro
     data_once = λ l i page is _ _ _. let clash : None ≡ Some page = is in cc;
   })
 
-  -- a property of the written entry, of the new table's entries and of the kept ones is one of each entry afterwards
+  -- each entry afterwards has a property that the written entry, the new table's entries and the kept entries have
   pub created_each : (P : ℕ → ℕ → Type 0) → P table (entry_index above ipa) → ((index : ℕ) → index < 512 → P granule index)
       → ((l i t index : ℕ) → IsInside root.width l i → table_at entries root l i ≡ Some t → index < 512 → t ≢ granule → ((t ≡ table) × (index ≡ entry_index above ipa) → ⊥) → P t index)
       → (l i t index : ℕ) → IsInside root.width l i → table_at new root l i ≡ Some t → index < 512 → P t index

@@ -64,7 +64,7 @@ module _ (pages mid : List (List ℕ)) (flags : List Bool) (sized : IsSized mid 
   unfolding rows
   leaf_rows_are = leaf_rows (entries_of pages) (entries_of written_pages) granules rd root ipa table entry tables.own below at wrote kept
 
--- the row that a walk has found at the last level
+-- the entry that a walk has found at level 3 is the row that covers the IPA granule
 row_found : (pages : List (List ℕ)) (root : Root) (ipa table : ℕ) (entry : Row) → IsInside root.width 3 ipa → table_at (entries_of pages) root 3 ipa ≡ Some table
     → entry ≡ entries_of pages table (entry_index 3 ipa)
     → row_at (rows pages root) 3 ipa ≡ Some entry

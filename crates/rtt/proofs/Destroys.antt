@@ -41,7 +41,7 @@ module _ (entries new : Entries) (granules : List Granule) (rd : ℕ) (root : Ro
     (wrote : new table (entry_index above ipa) ≡ unassigned Destroyed)
     (kept : (other index : ℕ) → IsIn granules other InRtt (Some rd) → other ≢ granule → index < 512 → ((other ≡ table) × (index ≡ entry_index above ipa) → ⊥)
     → new other index ≡ entries other index) where
-  -- the table that is destroyed
+  -- before it is destroyed, the table serves the IPA granule at the given level
   pub its_place : table_at entries root level ipa ≡ Some granule
   its_place =
       ap (λ (k : ℕ). table_at entries root k ipa) (sym (below_rows.suc_above level above ipa next place))
@@ -68,7 +68,8 @@ module _ (entries new : Entries) (granules : List Granule) (rd : ℕ) (root : Ro
     kept = λ l i other index inside is few out apart. kept other index (own.tables l i other inside is) (no_other l i other inside is out) few apart;
   }
 
-  -- The rows afterwards are without the table.
+  -- The rows afterwards are the rows before without those of the table, and with a DESTROYED row in place of its TABLE
+  -- row.
   pub destroyed_rows : rows_in new root ≡ without_table (rows_in entries root) level ipa
   unfolding without_table
   destroyed_rows =
@@ -86,7 +87,7 @@ module _ (entries new : Entries) (granules : List Granule) (rd : ℕ) (root : Ro
       ∙ sym (get-insert_row dropped (above, first_covered above ipa) (l, i) (unassigned Destroyed)))
       ∙ ap (λ (k : ℕ). put_row dropped k ipa (unassigned Destroyed)) (sym (below_rows.above_is level above ipa next place))
 
-  -- The realm owns its granules, without the destroyed table's.
+  -- The realm still owns the granules of its other tables and of its pages, whatever becomes of the destroyed table's.
   pub destroyed_granules : (new_granules : List Granule) (state : GranuleState) (realm : Option ℕ) → Moves granules new_granules granule state realm → HasGranules new new_granules rd root
   destroyed_granules new_granules state realm moves =
       let was_in : IsIn granules granule InRtt (Some rd) = own.tables level ipa granule (below_rows.level_inside level above ipa next place root.width below) its_place in
@@ -100,7 +101,7 @@ module _ (entries new : Entries) (granules : List Granule) (rd : ℕ) (root : Ro
         data_once = λ l i page is _ _ _. let clash : None ≡ Some page = is in cc;
       })
 
-  -- a property of the written entry and of the kept ones is one of each entry afterwards
+  -- each entry afterwards has a property that the written entry and the kept entries have
   pub destroyed_each : (P : ℕ → ℕ → Type 0) → P table (entry_index above ipa)
       → ((l i t index : ℕ) → IsInside root.width l i → table_at entries root l i ≡ Some t → index < 512 → t ≢ granule → ((t ≡ table) × (index ≡ entry_index above ipa) → ⊥) → P t index)
       → (l i t index : ℕ) → IsInside root.width l i → table_at new root l i ≡ Some t → index < 512 → P t index

@@ -26,7 +26,7 @@ table_of-unassigned row e = ap (λ (h : EntryState). cond (elim h [ Unassigned �
 pub data_of-unassigned : (row : Row) → row.state ≡ Unassigned → data_of row ≡ None
 data_of-unassigned row e = ap (λ (h : EntryState). cond (elim h [ Unassigned ↦ false | Assigned ↦ true | Table ↦ false ]) row.granule None) e
 
--- an UNASSIGNED entry whose RIPAS becomes RAM
+-- an UNASSIGNED entry whose RIPAS becomes RAM is the UNASSIGNED entry with RIPAS RAM
 pub as_ram-unassigned : (row : Row) → row.state ≡ Unassigned → row.granule ≡ None → as_ram (Some row) ≡ unassigned Ram
 as_ram-unassigned row kind none = λ i. record { state = kind i; ripas = Ram; granule = none i }
 
@@ -38,7 +38,8 @@ table_of-plain row plain = ap (λ b. cond b row.granule None) plain
 pub table_of-table : (row : Row) → is_table row ≡ true → table_of row ≡ row.granule
 table_of-table row is = ap (λ b. cond b row.granule None) is
 
--- an entry that leads to a granule by a test of its kind passes the test, and has the granule
+-- if an entry leads to its granule only when it passes a test, and leads to a granule, it passes the test and has that
+-- granule
 leads : (test : Bool) (o : Option ℕ) (granule : ℕ) → cond test o None ≡ Some granule → (test ≡ true) × (o ≡ Some granule)
 leads true o granule e = (refl, e)
 leads false o granule e = cc

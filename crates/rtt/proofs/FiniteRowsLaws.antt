@@ -60,7 +60,7 @@ find_none at level (suc n) other ipa out =
       ]
     ]
 
--- the list of a level has the function's row at every other place
+-- the list of a level has the function's row at each place of that level before the list's end
 find_at : (at : ℕ → ℕ → Option Row) (level n ipa : ℕ) → ipa < n → find place_cmp (level, ipa) (rows_below at level n) ≡ at level ipa
 unfolding rows_below row_before
 find_at at level zero ipa lt = absurd (omega arith)
@@ -94,7 +94,7 @@ three_levels space at level ipa =
     ∙ find-append (level, ipa) (rows_below at 1 space) (rows_below at 2 space ++ rows_below at 3 space)
     ∙ ap (first_some (find place_cmp (level, ipa) (rows_below at 1 space))) (find-append (level, ipa) (rows_below at 2 space) (rows_below at 3 space))
 
--- The rows have what the function has.
+-- The map made from a bounded function has at each place what the function has there.
 pub get-rows_by : (space : ℕ) (at : ℕ → ℕ → Option Row) → IsBounded space at → (level ipa : ℕ) → get (rows_by space at) (level, ipa) ≡ at level ipa
 unfolding first_some
 get-rows_by space at bounded level ipa =

@@ -10,7 +10,8 @@ use Rattle.realm_model.specs.Command.Found.{with_unused_table}
 use Rattle.realm_model.proofs.Outcomes.{check_true, check_false}
 
 module _ (rows : Rows) (ipa level wanted ended : ℕ) (row : Row) (at : wanted ≡ level) (ends : walk rows ipa wanted ≡ Some (record { level = ended; row = row })) where
-  -- the walk towards the required level
+  -- a command goes on with the row where its walk ended if that row is of the required level, and otherwise fails with
+  -- the level of the row
   ended_so : (f : Row → Outcome) → with_row rows ipa level f ≡ check (ended == level) (error_rtt ended) (f row)
   unfolding with_end
   ended_so f = ap (λ o. elim o [ Some end ↦ check (end.level == level) (error_rtt end.level) (f end.row) | None ↦ Err (error_rtt 0) ]) (ap (walk rows ipa) (sym at) ∙ ends)

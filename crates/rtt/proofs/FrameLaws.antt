@@ -17,12 +17,12 @@ use Rattle.rtt.specs.Tables.{Entries, entries_of, table_at, entry_at, data_at, i
 use Rattle.rtt.specs.Realm.{IsInside, HasGranules, HasTables, LeavesAlone}
 use Rattle.rtt.proofs.PlaceLaws.{index_below, inside_place}
 
--- two functions that agree on the table, if there is one, have the same result
+-- two functions of an optional table have the same result if they agree on the table that is there
 option_and_then-same : {A : Type 0} (mapping_at new_look : ℕ → Option A) (o : Option ℕ) → ((table : ℕ) → o ≡ Some table → new_look table ≡ mapping_at table) → option_and_then new_look o ≡ option_and_then mapping_at o
 option_and_then-same mapping_at new_look None same = refl
 option_and_then-same mapping_at new_look (Some table) same = same table refl
 
--- entries that lead to the same tables
+-- new entries that lead to the same tables as the old ones
 module _ (entries new : Entries) (root : Root)
     (same : (level ipa table index : ℕ) → IsInside root.width level ipa → table_at entries root level ipa ≡ Some table → index < 512
     → table_of (new table index) ≡ table_of (entries table index)) where
@@ -39,7 +39,7 @@ module _ (entries new : Entries) (root : Root)
           ∙ option_and_then-same (λ t. table_of (entries t index)) (λ t. table_of (new t index)) (table_at entries root (suc l) ipa)
           (λ t at. same (suc l) ipa t index (record { least = omega arith; most = omega arith; below = inside.below }) at (index_below (suc l) ipa))
 
-  -- entries that lead to the same pages too
+  -- new entries that lead to the same tables and the same pages as the old ones
   module _ (same_data : (level ipa table index : ℕ) → IsInside root.width level ipa → table_at entries root level ipa ≡ Some table → index < 512
       → data_of (new table index) ≡ data_of (entries table index)) where
     pub same_data_at : (level ipa : ℕ) → IsInside root.width level ipa → data_at new root level ipa ≡ data_at entries root level ipa
@@ -49,7 +49,8 @@ module _ (entries new : Entries) (root : Root)
         ∙ option_and_then-same (λ t. data_of (entries t index)) (λ t. data_of (new t index)) (table_at entries root level ipa)
         (λ t at. same_data level ipa t index inside at (index_below level ipa))
 
-    -- The realm owns its granules as before, in any list of granules in which their states stay the same.
+    -- The realm still owns its granules, in any list of granules in which its RTT and DATA granules keep their states
+    -- and stay the realm's.
     pub HasGranules-same : (granules new_granules : List Granule) (rd : ℕ)
         → ((granule : ℕ) → IsIn granules granule InRtt (Some rd) → IsIn new_granules granule InRtt (Some rd))
         → ((granule : ℕ) → IsIn granules granule InData (Some rd) → IsIn new_granules granule InData (Some rd))
@@ -61,7 +62,7 @@ module _ (entries new : Entries) (root : Root)
       data_once = λ l i m j page inside inside' is is'. own.data_once l i m j page inside inside' (sym (same_data_at l i inside) ∙ is) (sym (same_data_at m j inside') ∙ is');
     }
 
--- entries that are the same
+-- new entries that are equal to the old ones
 module _ (entries new : Entries) (root : Root)
     (same : (level ipa table index : ℕ) → IsInside root.width level ipa → table_at entries root level ipa ≡ Some table → index < 512 → new table index ≡ entries table index) where
   pub same_entry_at : (level ipa : ℕ) → IsInside root.width level ipa → entry_at new root level ipa ≡ entry_at entries root level ipa

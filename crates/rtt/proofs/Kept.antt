@@ -35,14 +35,16 @@ module _ {pages : List (List ℕ)} {flags : List Bool} {granules : List Granule}
       → table_at (entries_of pages) root level ipa ≡ Some table → is_free flags table ≡ false
   table_taken level ipa table tables inside at = page_taken (tables.own.tables level ipa table inside at) rtt_used
 
-  -- a table after pages were written and no granule was given back
+  -- a table of the realm is still inside the machine and not free, if the number of pages and the free pages are
+  -- unchanged
   pub table_ready : (new_pages : List (List ℕ)) (new_flags : List Bool) {rd : ℕ} {root : Root} (level ipa table : ℕ)
       → length new_pages ≡ length pages → new_flags ≡ flags → HasTables pages granules rd root → IsInside root.width level ipa
       → table_at (entries_of pages) root level ipa ≡ Some table → table < length pages → (table < length new_pages) × (is_free new_flags table ≡ false)
   table_ready new_pages new_flags level ipa table as_many same_flags tables inside at within =
       (omega arith, ap (λ f. is_free f table) same_flags ∙ table_taken level ipa table tables inside at)
 
-  -- a table after another page was filled
+  -- a table of the realm is still inside the machine and not free after a page is filled, if the free pages are
+  -- unchanged
   pub table_beside : {new_pages : List (List ℕ)} {new_flags : List Bool} (page : ℕ) (bytes : List ℕ) {rd : ℕ} {root : Root} (level ipa table : ℕ)
       → new_pages ≡ set pages page bytes → new_flags ≡ flags → HasTables pages granules rd root → IsInside root.width level ipa
       → table_at (entries_of pages) root level ipa ≡ Some table → table < length pages → (table < length new_pages) × (is_free new_flags table ≡ false)

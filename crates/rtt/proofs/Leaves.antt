@@ -42,11 +42,11 @@ module _ (entries new : Entries) (granules : List Granule) (rd : ℕ) (root : Ro
     kept = λ l i granule index there is few _ apart. kept granule index (own.tables l i granule there is) few apart;
   }
 
-  -- The row afterwards is the entry.
+  -- The rows afterwards are the rows before with the entry put at its place.
   pub leaf_rows : rows_in new root ≡ put_row (rows_in entries root) 3 ipa entry
   leaf_rows = rows_in-last entries new granules rd root 3 ipa table entry own writes refl
 
-  -- a property of the written entry and of the kept ones is one of each entry afterwards
+  -- each entry afterwards has a property that the written entry and the kept entries have
   pub leaf_each : (P : ℕ → ℕ → Type 0) → P table (entry_index 3 ipa)
       → ((l i t index : ℕ) → IsInside root.width l i → table_at entries root l i ≡ Some t → index < 512 → ((t ≡ table) × (index ≡ entry_index 3 ipa) → ⊥) → P t index)
       → (l i t index : ℕ) → IsInside root.width l i → table_at new root l i ≡ Some t → index < 512 → P t index
@@ -71,7 +71,7 @@ module _ (entries new : Entries) (granules : List Granule) (rd : ℕ) (root : Ro
     data_once = data_once;
   })
 
-  -- The realm owns its granules, and with them the page that the entry leads to, which was DELEGATED.
+  -- The realm still owns its granules, and now owns the page that the entry leads to, which was DELEGATED.
   pub leaf_mapped : (new_granules : List Granule) (ripas : Ripas) (page : ℕ) (realm : Option ℕ) → entry ≡ assigned ripas page
       → IsIn granules page Delegated realm → Moves granules new_granules page InData (Some rd) → HasGranules new new_granules rd root
   leaf_mapped new_granules ripas page realm entry_is was moves =
@@ -85,7 +85,8 @@ module _ (entries new : Entries) (granules : List Granule) (rd : ℕ) (root : Ro
       (λ other is. subst (λ (k : ℕ). IsIn new_granules k InData (Some rd)) (sym (is_page other is)) moves.now)
       (λ l i other is there was_at _. data_apart other (own.«data» l i other there was_at) (is_page other is))
 
-  -- The realm owns its granules, without the page that the entry led to.
+  -- The realm still owns its granules if the new entry is UNASSIGNED, and the page that the old entry led to moves to
+  -- any state.
   pub leaf_unmapped : (new_granules : List Granule) (page : ℕ) (state : GranuleState) (realm : Option ℕ) → entry.state ≡ Unassigned
       → data_of old_entry ≡ Some page → Moves granules new_granules page state realm → HasGranules new new_granules rd root
   leaf_unmapped new_granules page state realm entry_is was moves =

@@ -32,7 +32,7 @@ use Rattle.rtt.proofs.Destroys.{its_place, destroyed_rows, destroyed_granules, d
 use Rattle.rtt.proofs.Walks.{table_at-below}
 use Rattle.rtt.proofs.Written.{IsExact, same_entry, same_exact, entry_written, exact_written, word_as}
 
--- whether the table has no ASSIGNED and no TABLE entry
+-- a table is unused exactly if `answer` is true, which says that its entries are all UNASSIGNED
 pub is_unused : (pages : List (List ℕ)) (root : Root) (level wanted ended ipa table granule : ℕ) (entry : Row) (answer : Bool) → wanted + 1 ≡ level → is_table_place ipa level ≡ true
     → IsInside root.width ended ipa → ended ≡ wanted → table_at (entries_of pages) root ended ipa ≡ Some table → entry ≡ entries_of pages table (entry_index ended ipa) → Some granule ≡ table_of entry
     → (IsTrue answer ↔ ((index : ℕ) → 0 ≤ index → index < 512 → is_unassigned (entries_of pages granule index) ≡ true))

@@ -10,11 +10,12 @@ use Rattle.rtt.specs.Calls.{Keeps, KeepsRest}
 use Rattle.rtt.specs.Realm.{IsBacked, HasTables, LeavesOthers}
 use Rattle.rtt.proofs.Owned.{Moves, apart_realms}
 
--- a granule of one realm is in no state of another
+-- an RTT granule of one realm is not a granule of another realm, in any state
 of_one_realm : (granules : List Granule) (rd other granule : ℕ) (state : GranuleState) → other ≢ rd → IsIn granules granule InRtt (Some rd) → IsIn granules granule state (Some other) → ⊥
 of_one_realm granules rd other granule state apart its others = apart_realms granules granule granule state InRtt other rd others its apart (λ i. granule)
 
--- no granule but one moves, and that one is not another realm's
+-- other realms are left alone if one granule moves that is of no other realm, and pages change only there and in the
+-- realm's RTT granules
 pub others_left : (pages new_pages : List (List ℕ)) (granules new_granules : List Granule) (rd moved : ℕ) (state new_state : GranuleState) (realm new_realm : Option ℕ)
     → IsIn granules moved state realm → ((other : ℕ) → other ≢ rd → realm ≢ Some other) → Moves granules new_granules moved new_state new_realm
     → ((granule : ℕ) → granule ≢ moved → ¬ (IsIn granules granule InRtt (Some rd)) → page_at new_pages granule ≡ page_at pages granule)
@@ -28,7 +29,7 @@ others_left pages new_pages granules new_granules rd moved state new_state realm
       «data» = λ granule is. moves.others granule _ _ (beside granule _ is) is;
     }
 
--- no granule moves at all
+-- other realms are left alone if no granule moves, and only pages of the realm's RTT granules change
 pub others_kept : (pages new_pages : List (List ℕ)) (granules : List Granule) (rd : ℕ)
     → ((granule : ℕ) → ¬ (IsIn granules granule InRtt (Some rd)) → page_at new_pages granule ≡ page_at pages granule)
     → LeavesOthers rd pages granules new_pages granules
@@ -38,10 +39,11 @@ others_kept pages new_pages granules rd changed other apart = record {
   «data» = λ granule is. is;
 }
 
--- nothing changes
+-- if nothing changes, the invariants outside the realm's tables are kept
 pub rest_kept : {pages : List (List ℕ)} {flags : List Bool} {granules : List Granule} {rd : ℕ} → IsBacked pages flags granules → KeepsRest rd pages flags granules pages flags granules
 rest_kept {pages = pages} {granules = granules} {rd = rd} backed = record { backed = backed; flags = refl; other_realms = others_kept pages pages granules rd (λ granule apart. refl) }
 
+-- if nothing changes, all invariants are kept
 pub all_kept : {pages : List (List ℕ)} {flags : List Bool} {granules : List Granule} {rd : ℕ} {root : Root}
     → IsBacked pages flags granules → HasTables pages granules rd root → Keeps rd root pages flags granules pages flags granules
 all_kept backed tables = record { tables = tables; rest = rest_kept backed }

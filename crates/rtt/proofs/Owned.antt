@@ -20,7 +20,7 @@ use Rattle.rtt.proofs.Writes.{Writes, entry_at-written, table_cases}
 
 -- ---- a granule that moves to another state
 
--- One granule is in a state afterwards, and each other one is as it was.
+-- One granule has the given state and realm afterwards, and each other granule is as it was.
 pub record Moves (granules new_granules : List Granule) (granule : ℕ) (state : GranuleState) (realm : Option ℕ) : Type 0 where
   pub now : IsIn new_granules granule state realm
   pub others : (other : ℕ) (other_state : GranuleState) (other_realm : Option ℕ) → other ≢ granule → IsIn granules other other_state other_realm → IsIn new_granules other other_state other_realm
@@ -52,8 +52,8 @@ apart_realms granules granule other state other_state realm other_realm is other
 
 -- ---- an entry that is written
 
--- The granules afterwards: those of the tables and pages that stay, and of the new ones. The realm had none of the new
--- ones before.
+-- The tables and pages that stay, and the new ones, are RTT and DATA granules of the realm afterwards. No new table is
+-- a table that stays, and no new page is a page that stays.
 pub record Fits (entries : Entries) (new_granules : List Granule) (rd : ℕ) (root : Root) (level ipa : ℕ) (entry : Row) : Type 0 where
   pub tables_stay : (other_level other table : ℕ) → IsInside root.width other_level other → table_at entries root other_level other ≡ Some table
       → (other_level ≡ suc level → other / covered_count level ≢ ipa / covered_count level) → IsIn new_granules table InRtt (Some rd)
@@ -97,7 +97,8 @@ module _ (entries new : Entries) (granules : List Granule) (rd : ℕ) (root : Ro
             ]
       ]
 
-  -- The realm owns its granules again.
+  -- The realm owns the granules of its tables and data pages after the entry is written, if the granules satisfy
+  -- `Fits`.
   pub HasGranules-written : (new_granules : List Granule) → Fits entries new_granules rd root level ipa entry → HasGranules new new_granules rd root
   HasGranules-written new_granules fits = record {
     tables = λ l i t inside is. ⊎_elim (λ n. fits.table_new t (deep l n.1 inside.most) n.0) (λ o. fits.tables_stay l i t inside o.0 o.1)

@@ -94,7 +94,7 @@ place_is_first level ipa other first same = sym first ∙ ap (λ (q : ℕ). q * 
 
 -- ---- an entry of a level, and those one level down
 
--- the IPA granule is at the wanted level, and under the entry of a level that covers another
+-- a place is of level `wanted`, and the entry of level `level` that covers `ipa` covers the place's IPA granule too
 abbrev pub is_under : ℕ → ℕ → ℕ → ℕ → ℕ → Bool
 is_under wanted level ipa other_level other = other_level == wanted && other / covered_count level == ipa / covered_count level
 

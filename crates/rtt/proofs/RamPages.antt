@@ -25,7 +25,7 @@ use Rattle.rtt.proofs.RamRows.{pages_unassigned, page_unassigned, ram_tables, ra
 use Rattle.rtt.proofs.OtherRealms.{others_kept}
 use Rattle.rtt.proofs.Written.{IsEntry-entries_of, same_entry, entry_filled, exact_after, word_unfilled}
 
--- IPA granules that one table serves have their entries in it
+-- the entries of a run of pages are all in the table that serves the first page
 pub fits_table : (ipa level first count : ℕ) → level ≡ 3 → first ≡ entry_index level ipa → is_page_run ipa count ≡ true → first + count ≤ 512
 fits_table ipa level first count last first_is run =
     let start : first ≡ ipa / 1 % 512 = first_is ∙ ap (λ (l : ℕ). entry_index l ipa) last in
@@ -34,7 +34,7 @@ fits_table ipa level first count last first_is run =
     let one_table : ipa / 512 ≡ (ipa + count - 1) / 512 = eqb-true (ipa / 512) ((ipa + count - 1) / 512) parts.1 in
     omega (arith, start, some, one_table)
 
--- whether the rows are all UNASSIGNED
+-- the rows of a run of pages are all UNASSIGNED exactly if `answer` is true, which says that of their entries
 pub pages_unused : (pages : List (List ℕ)) (root : Root) (level ipa table first count : ℕ) (answer : Bool) → IsInside root.width level ipa → level ≡ 3
     → table_at (entries_of pages) root level ipa ≡ Some table
     → first ≡ entry_index level ipa → first + count ≤ 512

@@ -26,7 +26,8 @@ module _ (entries : Entries) (root : Root) (ipa table count : ℕ) (below : ipa 
   abbrev start : ℕ
   start = entry_index 3 ipa
 
-  -- the places of the pages
+  -- page k of the run is at a place of level 3, has entry `start + k`, and is served by the table that serves the first
+  -- page
   page_place : (k : ℕ) → k < count → (is_place root.width 3 (ipa + k * covered_count 3) ≡ true) × (entry_index 3 (ipa + k * covered_count 3) ≡ start + k)
       × ((ipa + k * covered_count 3) / served_count 3 ≡ ipa / served_count 3)
   page_place k few =
@@ -51,10 +52,11 @@ module _ (entries : Entries) (root : Root) (ipa table count : ℕ) (below : ipa 
       ∙ entry_at-some entries root 3 n table (page_table k few)
       ∙ ap (λ (j : ℕ). Some (entries table j)) (page_place k few).1
 
-  -- All rows are UNASSIGNED exactly if these entries are.
+  -- All rows of the pages are UNASSIGNED if all entries of the pages are.
   pub pages_unassigned : ((k : ℕ) → k < count → is_unassigned (entries table (start + k)) ≡ true) → all_rows is_unassigned (rows_in entries root) 3 ipa count ≡ true
   pages_unassigned each = all_rows_true is_unassigned (rows_in entries root) 3 ipa count (λ k. entries table (start + k)) page_row each
 
+  -- All entries of the pages are UNASSIGNED if all rows of the pages are.
   pub page_unassigned : all_rows is_unassigned (rows_in entries root) 3 ipa count ≡ true → (k : ℕ) → k < count → is_unassigned (entries table (start + k)) ≡ true
   page_unassigned all = all_rows_each is_unassigned (rows_in entries root) 3 ipa count (λ k. entries table (start + k)) page_row all
 
@@ -67,7 +69,7 @@ module _ (entries : Entries) (root : Root) (ipa table count : ℕ) (below : ipa 
     InRun : ℕ → ℕ → Type 0
     InRun granule index = (k : ℕ) × (k < count) × (granule ≡ table) × (index ≡ start + k)
 
-    -- an entry is one of those that become RAM, or as it was
+    -- an entry is one of those whose RIPAS becomes RAM, or is as it was
     entry_cases : (granule index : ℕ) → IsIn granules granule InRtt (Some rd) → index < 512 → InRun granule index ⊎ ((InRun granule index → ⊥) × (new granule index ≡ entries granule index))
     unfolding InRun
     entry_cases granule index there few =
@@ -96,7 +98,7 @@ module _ (entries : Entries) (root : Root) (ipa table count : ℕ) (below : ipa 
       | inr beside ↦ ap f beside.1
     ]
 
-    -- the tables stay
+    -- the table of each level that serves an IPA granule is the same afterwards
     pub ram_tables : (l i : ℕ) → IsInside root.width l i → table_at new root l i ≡ table_at entries root l i
     ram_tables = same_table_at entries new root (still table_of table_of-unassigned)
 
@@ -105,7 +107,7 @@ module _ (entries : Entries) (root : Root) (ipa table count : ℕ) (below : ipa 
     ram_granules = HasGranules-same entries new root (still table_of table_of-unassigned)
         (still data_of data_of-unassigned) granules granules rd (λ _ is. is) (λ _ is. is) own
 
-    -- The rows afterwards have RAM there.
+    -- The rows afterwards are the rows before, with RIPAS RAM for the pages.
     pub ram_rows : rows_in new root ≡ with_ram (rows_in entries root) ipa count
     unfolding with_ram InRun
     ram_rows = rows_in-from new root _ ram_row
@@ -130,7 +132,7 @@ module _ (entries : Entries) (root : Root) (ipa table count : ℕ) (below : ipa 
             → row_in new root l i ≡ get (put_rows as_ram rows 3 ipa count) (l, i)
         beside l i out same = same ∙ sym (get-put_rows_beside as_ram rows 3 ipa count (l, i) out ∙ get-rows_in entries root l i)
 
-        -- an entry of the run is at a place of the run
+        -- entry `start + k` of the table is at the place of page k
         its_place : (l i t k : ℕ) → IsInside root.width l i → first_covered l i ≡ i → table_at entries root l i ≡ Some t → t ≡ table → k < count
             → entry_index l i ≡ start + k → ◌≡◌ {A = ℕ × ℕ} (l, i) (3, ipa + k * covered_count 3)
         its_place l i t k inside first is same few index =

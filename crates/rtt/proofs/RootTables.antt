@@ -27,7 +27,7 @@ use Rattle.rtt.proofs.StartTables.{get_or-set_each_inside, get_or-set_each_besid
 use Rattle.rtt.proofs.Walks.{start_in}
 use Rattle.rtt.proofs.Written.{IsExact, entry_read, exact_read}
 
--- whether starting tables may be destroyed
+-- no row of the starting tables leads to a table exactly if `answer` is true, which says that of their entries
 pub no_table_below : (pages : List (List ℕ)) (root : Root) (answer : Bool)
     → (IsTrue answer ↔ ((number index : ℕ) → number < start_count root.width → index < 512 → is_table (entries_of pages (root.first + number) index) ≡ false))
     → answer ≡ not (has_root_table root.width (rows pages root))
@@ -52,7 +52,7 @@ module _ (pages new_pages : List (List ℕ)) (flags : List Bool) (granules new_g
   fits : root.first + start_count root.width ≤ length granules
   fits = starts_fit root (length granules) (λ number few. (was number few).inside)
 
-  -- a granule is that of a starting table, or another one
+  -- a granule is that of a starting table, or is below or above all of them
   start_cases : (granule : ℕ) → ((number : ℕ) × (number < start_count root.width) × (granule ≡ root.first + number)) ⊎ ((granule < root.first) ⊎ (root.first + start_count root.width ≤ granule))
   start_cases granule =
       elim (cases_lt granule root.first) [
@@ -94,7 +94,7 @@ module _ (pages new_pages : List (List ℕ)) (flags : List Bool) (granules new_g
   pub all_moved : (number : ℕ) → number < start_count root.width → IsIn new_granules (root.first + number) to new_realm
   all_moved number few = let count = granule_count in let lies = (was number few).inside in record { inside = omega arith; is = granule_moved number few }
 
-  -- a granule of another state, or of another realm, is as it was
+  -- a granule that is not of the state and realm that the starting tables had keeps its page, its state and its realm
   granule_stays : (granule : ℕ) (state : GranuleState) (its : Option ℕ) → (IsIn granules granule from realm → ⊥) → IsIn granules granule state its
       → (page_at new_pages granule ≡ page_at pages granule) × IsIn new_granules granule state its
   granule_stays granule state its apart is =
@@ -136,7 +136,8 @@ pub record Opened (pages new_pages : List (List ℕ)) (flags : List Bool) (granu
   pub backed : IsBacked new_pages flags new_granules
   pub other_realms : LeavesOthers rd pages granules new_pages new_granules
 
--- zero pages are starting tables whose entries are UNASSIGNED and EMPTY
+-- DELEGATED granules that are cleared and become RTT granules are starting tables whose entries are UNASSIGNED and
+-- EMPTY
 pub opened : (pages new_pages : List (List ℕ)) (flags : List Bool) (granules new_granules : List Granule) (rd : ℕ) (root : Root)
     → IsBacked pages flags granules → ((number : ℕ) → number < start_count root.width → IsIn granules (root.first + number) Delegated None)
     → new_pages ≡ set_each zero_page (starting_tables root) pages → new_granules ≡ with_states granules (starting_tables root) InRtt (Some rd)

@@ -23,7 +23,7 @@ use Rattle.rtt.proofs.TableAt.{table_at-root, entry_at-some}
 use Rattle.rtt.proofs.RowsIn.{get-rows_in, rows_in-from, row_in-place, row_in-none}
 use Rattle.rtt.proofs.RowRuns.{get-put_rows_beside, all_rows_each, all_rows_fails}
 
--- the places of level 1
+-- the first IPA granule of each entry of the starting tables is a place of level 1
 root_place : (width k : ℕ) → k < 512 * start_count width → is_place width 1 (0 + k * 262144) ≡ true
 root_place width k few =
     let first : (0 + k * 262144) / 262144 * 262144 ≡ 0 + k * 262144 = omega arith in
@@ -68,7 +68,7 @@ module _ (entries : Entries) (root : Root) (blank : (number index : ℕ) → num
       same_number : (n m : ℕ) → root.first + n ≡ root.first + m → n ≡ m
       same_number n m e = omega arith
 
-  -- a property of the entries of all starting tables is one of each entry
+  -- each entry of the realm's tables has a property that all entries of the starting tables have
   pub root_each : (P : ℕ → ℕ → Type 0) → ((number index : ℕ) → number < start_count root.width → index < 512 → P (root.first + number) index)
       → (l i t index : ℕ) → IsInside root.width l i → table_at entries root l i ≡ Some t → index < 512 → P t index
   root_each P its l i t index inside is few =

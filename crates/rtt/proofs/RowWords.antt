@@ -18,20 +18,20 @@ use Rattle.rtt.proofs.TableAt.{table_at-root, table_at-next}
 use Rattle.rtt.proofs.RowsIn.{row_at-rows_in, get-rows_in, row_in-place, row_in-none}
 use Rattle.rtt.proofs.Written.{IsEntry-entries_of}
 
--- an entry that is there is in a table
+-- if an optional table has an entry at an index, the table is there and has that entry
 in_some : (entries : Entries) (index : ℕ) (o : Option ℕ) (row : Row) → option_and_then (λ t. Some (entries t index)) o ≡ Some row → (t : ℕ) × (o ≡ Some t) × (entries t index ≡ row)
 in_some entries index None row e = cc
 in_some entries index (Some t) row e = (t, refl, same_Some _ _ e)
 
 module _ (pages : List (List ℕ)) (root : Root) where
-  -- a row that is there is read in a table
+  -- a row that covers an IPA granule is the entry for it in a table of the row's level
   found : (level ipa : ℕ) (row : Row) → IsInside root.width level ipa → row_at (rows pages root) level ipa ≡ Some row
       → (t : ℕ) × (table_at (entries_of pages) root level ipa ≡ Some t) × (entries_of pages t (entry_index level ipa) ≡ row)
   unfolding rows
   found level ipa row inside at =
       in_some (entries_of pages) (entry_index level ipa) (table_at (entries_of pages) root level ipa) row (sym (row_at-rows_in (entries_of pages) root level ipa inside) ∙ at)
 
-  -- the table by the rows is the table by the entries
+  -- the table that serves an IPA granule by the rows serves it by the entries too
   table_found : (level ipa table : ℕ) → IsInside root.width level ipa → table_by (rows pages root) root level ipa ≡ Some table → table_at (entries_of pages) root level ipa ≡ Some table
   table_found zero ipa table inside at = let low = inside.least in absurd (omega arith)
   table_found (suc zero) ipa table inside at = table_at-root (entries_of pages) root ipa ∙ at

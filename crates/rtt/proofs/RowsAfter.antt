@@ -14,7 +14,7 @@ use Rattle.rtt.proofs.RowsIn.{get-rows_in, rows_in-from, row_in-place, row_in-no
 use Rattle.rtt.proofs.RowRuns.{get-insert_row}
 use Rattle.rtt.proofs.Writes.{Writes, entry_at-written}
 
--- at a place, the entry's own test is that of the place
+-- a place is that of an entry exactly if it is of the entry's level and under the entry
 own_place : (level ipa l i : ℕ) → first_covered l i ≡ i → is_at (l, i) (level, first_covered level ipa) ≡ is_under level level ipa l i
 own_place level ipa l i first =
     elim (place_tells (l, i) (level, first_covered level ipa)) [
@@ -60,7 +60,7 @@ module _ (entries new : Entries) (granules : List Granule) (rd : ℕ) (root : Ro
       same_both true x = refl
       same_both false x = refl
 
-  -- below the last level there is no row
+  -- if the entry is of level 3, the rows afterwards are the rows before with the entry put at its place
   pub rows_in-last : level ≡ 3 → rows_in new root ≡ put_row (rows_in entries root) level ipa entry
   rows_in-last last =
       rows_in-from new root _ (λ l i.

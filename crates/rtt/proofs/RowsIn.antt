@@ -42,7 +42,7 @@ pub row_in-none : (entries : Entries) (root : Root) (level ipa : ℕ) → is_pla
 unfolding row_in
 row_in-none entries root level ipa place = ap (λ b. cond b (entry_at entries root level ipa) None) place
 
--- The row that covers an IPA granule is the entry that does.
+-- The row of a level that covers an IPA granule is the entry that covers it in the table of that level.
 pub row_at-rows_in : (entries : Entries) (root : Root) (level ipa : ℕ) → IsInside root.width level ipa → row_at (rows_in entries root) level ipa ≡ entry_at entries root level ipa
 row_at-rows_in entries root level ipa inside =
     get-rows_in entries root level (first_covered level ipa)

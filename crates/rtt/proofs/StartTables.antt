@@ -14,7 +14,7 @@ use Rattle.realm_model.specs.StepLaw.{set_each}
 -- ---- a list with one element at each place of a run
 
 module _ {X : Type 0} (x : X) where
-  -- one more place
+  -- setting the elements of a run of n + 1 is setting those of the run of n, and then the last one
   pub set_each-range_more : (first n : ℕ) (xs : List X) → set_each x (range_with_len first (suc n)) xs ≡ set (set_each x (range_with_len first n) xs) (first + n) x
   unfolding set_each
   set_each-range_more first zero xs = let same : first ≡ first + 0 = omega arith in ap (λ (k : ℕ). set xs k x) same
@@ -22,7 +22,7 @@ module _ {X : Type 0} (x : X) where
       let same : first + 1 + n ≡ first + suc n = omega arith in
       set_each-range_more (first + 1) n (set xs first x) ∙ ap (λ (k : ℕ). set (set_each x (range_with_len (first + 1) n) (set xs first x)) k x) same
 
-  -- a place beside the run
+  -- setting the elements of a run leaves each other element unchanged
   pub get_or-set_each_beside : (first n : ℕ) (xs : List X) (k : ℕ) (d : X) → (k < first) ⊎ (first + n ≤ k) → get_or (set_each x (range_with_len first n) xs) k d ≡ get_or xs k d
   unfolding set_each
   get_or-set_each_beside first zero xs k d out = refl
@@ -31,7 +31,7 @@ module _ {X : Type 0} (x : X) where
       get_or-set_each_beside (first + 1) n (set xs first x) k d (⊎_elim (λ (low : k < first). inl (omega arith)) (λ (high : first + suc n ≤ k). inr (omega arith)) out)
       ∙ get_or-set_other xs first k x d apart
 
-  -- a place of the run
+  -- after the elements of a run inside the list are set, each of them has the new value
   pub get_or-set_each_inside : (first n : ℕ) (xs : List X) (k : ℕ) (d : X) → first ≤ k → k < first + n → first + n ≤ length xs → get_or (set_each x (range_with_len first n) xs) k d ≡ x
   unfolding set_each
   get_or-set_each_inside first zero xs k d low high fits = absurd (omega arith)
@@ -46,7 +46,7 @@ module _ {X : Type 0} (x : X) where
 
 -- ---- starting tables by number
 
--- a property of all starting tables is one of the table with a given number
+-- the starting table with a given number has a property that all starting tables have
 pub start_is : (P : ℕ → Type 0) (root : Root) → All P (starting_tables root) → (number : ℕ) → number < start_count root.width → P (root.first + number)
 unfolding starting_tables
 start_is P root all number few =
@@ -62,10 +62,10 @@ starts_fit root n each =
 
 -- ---- IPA granules that a starting table serves
 
--- the number of the starting table that serves an IPA granule
+-- the index of the starting table that serves an IPA granule is below the number of starting tables
 pub start_index_below : (width ipa : ℕ) → ipa < served_space width → start_index ipa < start_count width
 start_index_below width ipa below = omega arith
 
--- the first IPA granule of the starting table with a given number
+-- the first IPA granule of the starting table with a given number is in the address space, and is served by that table
 pub first_served : (width number : ℕ) → number < start_count width → (number * served_count 1 < served_space width) × (start_index (number * served_count 1) ≡ number)
 first_served width number few = (omega arith, omega arith)

@@ -66,7 +66,8 @@ pub page_in : (pages : List (List ℕ)) (granules : List Granule) (rd : ℕ) (ro
 page_in pages granules rd root level ipa table page entry tables inside at is leads =
     tables.own.«data» level ipa page inside (ap (option_and_then (λ t. data_of (entries_of pages t (entry_index level ipa)))) at ∙ ap data_of (sym is) ∙ leads)
 
--- the entry at which a walk ends
+-- a walk over the rows ends at the entry for the IPA granule that is of level `wanted`, or is above it and leads to no
+-- table
 pub walk_found : (pages : List (List ℕ)) (root : Root) (level wanted ipa table : ℕ) (entry : Row) → IsInside root.width level ipa → level ≤ wanted → wanted ≤ 3
     → table_at (entries_of pages) root level ipa ≡ Some table → entry ≡ entries_of pages table (entry_index level ipa) → (level ≡ wanted) ⊎ (table_of entry ≡ None)
     → walk (rows pages root) ipa wanted ≡ Some (record { level = level; row = entry })

@@ -9,7 +9,7 @@ use Rattle.realm_model.specs.declared.states.Ripas.TheVariants.{Empty, Ram, Dest
 use Rattle.realm_model.specs.Rows.{Row}
 use Rattle.rtt.specs.Word.{kind_bits, ripas_bits, address_bits, entry_word, kind_of, ripas_of, decoded, entry_of, IsEncodable, IsEntry}
 
--- the three parts of a word
+-- the kind, the RIPAS and the granule from which a word is made are read back from it
 parts : (kind ripas granule : ℕ) → kind < 4 → ripas < 4 → granule < 4096
     → ((kind + ripas * 4 + granule * 4096) % 4 ≡ kind) × ((kind + ripas * 4 + granule * 4096) / 4 % 4 ≡ ripas)
     × ((kind + ripas * 4 + granule * 4096) / 4096 % 4096 ≡ granule)
@@ -41,7 +41,7 @@ back Table ripas None is = absurd is
 back Table ripas (Some granule) is =
     by_parts 2 granule ripas (omega arith) is.0 ∙ ap (λ r. let row : Row = record { state = Table; ripas = r; granule = Some granule } in row) (sym is.1)
 
--- the entry that is read from an entry's word
+-- the word that encodes an entry is decoded to that entry
 pub entry_of-entry_word : (row : Row) → IsEntry row → entry_of (entry_word row) ≡ row
 entry_of-entry_word row is = back row.state row.ripas row.granule is
 
@@ -54,7 +54,7 @@ small Assigned ripas (Some granule) is = let few = ripas_small ripas in let belo
 small Table ripas None is = absurd is
 small Table ripas (Some granule) is = let few = ripas_small ripas in let below : granule < 4096 = is.0 in omega arith
 
--- an entry's word is one
+-- the word that encodes an entry fits in 64 bits
 pub entry_word_fits : (row : Row) → IsEntry row → entry_word row < 2 ^ 64
 entry_word_fits row is = small row.state row.ripas row.granule is
 

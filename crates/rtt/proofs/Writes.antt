@@ -42,11 +42,11 @@ module _ (entries new : Entries) (granules : List Granule) (rd : ℕ) (root : Ro
   abbrev old_entry : Row
   old_entry = entries table (entry_index level ipa)
 
-  -- the tables of an IPA granule that the entry covers
+  -- the table of the written entry serves each IPA granule that the entry covers
   pub table_there : (other : ℕ) → other / covered_count level ≡ ipa / covered_count level → table_at entries root level other ≡ Some table
   table_there other same = table_at-same entries root level other ipa w.inside.most (table_of_entry level other ipa same) ∙ w.at
 
-  -- an entry of another place is another entry
+  -- an entry in the table and at the index of the written one is of its level, and covers the same IPA granules
   pub same_entry : (other_level other other_table : ℕ) → IsInside root.width other_level other → table_at entries root other_level other ≡ Some other_table
       → other_table ≡ table → entry_index other_level other ≡ entry_index level ipa
       → (other_level ≡ level) × (other / covered_count level ≡ ipa / covered_count level)
@@ -56,7 +56,8 @@ module _ (entries new : Entries) (granules : List Granule) (rd : ℕ) (root : Ro
       let i : entry_index level other ≡ entry_index level ipa = ap (λ (k : ℕ). entry_index k other) (sym both.0) ∙ index in
       (both.0, entry_of_index level other ipa t i)
 
-  -- the table that was below the entry
+  -- before the write, IPA granules under the entry are served at the next level by the table that the old entry leads
+  -- to
   pub table_under : (other_level other : ℕ) → other_level ≡ suc level → other / covered_count level ≡ ipa / covered_count level
       → table_at entries root other_level other ≡ table_of old_entry
   table_under other_level other e same =
@@ -142,8 +143,8 @@ module _ (entries new : Entries) (granules : List Granule) (rd : ℕ) (root : Ro
         | inr u ↦ inr (sym (now ∙ ap (λ c. cond c (table_of entry) (table_at entries root l i)) u.0) ∙ is, u.1)
       ]
 
-  -- A property of the written entry, of the entries in the table below it and of the kept ones is one of each entry
-  -- after.
+  -- Each entry afterwards has a property that the written entry, the entries in the table below it and the kept entries
+  -- have.
   pub each_written : (P : ℕ → ℕ → Type 0) → P table (entry_index level ipa)
       → ((child index : ℕ) → level < 3 → table_of entry ≡ Some child → index < 512 → P child index)
       → ((l i t index : ℕ) → IsInside root.width l i → table_at entries root l i ≡ Some t → index < 512 → (l ≡ suc level → i / covered_count level ≢ ipa / covered_count level)

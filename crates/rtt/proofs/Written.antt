@@ -11,7 +11,7 @@ use Rattle.rtt.specs.Word.{entry_word, entry_of, IsEntry}
 use Rattle.rtt.proofs.WordLaws.{entry_of-entry_word, entry_word_fits, IsEntry-entry_of}
 use Rattle.rtt.specs.Tables.{entries_of}
 
--- a word is that of its entry
+-- a word is the one that encodes the entry decoded from it
 abbrev pub IsExact : List (List ℕ) → ℕ → ℕ → Type 0
 IsExact pages granule index = word_at pages granule index ≡ entry_word (entries_of pages granule index)
 
@@ -58,13 +58,13 @@ module _ (pages : List (List ℕ)) (flags : List Bool) (sized : IsSized pages fl
   pub exact_written : IsExact new_pages table index
   exact_written = exact_read new_pages table index row is word_written
 
-  -- any other word
+  -- each word other than the written one stays the same
   pub word_kept : (granule other : ℕ) → other < 512 → ((granule ≡ table) × (other ≡ index) → ⊥) → word_at new_pages granule other ≡ word_at pages granule other
   word_kept granule other lt apart =
       word_at-with_word_other pages table index (entry_word row) within whole few granule other
       (⊎_elim (λ same. inr (λ at. apart (same, at))) (λ ne. inl ne) (cases_eq granule table)) lt
 
-  -- a word of a page that was as in other pages
+  -- each word other than the written one is the word in `before`, if its page was equal to the page there
   pub word_as : (before : List (List ℕ)) (granule other : ℕ) → page_at pages granule ≡ page_at before granule → other < 512 → ((granule ≡ table) × (other ≡ index) → ⊥)
       → word_at new_pages granule other ≡ word_at before granule other
   word_as before granule other same lt apart = word_kept granule other lt apart ∙ ap (λ (page : List ℕ). word_of_page page other) same
@@ -78,7 +78,7 @@ module _ (pages new_pages : List (List ℕ)) (table first count : ℕ) (row : Ro
   pub entry_filled : (index : ℕ) → first ≤ index → index < first + count → entries_of new_pages table index ≡ row
   entry_filled index low high = entry_read new_pages table index row is (written index low high)
 
-  -- any other word
+  -- each word other than the written ones stays the same
   pub word_unfilled : (granule index : ℕ) → index < 512 → ((granule ≡ table) × (first ≤ index) × (index < first + count) → ⊥) → word_at new_pages granule index ≡ word_at pages granule index
   word_unfilled granule index few apart =
       ⊎_elim

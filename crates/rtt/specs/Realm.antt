@@ -39,8 +39,8 @@ abbrev pub AreWords : List (List ℕ) → Root → Type 0
 AreWords pages root = (level ipa table index : ℕ) → IsInside root.width level ipa → table_at (entries_of pages) root level ipa ≡ Some table → index < 512
     → word_at pages table index ≡ entry_word (entries_of pages table index)
 
--- A realm's tables are in granules of its own. Rows have their shape and a TABLE row above them; each word is that
--- of its entry.
+-- A realm's tables are in granules of its own, and each of their words encodes its entry. The rows are sound: each has
+-- a granule as its state requires, and below level 1 a TABLE row above it.
 pub record HasTables (pages : List (List ℕ)) (granules : List Granule) (rd : ℕ) (root : Root) : Type 0 where
   pub own : HasGranules (entries_of pages) granules rd root
   pub words : AreWords pages root

@@ -1,12 +1,12 @@
--- Proofs that a list with the items of the first n numbers or elements has those of the first n + 1 once the next one's
--- are appended.
+-- Proofs that appending the items of the next number, level or element to those of the first n gives the items of the
+-- first n + 1.
 use Rattle.std.proofs.Common.{◌≡◌, ℕ, ◌+◌, ◌-◌, ◌<◌, ◌≤◌, List, [], ◌∷◌, ◌++◌, length, take, get_or, sym, ap, ◌∙◌, subst, arith}
 use Rattle.std.specs.List.{flat_map, range_with_len, AllZip}
 use Rattle.std.proofs.lemmas.List.{flat_map_more, take_more}
 use Rattle.std.proofs.lemmas.Slice.Zip.{all_zipped_more}
 use Rattle.granule_addr.proofs.Runs.{range_with_len_more}
 
--- the items of one more number
+-- the items of the first `n` numbers, with those of number `n` appended, are the items of the first `n + 1`
 pub items_more :
     {A : Type 0} (f : ℕ → List A) (n : ℕ) (old mid new : List A)
     → mid ≡ old ++ flat_map f (range_with_len 0 n)
@@ -16,7 +16,7 @@ items_more f n old mid new so_far more =
     more ∙ ap (λ items. items ++ f n) so_far ∙ flat_map_more f old (range_with_len 0 n) n
     ∙ ap (λ ns. old ++ flat_map f ns) (sym (range_with_len_more 0 n n (omega arith)))
 
--- the items of one more element
+-- the items of the first `i` elements, with those of element `i` appended, are the items of the first `i + 1`
 pub elements_more :
     {A B : Type 0} (f : A → List B) (xs : List A) (i : ℕ) (d x : A) (old mid new : List B)
     → i < length xs
@@ -28,7 +28,7 @@ elements_more f xs i d x old mid new below is so_far more =
     more ∙ ap (λ items. items ++ f x) so_far ∙ flat_map_more f old (take i xs) x
     ∙ ap (λ taken. old ++ flat_map f taken) (ap (λ y. take i xs ++ y ∷ []) is ∙ sym (take_more xs i d below))
 
--- an item of one more element
+-- the items of the first `i` elements, one each, with that of element `i` appended, are the items of the first `i + 1`
 pub one_element_more :
     {A B : Type 0} (f : A → B) (xs : List A) (i : ℕ) (x : A) (item : B) (old mid new : List B)
     → i < length xs
@@ -40,7 +40,7 @@ pub one_element_more :
 one_element_more f xs i x item old mid new below is so_far more made =
     elements_more (λ a. f a ∷ []) xs i x x old mid new below is so_far (more ∙ ap (λ it. mid ++ it ∷ []) made)
 
--- the items of one more level
+-- the items of levels 1 to `level - 1`, with those of `level` appended, are the items of levels 1 to `level`
 pub levels_more :
     {A : Type 0} (f : ℕ → List A) (level : ℕ) (old mid new : List A)
     → 1 ≤ level
@@ -52,7 +52,8 @@ levels_more f level old mid new some so_far more =
     ∙ ap (λ ns. old ++ flat_map f ns)
     (sym (range_with_len_more 1 (level - 1) level (omega arith)) ∙ ap (range_with_len 1) (let e : level - 1 + 1 ≡ level + 1 - 1 = omega arith in e))
 
--- an item of one more number
+-- if `R` relates the first `n` numbers to the items, and number `n` to one more item, it relates the first `n + 1`
+-- numbers to all of them
 pub each_more :
     {A : Type 0} (R : ℕ → A → Type 0) (n : ℕ) (old new : List A) (item : A)
     → AllZip R (range_with_len 0 n) old

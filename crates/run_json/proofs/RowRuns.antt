@@ -17,7 +17,7 @@ some_of true it found is = cc
 some_of false it found is = cc
 
 module _ (world : World) (build : ℕ) where
-  -- a row, by the IPA granule and the level that were read
+  -- if the IPA granule and the level of a read are equal to `ipa` and `level`, the row that was read is the row there
   pub row_read : (found : Option RowView) (read ipa asked level : ℕ) → found ≡ row_at world build read asked → read ≡ ipa → asked ≡ level → found ≡ row_at world build ipa level
   row_read found read ipa asked level is same_ipa same_level = is ∙ ap₂ (row_at world build) same_ipa same_level
 
@@ -41,7 +41,7 @@ module _ (world : World) (build : ℕ) where
 
   -- ---- the runs so far
 
-  -- the runs from one IPA granule to another
+  -- the items are runs of equal rows, one after another, from one IPA granule until right before another
   pub RunsTo : ℕ → List RowItem → ℕ → Type 0
   RunsTo from [] to = to ≡ from
   RunsTo from (run ∷ runs) to = (row_at world build from 3 ≡ Some run.row) × IsRowRun world build run.row run.count × RunsTo (first_after run.row run.count) runs to

@@ -28,7 +28,7 @@ pub AreTurnItems-more :
 AreTurnItems-more plan order from at build to old new turns adds =
     rw adds.appended (AreTurnItems-then plan order from at build to old adds.item turns adds.is_item)
 
--- all turns
+-- items of the first `i` turns are the items of all turns of the plan, if its schedule has no more than `i`
 pub HasTurnItems-whole :
     (plan : Plan) (i : ℕ) (from : HostView) (at : Position) (items : List TurnItem)
     → length plan.order ≤ i
@@ -40,7 +40,7 @@ HasTurnItems-whole plan i from at items done turns = record {
   turns = subst (λ order. AreTurnItems plan order (start from) at items) (take_all i plan.order done) turns;
 }
 
--- the turns of a document are a run
+-- if items describe turns of the given builds, the plan has such turns between the same positions
 run_of :
     (plan : Plan) (order : List ℕ) (from to : Position) (items : List TurnItem)
     → AreTurnItems plan order from to items
@@ -52,7 +52,7 @@ run_of plan (b ∷ order) from to (item ∷ items) is =
     let rest = run_of plan order is.0 to items is.2 in
     (is.1.turn ∷ rest.0, (is.1.of_build, is.0, is.1.is_turn, rest.1))
 
--- some run of the plan leads from one host to the other, with these lines
+-- if items describe the plan's turns, a reported run of the plan leads from the first host to the second
 pub reported_run :
     (plan : Plan) (from to : HostView) (items : List TurnItem)
     → HasTurnItems plan from to items

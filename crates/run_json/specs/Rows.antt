@@ -16,7 +16,7 @@ abbrev pub first_after : RowView → ℕ → ℕ
 first_after row count = row.first + count * covered_count row.level
 
 -- A run of rows equal to this one goes on at an IPA granule: an equal row begins there, and no table begins there. The
--- starting tables count as one.
+-- starting tables count as one table.
 pub record RunGoesOn (world : World) (build : ℕ) (row : RowView) (ipa : ℕ) : Type 0 where
   pub same : row_at world build ipa 3 ≡ Some (record row { first = ipa })
   pub inside : is_table_place ipa row.level ≡ false

@@ -56,9 +56,10 @@ granules_after host act = changed_granules host (granules_of act)
 
 -- ---- rows
 
--- The rows that an operation changed. Of a realm all rows of its starting tables. Of a table its entry, and its 512
--- rows, which are all alike, or the entry alone if the table is gone. Of a run of pages their rows, which are all
--- alike. Of a page its row.
+-- The items of the rows that an operation changed. For a new realm, these are all rows of its starting tables. For a
+-- new table, they are its entry and its 512 equal rows; for a destroyed table, its entry alone. For pages made RAM,
+-- they are the pages' equal rows. For a page that is mapped or unmapped, it is the page's row. Otherwise there are
+-- none.
 abbrev pub rows_after : HostView → ℕ → Act → List (Option RowItem)
 rows_after host build (Realm rd root vmid) = row_item host build 0 1 (512 * start_count root.width) ∷ []
 rows_after host build (Rtt g ipa level) = row_item host build ipa (level_above level) 1 ∷ row_item host build ipa level 512 ∷ []

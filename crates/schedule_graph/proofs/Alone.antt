@@ -46,7 +46,8 @@ module _ (P : Option Act → Type 0) (none : P None) where
   by_test true act h = h
   by_test false act h = none
 
--- the operation depends on the number and the byte alone
+-- of what is allocated, the operation of a command that needs no block and no VMID depends only on the REC number and
+-- the byte read
 act_alike : (cmd : Cmd) → NeedsNothingShared (Ask cmd) → (gs : List ℕ) (one other : Allocated) → other.number ≡ one.number → other.byte ≡ one.byte → act_of cmd gs other ≡ act_of cmd gs one
 unfolding act_of
 act_alike (Take order) none_such gs one other number byte = absurd none_such
@@ -68,7 +69,7 @@ module _ (limits : Limits) (used fewer : List ℕ) (realm : Option Seen) (cells 
   abbrev Alike : Option Act → Type 0
   Alike act = outcome_of_act limits used act realm cells ≡ outcome_of_act limits fewer act realm cells
 
-  -- the VMIDs in use decide no outcome but that of a realm
+  -- the outcome of a command that needs no block and no VMID does not depend on the VMIDs in use
   outcome_alike : (cmd : Cmd) → NeedsNothingShared (Ask cmd) → (gs : List ℕ) (allocated : Allocated) → Alike (act_of cmd gs allocated)
   unfolding act_of outcome_of
   outcome_alike (Take order) none_such gs allocated = absurd none_such
@@ -88,7 +89,7 @@ module _ (limits : Limits) (used fewer : List ℕ) (realm : Option Seen) (cells 
 
 -- ---- the checks before
 
--- the facts that the checks of a build read
+-- the summary in which every build has the given facts; the checks of a call read those of its build alone
 abbrev summary_alone : ℕ → Bool → List ℕ → Bool → ℕ → ℕ → Bool → BuildsSummary
 summary_alone builds aborting pages realm opened room vmid = record {
   builds = builds;
@@ -109,7 +110,7 @@ checks_at : (host : HostView) (b : ℕ) (cmd : Cmd) → checks_of (summary_of ho
 unfolding checks_of state_checks
 checks_at host b cmd = refl
 
--- whether there is a VMID decides no check but that of a realm
+-- the checks of a command that needs no block and no VMID do not depend on whether a VMID is free
 any_vmid : (host : HostView) (b : ℕ) (cmd : Cmd) → NeedsNothingShared (Ask cmd) → (one other : Bool) → checks_of (summary_at host b one) b cmd ≡ checks_of (summary_at host b other) b cmd
 unfolding checks_of state_checks needs_of
 any_vmid host b (Take order) none_such one other = absurd none_such
@@ -140,7 +141,7 @@ byte_seen h _ gs = refl
 
 -- ---- a build on two hosts
 
--- the granules of pages are the build's
+-- if a build's pages are the granules leased to it, the granules of the pages that a command names are leased to it
 named_leased : (leases : List (Option ℕ)) (b : ℕ) (pages : List ℕ) → ((g : ℕ) → is_in g pages ≡ is_leased_to (Some b) leases g)
     → (named : List ℕ) → list_all (is_leased_to (Some b) leases) (filter_map (λ page. slice_get pages page) named) ≡ true
 named_leased leases b pages are [] = refl
@@ -182,7 +183,8 @@ module _ (b : ℕ) (host twin : HostView) (same : DidTheSameAlone b host twin) w
   named : (cmd : Cmd) → granules_named twin b cmd ≡ granules_named host b cmd
   named cmd = ap (λ ps. filter_map (λ page. slice_get ps page) (operands cmd)) pages
 
-  -- the build's granules are in both as in its part alone
+  -- in a legal history, the granules that a build's command names look the same in the whole world and in the build's
+  -- part of it
   seen_in_part : (h : HostView) → IsLegal h.limits h.history → (cmd : Cmd)
       → map (seen (part_of (world_of h) b).machine) (granules_named h b cmd) ≡ map (seen (world_of h).machine) (granules_named h b cmd)
   seen_in_part h legal cmd =

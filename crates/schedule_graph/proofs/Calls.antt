@@ -30,7 +30,8 @@ use Rattle.schedule_graph.proofs.Kept.{keeps, goes, keeps-at, depth}
 
 -- ---- the marks after an answer
 
--- a refusal leaves the marks, and an event may drop that of its build
+-- The marks after an answer. A refusal changes none. Any other answer drops the build's mark if fewer operations are
+-- open than at the mark.
 abbrev MarksAfter : HostAnswer → HostView → ℕ → HostView → Type 0
 MarksAfter (Refused reason) host b new = new.marks ≡ host.marks
 MarksAfter _ host b new = new.marks ≡ set host.marks b (mark_while (length (open_of new b)) (get_or host.marks b None))
@@ -48,7 +49,7 @@ marks_after host b Undo (WasUndone done) new h = grown host b h.act new h.accept
 marks_after host b Undo (Replied reply) new h = absurd h
 marks_after host b (Ask cmd) (WasUndone done) new h = absurd h
 
--- the marks of other builds stay
+-- setting the mark of one build leaves the marks of other builds as they were
 set_rest : (marks new : List (Option Mark)) (b c : ℕ) (mark : Option Mark) → new ≡ set marks b mark → c ≢ b → get_or new c None ≡ get_or marks c None
 set_rest marks new b c mark same other = ap (λ ms. get_or ms c None) same ∙ get_or-set_other marks b c mark None other
 
@@ -59,7 +60,8 @@ rest_after host b (WasUndone done) new h c other = set_rest host.marks new.marks
 
 -- ---- a mark that is kept in both hosts or in neither
 
--- the marks name one point, and are kept in both or in neither
+-- The two marks are of the same point, or both are missing. `host` keeps `mark` for the build if and only if `twin`
+-- keeps `other`.
 pub record AreKeptAlike (b : ℕ) (host twin : HostView) (mark other : Option Mark) : Type 0 where
   pub points : option_map mark_point other ≡ option_map mark_point mark
   pub kept : goes (mark_of twin b) other ≡ goes (mark_of host b) mark
@@ -92,7 +94,8 @@ kept_after (WasUndone done) b host twin new then h also left (Some mark) (Some o
 
 -- ---- a call
 
--- the answer of the one is one of the other, and marks that were kept alike are so again
+-- The call can be given the same answer on `twin`, and the hosts then still differ only in the schedule. Marks of the
+-- build that were kept alike still are, and the marks of other builds are as they were.
 pub record CallToo (host twin : HostView) (b : ℕ) (call : Call) (answer : HostAnswer) (new : HostView) : Type 0 where
   pub then : HostView
   pub answered : IsAnswer twin b call answer then

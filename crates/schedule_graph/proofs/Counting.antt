@@ -11,7 +11,7 @@ use Rattle.schedule_graph.specs.declared.graph.Edge.{Edge}
 
 -- ---- a layer of counts
 
--- what holds of each state with edges holds of each state of a layer, and a missing state has the count 0
+-- if `count` is right for any list of edges, it is right for each state of a layer, and a missing state has the count 0
 layer_at : {L : Type 0} (keep : List (Path L) → List (Path L)) → keep [] ≡ [] → (count : List (Edge L) → ℕ) (whole : List (Edge L) → List (Path L))
     → ((edges : List (Edge L)) → count edges ≡ length {A = Path L} (keep (whole edges)))
     → (layer : List (Vec (Edge L) Global)) (state : ℕ)

@@ -21,7 +21,7 @@ find_none p (x ∷ xs) none =
       | false ↦ find_none p xs
     ]) none
 
--- it is found whatever follows it
+-- if some element of `xs` satisfies `p`, a search for `p` in `xs ++ ys` finds the same element as a search in `xs`
 find_early : {X : Type 0} (p : X → Bool) (xs ys : List X) → 0 < length (filter p xs) → find p (xs ++ ys) ≡ find p xs
 find_early p [] ys some = absurd (omega (arith, some))
 find_early p (x ∷ xs) ys some =
@@ -51,7 +51,7 @@ abbrev labels_of : {L : Type 0} → Path L → List L
 labels_of {L} path = map (λ (e : Edge L). e.label) path
 
 module _ {L : Type 0} (is : L → Bool) (accept : Bool → Bool) where
-  -- a path is like that, after a beginning that shows a label or does not
+  -- whether `accept` allows a path, given whether a label before it satisfies `is`
   abbrev pub like : Bool → Path L → Bool
   like shown path = accept (shown || shows is path)
 
@@ -85,7 +85,7 @@ module _ {L : Type 0} (is : L → Bool) (accept : Bool → Bool) where
 
   -- ---- the next edge
 
-  -- the numbers of the states of the next layer, for paths that have shown a label and for the others
+  -- the path counts of the next layer, for paths after a label that satisfies `is` was shown, and for the others
   module _ (next : ℕ → List (Path L)) (with_it without_it : List ℕ)
       (are : (shown : Bool) (state : ℕ) → count_at (cond shown with_it without_it) state ≡ length (filter (like shown) (next state))) where
     abbrev pub goes : Bool → Edge L → Bool
@@ -97,7 +97,7 @@ module _ {L : Type 0} (is : L → Bool) (accept : Bool → Bool) where
     number_from : (edge : Edge L) (shown : Bool) → count_at (cond (on shown edge) with_it without_it) edge.to ≡ length (filter (like shown) (from edge))
     number_from edge shown = are (on shown edge) edge.to ∙ sym (count-onto edge (next edge.to) shown)
 
-    -- the first path by the next edge, if there is one
+    -- the first allowed path that begins with the given edge; `None` if there is no edge or no such path
     abbrev pub by_next : Bool → Option (Edge L) → Option (Path L)
     by_next shown None = None
     by_next shown (Some edge) = option_map (λ (path : Path L). edge ∷ path) (find (like (on shown edge)) (next edge.to))
@@ -136,14 +136,15 @@ found_is p (y ∷ xs) x found = at (found_is p xs x) (p y) refl found
 -- ---- a layer
 
 module _ {L : Type 0} (layers : List (Layer L)) where
-  -- the paths from a state that edges leave
+  -- the paths from a state that edges leave are those along its first edge, then those along the next, and so on
   paths_at : (layer : Layer L) (state : ℕ) (edge : Edge L) (edges : List (Edge L)) → slice_index_or layer state [] ≡ edge ∷ edges
       → paths (layer ∷ layers) state ≡ flat_map (λ e. onto e (paths layers e.to)) (edge ∷ edges)
   paths_at [] state edge edges same = cc
   paths_at (here ∷ layer) zero edge edges same = ap (paths_by_edges (paths layers)) same
   paths_at (here ∷ layer) (suc state) edge edges same = paths_at layer state edge edges same
 
-  -- from any other state there is one, or none
+  -- from a state that no edge leaves there is no path, or only the empty one: what holds of both lists holds of its
+  -- paths
   no_edges : (layer : Layer L) (state : ℕ) (P : List (Path L) → Type 0) → P [] → P ([] ∷ []) → slice_index_or layer state [] ≡ [] → P (paths (layer ∷ layers) state)
   no_edges [] state P none one same = none
   no_edges (here ∷ layer) zero P none one same = subst (λ edges. P (paths_by_edges (paths layers) edges)) (sym same) one
@@ -167,7 +168,7 @@ module _ {L : Type 0} (layers : List (Layer L)) where
     labels-onto edge (Some path) = refl
 
     module _ (edge : Edge L) (next : next_edge ≡ Some edge) where
-      -- the first path goes by the next edge
+      -- the first allowed path goes along the next edge, and then along the first allowed path from there
       pub first_by : first_like (like is accept shown) (paths (layer ∷ layers) state) ≡ labels_onto edge.label (first_like (like is accept (on is accept shown edge)) (paths layers edge.to))
       first_by = at edges_here refl
         where
@@ -181,14 +182,14 @@ module _ {L : Type 0} (layers : List (Layer L)) where
               ∙ ap (by_next is accept (paths layers) with_it without_it are shown) (ap (find (goes_on is shown with_it without_it)) (sym same) ∙ next))
               ∙ labels-onto edge (find (like is accept (on is accept shown edge)) (paths layers edge.to))
 
-      -- and there is one
+      -- there is an allowed path from the state that the next edge leads to
       pub there_is : 0 < length (filter (like is accept (on is accept shown edge)) (paths layers edge.to))
       there_is =
           let some = ltb-true 0 (count_at (cond (on is accept shown edge) with_it without_it) edge.to) (found_is (goes_on is shown with_it without_it) edges_here edge next) in
           let number = are (on is accept shown edge) edge.to in
           omega (arith, some, number)
 
-    -- without a next edge it ends here
+    -- if there is an allowed path but no next edge, the first allowed path is empty
     pub ends_here : next_edge ≡ None → 0 < length (filter (like is accept shown) (paths (layer ∷ layers) state))
         → first_like (like is accept shown) (paths (layer ∷ layers) state) ≡ Some []
     ends_here none = at edges_here refl
@@ -220,7 +221,8 @@ option_map-push labels label None = refl
 option_map-push labels label (Some more) = ap Some (sym (append_assoc labels (label ∷ []) more))
 
 module _ {L : Type 0} (is : L → Bool) (accept : Bool → Bool) (layers : List (Layer L)) where
-  -- The labels so far begin the first path like that, and there is one.
+  -- The labels of the first allowed path are `labels`, and then those of the first allowed path from `state` in layer
+  -- `depth`. There is such a path.
   pub record IsOnWay (depth state : ℕ) (shown : Bool) (labels : List L) : Type 0 where
     pub first : first_like (like is accept false) (paths layers 0) ≡ option_map (λ more. labels ++ more) (first_like (like is accept shown) (paths (drop depth layers) state))
     pub some : 0 < length (filter (like is accept shown) (paths (drop depth layers) state))
@@ -321,7 +323,7 @@ none_kept : {X : Type 0} (xs : List X) → filter (λ x. false) xs ≡ []
 none_kept [] = refl
 none_kept (x ∷ xs) = none_kept xs
 
--- for a property that no path has, all path numbers are 0
+-- for a condition that no path satisfies, no counts need to be listed: a count that is left out is 0
 pub no_numbers : {L : Type 0} (layers : List (Layer L)) → ArePathNumbers {L = L} (λ path. false) layers []
 no_numbers {L} layers zero state = sym (ap length (none_kept (paths layers state)))
 no_numbers {L} layers (suc depth) state = sym (ap length (none_kept (paths (drop (suc depth) layers) state)))

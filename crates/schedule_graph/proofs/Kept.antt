@@ -14,11 +14,11 @@ use Rattle.schedule_graph.specs.State.{Progress, progress_of}
 
 -- ---- a mark, and the one that is kept
 
--- the mark is the one that is kept
+-- a mark is kept, and it is the same as the given one
 abbrev pub keeps : Option Mark → Mark → Bool
 keeps kept mark = elim kept [ Some it ↦ is_same_mark it mark | None ↦ false ]
 
--- a cursor's mark, if there is one, is the one that is kept
+-- the cursor has a mark, and it is the same as the one that is kept
 abbrev pub goes : Option Mark → Option Mark → Bool
 goes kept mark = elim mark [ Some it ↦ keeps kept it | None ↦ false ]
 
@@ -51,7 +51,7 @@ keeps-while n (Some kept) mark = at (is_same_mark kept mark) refl
         (elim (nat_le kept.length n) as (λ t. keeps (cond t (Some kept) None) mark ≡ false) [ true ↦ differs | false ↦ refl ])
         ∙ sym (ap (λ s. s && nat_le mark.length n) differs)
 
--- a mark is kept as long as no fewer operations are open than at it
+-- a mark is still kept if and only if it was kept and no fewer operations are open than at the mark
 pub keeps-at : (marks : List (Option Mark)) (b n : ℕ) (mark : Mark)
     → keeps (get_or (set marks b (mark_while n (get_or marks b None))) b None) mark ≡ (keeps (get_or marks b None) mark && nat_le mark.length n)
 keeps-at [] b n mark = refl
@@ -94,7 +94,7 @@ pub progress_set : (ones others : List PlanCursor) (b : ℕ) (one other : PlanCu
 progress_set ones others b one other same alike =
     map-set progress_of others b other ∙ (λ i. set (same i) b (alike i)) ∙ sym (map-set progress_of ones b one)
 
--- the progress once a turn has used its step up, if it has
+-- the progress after a turn with this answer: it is at the next step, unless the current step has undos left
 module _ (gives_up : Bool) (answer : TurnAnswer) where
   abbrev next : ℕ → ℕ
   next done = number_after gives_up (is_refusal answer) done
@@ -116,7 +116,8 @@ module _ (gives_up : Bool) (answer : TurnAnswer) where
   mark-moved_on place =
       elim (place.left == 0) as (λ t. (cond t (record place { done = next place.done }) place).mark ≡ place.mark) [ true ↦ refl | false ↦ refl ]
 
--- the mark of a cursor that is set is kept in both or in neither
+-- if the marks of two cursors are both kept or both not, so are the marks at `b` once these cursors are set there in
+-- lists of the same progress
 pub goes-set : (ones others : List PlanCursor) (b : ℕ) (one other : PlanCursor) (kept also : Option Mark) → map progress_of others ≡ map progress_of ones
     → goes also other.mark ≡ goes kept one.mark
     → goes also (get_or (set others b other) b first_place).mark ≡ goes kept (get_or (set ones b one) b first_place).mark

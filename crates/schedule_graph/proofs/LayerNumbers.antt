@@ -21,7 +21,7 @@ module _ {L : Type 0} (like : Path L → Bool) where
   numbers-cons layer layers here counts are rest zero state = are state
   numbers-cons layer layers here counts are rest (suc depth) state = rest depth state
 
--- all paths are any paths
+-- counts of the paths that satisfy `any_path` are counts of all paths
 pub any_counts : {L : Type 0} (layers : List (Layer L)) (next : List ℕ) → ((state : ℕ) → count_at next state ≡ length (filter any_path (paths layers state))) → AreCounts layers next
 any_counts layers next are state = are state ∙ ap length (all_kept (paths layers state))
 

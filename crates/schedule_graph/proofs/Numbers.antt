@@ -4,7 +4,7 @@ use Rattle.std.proofs.Common.{◌≡◌, ℕ, zero, suc, ◌+◌, ◌*◌, ◌^�
 use native.Mathlib.Nat.{pow-succ'}
 use Rattle.schedule_graph.specs.Number.{number_of}
 
--- ten times a product with a power of ten
+-- one place higher, a digit is worth ten times as much
 one_place_up : (d k : ℕ) → d * 10 ^ suc k ≡ 10 * (d * 10 ^ k)
 one_place_up d k = ap (λ p. d * p) (pow-succ' 10 k) ∙ mul_left_comm d 10 (10 ^ k)
 
@@ -46,7 +46,7 @@ pub number_of_one : number_of (1 ∷ []) ≡ 1
 unfolding number_of
 number_of_one = refl
 
--- what a sum leaves in its place, and what it carries to the next
+-- a sum is worth the digit that it leaves in its place and the carry to the next place
 carried : (sum k : ℕ) → sum % 10 * 10 ^ k + sum / 10 * 10 ^ (k + 1) ≡ sum * 10 ^ k
 carried sum k =
     let split : sum ≡ sum % 10 + 10 * (sum / 10) = omega arith in
@@ -55,7 +55,7 @@ carried sum k =
     let up : sum / 10 * 10 ^ (k + 1) ≡ 10 * (sum / 10 * 10 ^ k) = ap (λ n. sum / 10 * 10 ^ n) (add-one k) ∙ one_place_up (sum / 10) k in
     omega (arith, parts, tens, up)
 
--- a carry is added to a digit
+-- when a carry is added to a digit, the new number and the carry that is left are worth the old number and the carry
 pub carry_step : (digits : List ℕ) (at carry : ℕ) → at < length digits
     → number_of (set digits at ((get_or digits at 0 + carry) % 10)) + (get_or digits at 0 + carry) / 10 * 10 ^ (at + 1) ≡ number_of digits + carry * 10 ^ at
 carry_step digits at carry inside =
@@ -65,7 +65,8 @@ carry_step digits at carry inside =
     let both = add-mul digit carry (10 ^ at) in
     omega (arith, new, over, both)
 
--- a carry becomes one more digit
+-- when a carry is appended as one more digit, the new number and the carry that is left are worth the old number and
+-- the carry
 pub push_step : (digits : List ℕ) (carry : ℕ)
     → number_of (digits ++ carry % 10 ∷ []) + carry / 10 * 10 ^ length (digits ++ carry % 10 ∷ []) ≡ number_of digits + carry * 10 ^ length digits
 push_step digits carry =
@@ -75,7 +76,7 @@ push_step digits carry =
     let there : carry / 10 * 10 ^ length (digits ++ carry % 10 ∷ []) ≡ carry / 10 * 10 ^ (length digits + 1) = ap (λ n. carry / 10 * 10 ^ n) long in
     omega (arith, new, over, there)
 
--- one power of two more
+-- one more factor of two doubles a product with a power of two
 pub doubled : (n k : ℕ) → n * 2 ^ (k + 1) ≡ n * 2 ^ k + n * 2 ^ k
 doubled n k =
     let up : n * 2 ^ (k + 1) ≡ 2 * (n * 2 ^ k) = ap (λ m. n * 2 ^ m) (add-one k) ∙ ap (λ p. n * p) (pow-succ' 2 k) ∙ mul_left_comm n 2 (2 ^ k) in
@@ -85,6 +86,6 @@ alone : (n : ℕ) → number_of [] + n * 10 ^ 0 ≡ n
 unfolding number_of
 alone n = omega arith
 
--- a number that is added to no digits
+-- without digits, the number and a carry of `n` are worth `n`
 pub from_none : (digits : List ℕ) (n : ℕ) → digits ≡ [] → number_of digits + n * 10 ^ length digits ≡ n
 from_none digits n none = ap (λ ds. number_of ds + n * 10 ^ length ds) none ∙ alone n

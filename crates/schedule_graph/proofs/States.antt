@@ -33,7 +33,9 @@ use Rattle.schedule_graph.proofs.Calls.{AreKeptAlike, call_too, begin_too, check
 
 -- ---- a step of a build on two hosts
 
--- The step can be taken on the other host too. Its cursor and its mark are alike again, and other builds keep theirs.
+-- The step can be taken on the other host too, and the hosts then still differ only in the schedule. The build's
+-- cursors have the same progress, and their marks are kept on both hosts or on neither. The marks of other builds are
+-- as they were.
 record Too (IsStep : HostView → PlanCursor → Type 0) (b : ℕ) (host twin new : HostView) (after : PlanCursor) : Type 0 where
   then : HostView
   also : PlanCursor
@@ -51,7 +53,7 @@ module _ (b : ℕ) (place other : PlanCursor) (alike_places : progress_of other 
   same_left : other.left ≡ place.left
   same_left = ap (λ (p : Progress). p.left) alike_places
 
-  -- nothing happens
+  -- a step that changes nothing can be taken on the other host too, if it may change nothing there either
   stays : (IsStep : HostView → PlanCursor → Type 0) (host twin new : HostView) (after : PlanCursor) → DifferInInterleaving host twin
       → AreKeptAlike b host twin place.mark other.mark → new ≡ host → after ≡ place → IsStep twin other → Too IsStep b host twin new after
   stays IsStep host twin new after differ kept same same_place is = record {
@@ -117,7 +119,8 @@ module _ (b : ℕ) (place other : PlanCursor) (alike_places : progress_of other 
         also_rest = too.also_rest;
       }
 
-  -- the turn of a step that has `count` operations to undo: if none, nothing happens
+  -- the turn of a step that has `count` operations to undo: the turn changes nothing if `none`, and otherwise performs
+  -- one undo
   abbrev IsManyBy : ℕ → HostView → PlanCursor → TurnAnswer → Bool → HostView → PlanCursor → Type 0
   IsManyBy count host at answer none new after =
       OnTrue none ((answer ≡ tells.Nothing) × (new ≡ host) × (after ≡ at)) × OnFalse none (IsOneOfMany host b at (count - 1) answer new after)

@@ -14,23 +14,23 @@ extends_same text new is = ([], is ∙ sym (append-nil text))
 pub extends_on : (old text new : List ℕ) → Extends old text → Extends text new → Extends old new
 extends_on old text new e f = (e.0 ++ f.0, f.1 ∙ ap (λ t. t ++ f.0) e.1 ∙ append_assoc old e.0 f.0)
 
--- a text is extended by another
+-- if a text extends `old`, so does the text with more appended
 pub extends_by : (old text new more : List ℕ) → Extends old text → new ≡ text ++ more → Extends old new
 extends_by old text new more e is = extends_on old text new e (more, is)
 
--- a text is extended from the beginning of an extension on
+-- a text that extends `old ++ begin` extends `old`
 pub extends_front : (old begin new : List ℕ) → Extends (old ++ begin) new → Extends old new
 extends_front old begin new e = extends_on old (old ++ begin) new (begin, refl) e
 
 -- ---- the checks that failed
 
--- nothing is appended yet, since no check failed before those that are left
+-- nothing is appended yet, and the first failed check, if any, is among the checks that are left
 pub record IsUntold (rows left : List EvaluatedCheck) (is_first : Bool) (begun text : List ℕ) : Type 0 where
   pub is_none : is_first ≡ true
   pub same : first_failed left ≡ first_failed rows
   pub nothing : text ≡ begun
 
--- Nothing is appended yet, or the check that decides is.
+-- Nothing is appended yet, or the appended text begins with the first failed check, if there is one.
 abbrev pub Tells : (rows left : List EvaluatedCheck) → (is_first : Bool) (begun text : List ℕ) → Type 0
 Tells rows left is_first begun text = IsUntold rows left is_first begun text ⊎ Extends (begun ++ decision_text (first_failed rows)) text
 
@@ -57,12 +57,13 @@ module _ (rows : List EvaluatedCheck) (row : EvaluatedCheck) (left : List Evalua
   })
   on_by Passed is (inr told) fails other = inr (extends_on _ text new told (extends_same text new (other refl).1))
 
-  -- one more check
+  -- the invariant holds after one more check, if a failed check appends its line and any other check changes nothing
   pub tells_on : Tells rows (row ∷ left) is_first begun text → (is_failure row.outcome ≡ true → Extends (text ++ failed_text is_first row.condition) new)
       → (is_failure row.outcome ≡ false → (next ≡ is_first) × (new ≡ text)) → Tells rows left next begun new
   tells_on t fails other = on_by row.outcome refl t fails other
 
--- one more check, at its place
+-- the invariant holds after the check at index `i`, if a failed check appends its line and any other check changes
+-- nothing
 pub tells_at : (rows : List EvaluatedCheck) (i : ℕ) (d : EvaluatedCheck) (is_first next : Bool) (begun text new : List ℕ) → i < length rows → Tells rows (drop i rows) is_first begun text
     → (is_failure (get_or rows i d).outcome ≡ true → Extends (text ++ failed_text is_first (get_or rows i d).condition) new)
     → (is_failure (get_or rows i d).outcome ≡ false → (next ≡ is_first) × (new ≡ text)) → Tells rows (drop (i + 1) rows) next begun new
@@ -70,7 +71,7 @@ tells_at rows i d is_first next begun text new inside t fails other =
     let here : drop i rows ≡ get_or rows i d ∷ drop (i + 1) rows = rw (add-one, drop-cons rows i d) in
     tells_on rows (get_or rows i d) (drop (i + 1) rows) is_first next begun text new (subst (λ (left : List EvaluatedCheck). Tells rows left is_first begun text) here t) fails other
 
--- no check is left
+-- once no check is left, the appended text begins with the first failed check, if there is one
 pub tells_end : (rows : List EvaluatedCheck) (is_first : Bool) (begun text : List ℕ) → Tells rows [] is_first begun text → Extends (begun ++ decision_text (first_failed rows)) text
 unfolding first_failed
 tells_end rows is_first begun text (inl it) = ([], it.nothing ∙ sym (append-nil begun) ∙ sym (append-nil (begun ++ [])) ∙ ap (λ o. (begun ++ decision_text o) ++ []) it.same)

@@ -11,7 +11,7 @@ use Rattle.trace_program.proofs.Parts.{cut_none, cut_some, no_feed_before}
 use Rattle.trace_program.proofs.Taken.{done_taken, line_taken, part_taken}
 
 module _ (asked : TraceSubcommand) (source : List ℕ) (first : Session) (begun texts : List ℕ) where
-  -- if lines are taken of the bytes before a part, then also of these bytes with the front of the part
+  -- if the lines of the bytes before a part were taken, the lines of these bytes with the part's front are taken too
   abbrev pub FrontTaken : List ℕ → Session → (line text : List ℕ) → Type 0
   FrontTaken front s line text = (read written : List ℕ) → IsTraceLineTaken asked source read written first begun texts → IsTraceLineTaken asked source (read ++ front) written s line text
 
@@ -37,12 +37,12 @@ module _ (asked : TraceSubcommand) (source : List ℕ) (first : Session) (begun 
         subst (λ (x : List ℕ). IsTraceLineTaken asked source x written s line text) (append_assoc read front more)
         (done_taken asked source (read ++ front) written s line text (f read written t) more done)
 
--- a part after the front of it and a line
+-- a part is its front, the next line with its line feed, and the bytes after that line
 pub line_split : (part front rest after : List ℕ) → part ≡ front ++ rest → after_mark 10 rest ≡ Some after → part ≡ (front ++ (before_mark 10 rest ++ 10 ∷ [])) ++ after
 line_split part front rest after split some =
     split ∙ ap (λ (x : List ℕ). front ++ x) (cut_some rest after some) ∙ sym (append_assoc front (before_mark 10 rest ++ 10 ∷ []) after)
 
--- the rest of a text after a line is shorter
+-- the bytes after the first line of a text are fewer than those of the text
 pub after_shorter : (rest after : List ℕ) → after_mark 10 rest ≡ Some after → length after < length rest
 after_shorter rest after some =
     let all = ap length (cut_some rest after some) in
@@ -60,7 +60,7 @@ pub record HasFront (asked : TraceSubcommand) (source : List ℕ) (first : Sessi
   pub taken : FrontTaken asked source first begun texts front s line text
 
 module _ (asked : TraceSubcommand) (source : List ℕ) (first : Session) (begun texts part rest : List ℕ) (s : Session) (line text : List ℕ) (h : HasFront asked source first begun texts part rest s line text) where
-  -- the part of a line that is kept
+  -- `kept` has the bytes that are kept of the line once `more` is appended to the line
   abbrev Keeps : List ℕ → List ℕ → Type 0
   Keeps more kept = (begin : List ℕ) → line ≡ kept_of_line begin → kept ≡ kept_of_line (begin ++ more)
 
@@ -87,6 +87,6 @@ module _ (asked : TraceSubcommand) (source : List ℕ) (first : Session) (begun 
       (front_part asked source first begun texts h.front s line text h.taken rest kept h.going none
       (λ begin is. keeps begin is ∙ ap (λ (x : List ℕ). kept_of_line (begin ++ x)) cut))
 
--- nothing of a part is taken
+-- unless the check is done, the loop over a part can begin with an empty front and all of the part left
 pub no_front : (asked : TraceSubcommand) (source : List ℕ) (first : Session) (begun texts part : List ℕ) → is_check_done asked first ≡ false → HasFront asked source first begun texts part part first begun texts
 no_front asked source first begun texts part going = record { front = []; split = refl; going = going; taken = front_none asked source first begun texts }

@@ -5,7 +5,8 @@ use Rattle.std.proofs.lemmas.List.{take_all, take-append-le, length-take}
 use Rattle.std.proofs.Math.Seq.{take-append-add}
 use Rattle.trace_program.specs.Reading.{kept_of_line}
 
--- all of a short list is kept, and as much of the part as fits
+-- a list that is `room` bytes short of `n`, followed by the first `room` bytes of a part, is the first `n` bytes of the
+-- list and the part together
 short_kept : (n room : ℕ) (rest part : List ℕ) → length rest + room ≡ n → rest ++ take room part ≡ take n (rest ++ part)
 short_kept n room rest part is = sym (ap (λ k. take k (rest ++ part)) (sym is) ∙ take-append-add rest part room)
 
@@ -31,7 +32,7 @@ pub kept_none : kept_of_line [] ≡ []
 unfolding kept_of_line
 kept_none = take_all 65537 [] (omega arith)
 
--- nothing is kept of an empty line alone
+-- if nothing is kept of a line, the line is empty
 pub none_kept : (line rest : List ℕ) → line ≡ kept_of_line rest → length line ≡ 0 → length rest ≡ 0
 unfolding kept_of_line
 none_kept line rest is l = let size = length-take 65537 rest in let zero : length (take 65537 rest) ≡ 0 = subst (λ (t : List ℕ). length t ≡ 0) is l in omega (arith, size, zero)

@@ -23,7 +23,7 @@ use Rattle.trace_program.proofs.Fronts.{HasFront}
 
 -- ---- counts
 
--- no count is greater
+-- each count is at most `most`
 record AreWithin (most : ℕ) (c : Counts) : Type 0 where
   pub lines : c.lines ≤ most
   pub same : c.same ≤ most
@@ -108,7 +108,7 @@ too_many asks.Why source lines text bytes s is full = absurd full
 
 -- ---- bytes
 
--- there are as many bytes as lines that end, or more
+-- a text has at least as many bytes as lines that end in a line feed
 lines_few : (bytes : List ℕ) (lines left : List (List ℕ)) → parts_of bytes ≡ lines ++ left → 0 < length left → length lines ≤ length bytes
 lines_few bytes lines left cut some =
     omega (arith, some, ap length cut, length-append lines left, length-slice_split (λ b. b == 10) bytes, count_by-le-length (λ b. b == 10) bytes)
@@ -133,7 +133,7 @@ longer count read part at_least = omega (arith, at_least, length-append read par
 
 -- ---- errors
 
--- an error that is passed on is the one of the call
+-- an error that is passed on is the error that the call returned
 pub passed_on : {T S : Type 0} (result : Result T TraceError) (error asked : TraceError) → IsErrAnd result (λ other. other ≡ error) → result ≡ Err asked
     → ◌≡◌ {A = Result S TraceError} (Err error) (Err asked)
 passed_on (Ok x) error asked same is = absurd same

@@ -8,7 +8,7 @@ use Rattle.std.proofs.lemmas.List.Splits.{length-slice_split}
 use Rattle.checked_io.specs.Lines.{parts_of, last_line, without_empty_last, lines_in}
 use Rattle.rmm_trace.specs.Cuts.{before_mark, after_mark}
 
--- the last part with one byte more
+-- the parts with one byte more at the end of the last one
 abbrev onto_last : ℕ → List (List ℕ) → List (List ℕ)
 onto_last b [] = []
 onto_last b (part ∷ []) = (part ++ b ∷ []) ∷ []
@@ -98,7 +98,7 @@ cut_none (b ∷ bs) is =
 
 -- ---- parts that stay with more bytes
 
--- The first parts are there still, and others after them.
+-- The parts of the bytes begin with `lines`, and there are more parts after these.
 pub record Grows (bytes : List ℕ) (lines : List (List ℕ)) : Type 0 where
   pub left : List (List ℕ)
   pub cut : parts_of bytes ≡ lines ++ left

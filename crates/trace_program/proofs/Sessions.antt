@@ -45,7 +45,7 @@ module _ (asked : TraceSubcommand) (source : List ℕ) where
   done_more old [] done = (refl, refl)
   done_more old (line ∷ more) done = inl (done, refl, refl)
 
-  -- lines after it is done change nothing
+  -- once the check is done, further lines change nothing
   pub session_done : (old : Session) (lines more : List (List ℕ)) (text : List ℕ) (last : Session) → IsSession asked source old lines text last → is_check_done asked last ≡ true
       → IsSession asked source old (lines ++ more) text last
   session_done old [] more text last is done =

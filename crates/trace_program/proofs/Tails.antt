@@ -27,12 +27,12 @@ mark_short mark (b ∷ bs) =
 pub bare_short : (line : List ℕ) → length (bare_text line) ≤ length line
 bare_short line = omega (arith, trimmed_short (before_mark 35 line), mark_short 35 line)
 
--- the answer of a line, with the sign before it
+-- the length of a line's answer with ` = ` before it, or 0 without an answer
 abbrev pub answer_length : Option (List ℕ) → ℕ
 answer_length (Some answer) = 3 + length answer
 answer_length None = 0
 
--- a conjunction that ends in false
+-- a conjunction that ends in false is not true
 false_end : (v w : Bool) → (v && (w && false)) ≡ true → ⊥
 false_end true true e = absurd (cc)
 false_end true false e = absurd (cc)
@@ -48,7 +48,7 @@ sign_length (a ∷ []) is = absurd (false_soon _ is)
 sign_length (a ∷ b ∷ []) is = absurd (false_end _ _ is)
 sign_length (a ∷ b ∷ c ∷ bs) is = omega arith
 
--- the question of a text, and its answer, are all of it
+-- a text is as long as its question and its answer, if any, with ` = ` between them
 pub cut_length : (t : List ℕ) → length (before_answer t) + answer_length (answer_in t) ≡ length t
 cut_length [] = refl
 cut_length (b ∷ bs) =

@@ -36,7 +36,7 @@ module _ (asked : TraceSubcommand) (source : List ℕ) where
       session = t.session;
     }
 
-    -- one more line in a session
+    -- unless the check is done, taking one more line extends the session by the line and its text
     more_session : (lines : List (List ℕ)) (kept whole new : List ℕ) (after : Session) → is_check_done asked s ≡ false → IsSession asked source fresh_session (map kept_of_line lines) (written ++ text) s
         → kept ≡ kept_of_line whole → TakesLine asked source kept s after text new → IsSession asked source fresh_session (map kept_of_line (lines ++ whole ∷ [])) (written ++ new) after
     more_session lines kept whole new after going is keeps k =

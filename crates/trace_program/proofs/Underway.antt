@@ -26,7 +26,7 @@ consumes_keeps (Some xs) None c front h k = absurd h
 consumes_keeps (Some xs) (Some ys) None front h k = absurd k
 consumes_keeps (Some xs) (Some ys) (Some zs) front h k = h ∙ ap (λ t. front ++ t) (sym k)
 
--- a read that returns no bytes
+-- a read that returns no bytes leaves the input as it was
 consumes_nothing : (left after : Option (List ℕ)) (part : List ℕ) → part ≡ [] → Consumes left after part → Keeps left after
 consumes_nothing None after part none h = tt
 consumes_nothing (Some xs) None part none h = absurd h
@@ -40,7 +40,7 @@ front_more old new after text told written w = record {
   grows = appends_more old new after text w.front written w.grows;
 }
 
--- a prefix of a text is one of a longer text
+-- if a prefix of a text was written, it is also a prefix of the text with more after it
 front_longer : (old new : Option (List ℕ)) (text more : List ℕ) → AppendsFront old new text → AppendsFront old new (text ++ more)
 front_longer old new text more w = record {
   front = w.front;
@@ -52,7 +52,7 @@ front_longer old new text more w = record {
 whole_front : (old new : Option (List ℕ)) (text : List ℕ) → Appends old new text → AppendsFront old new text
 whole_front old new text written = record { front = text; rest = []; split = sym (append-nil text); grows = written }
 
--- nothing was written of a text
+-- if nothing was written, a prefix of the text was written: the empty one
 pub nothing_front : (old : Option (List ℕ)) (text : List ℕ) → AppendsFront old old text
 nothing_front old text = record { front = []; rest = text; split = refl; grows = appends_none old }
 
@@ -61,7 +61,7 @@ pub from_no_text : (asked : TraceSubcommand) (source : List ℕ) (s : Session) (
     → ((read written : List ℕ) → IsTraceLineTaken asked source read written s line text → P read written) → (read written : List ℕ) → IsTraceLineTaken asked source read written s line [] → P read written
 from_no_text asked source s line text P empty takes read written t = takes read written (subst (λ (x : List ℕ). IsTraceLineTaken asked source read written s line x) (sym empty) t)
 
--- no line is taken, so the check is not done
+-- a check that has found no wrong line is not done, whether or not it stops at one
 none_done : (stops : Bool) → (stops && false) ≡ false
 none_done true = refl
 none_done false = refl
@@ -101,7 +101,7 @@ module _ (asked : TraceSubcommand) (source : List ℕ) (input left old new : Opt
       appended = appends_more old new newer u.written told u.appended appended;
     }
 
-    -- one more part
+    -- if the bytes read so far and one more part are `count` or more, at least `count` bytes of the input were read
     pub read_more : (count : ℕ) (left_after : Option (List ℕ)) (part : List ℕ) → Consumes left left_after part → count ≤ length (u.read ++ part) → HasRead count input left_after
     read_more count left_after part consumed at_least =
         record { read = u.read ++ part; consumed = consumes_more input left left_after u.read part u.consumed consumed; at_least = at_least }
@@ -130,7 +130,7 @@ module _ (asked : TraceSubcommand) (source : List ℕ) (input left old new : Opt
       written = subst (λ (x : List ℕ). Appends old new x) (sym (append-nil u.written)) u.appended;
     }
 
-    -- a read after which the run goes on, or is done
+    -- a run that is under way goes on if its check is not done, and otherwise is over
     pub reads_on : (done : Bool) → done ≡ is_check_done asked s → ReadsOn (not done) asked source input left old new s line
     reads_on true is = over_when_done (sym is)
     reads_on false is = (u, sym is)
@@ -153,7 +153,7 @@ module _ (asked : TraceSubcommand) (source : List ℕ) (input left old new : Opt
               (whole_front old newer (u.written ++ []) (subst (λ (x : List ℕ). Appends old newer x) (sym (append-nil u.written)) (appends_keeps old new newer u.written u.appended unwritten)));
         }
 
-    -- a read failed
+    -- a run whose next read fails is cut short as specified
     pub cut_in_read : (left_after newer : Option (List ℕ)) → Keeps left left_after → Keeps new newer → IsCutShort asked source input left_after old newer
     cut_in_read left_after newer unread unwritten = cut_after left_after newer [] (consumes_keeps left left left_after [] (consumes_none left) unread) unwritten
 

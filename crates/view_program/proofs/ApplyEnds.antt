@@ -15,7 +15,7 @@ use Rattle.view_program.specs.declared.fault.ViewError.{ViewError}
 use Rattle.view_program.specs.declared.fault.ViewError.TheVariants.{NoPlan, Plan, NoOpening, NoEvent, Refused, EraseNamesNoBuild, OrderOutsideLimits, Memory, Device}
 use Rattle.view_program.proofs.Takings.{length-taken}
 
--- nothing was read ahead
+-- if no bytes were read ahead, the input is what the reader has left
 pub ahead_none : (known : Option (List ℕ)) → prepend_known [] known ≡ known
 ahead_none None = refl
 ahead_none (Some xs) = refl
@@ -84,7 +84,7 @@ module _ (first : List ℕ) (o : Opening) (opens : IsOpeningText first o) where
 -- ---- the end
 
 module _ (erase : Option ℕ) (unread : Bool) (input : Option (List ℕ)) where
-  -- if there is no history, nothing is written
+  -- if there is no history, an end of `apply` that writes nothing is correct
   pub no_history : (output : Option (List ℕ)) (fault : ViewError) → IsNoHistoryIn input fault → (fault ≡ Device → unread ≡ true) → IsApplyEnd erase unread input output output (Err fault)
   no_history output (NoPlan errors) none read = absurd none
   no_history output (Plan fault) none read = absurd none
@@ -96,7 +96,7 @@ module _ (erase : Option ℕ) (unread : Bool) (input : Option (List ℕ)) where
   no_history output Memory none read = keeps_same output
   no_history output Device none read = rw (read refl) (keeps_same output)
 
-  -- a history, and no map of it
+  -- if there is a history but no map of it, an end of `apply` that writes nothing is correct
   pub no_map : (output : Option (List ℕ)) (o : Opening) (host : HostView) (fault : ViewError) → IsHistoryIn input o host → HasNoMap erase o fault → IsApplyEnd erase unread input output output (Err fault)
   no_map output o host (NoPlan errors) history none = absurd none
   no_map output o host (Plan fault) history none = absurd none
@@ -108,12 +108,12 @@ module _ (erase : Option ℕ) (unread : Bool) (input : Option (List ℕ)) where
   no_map output o host Memory history none = keeps_same output
   no_map output o host Device history none = absurd none
 
-  -- a prefix of the map was written
+  -- if no read failed, an end of `apply` that writes a prefix of the map is correct after a failed write
   pub cut_map : (old new : Option (List ℕ)) (o : Opening) (host : HostView) (text : List ℕ) → unread ≡ false → IsHistoryIn input o host → IsMap erase o host text → AppendsFront old new text
       → IsApplyEnd erase unread input old new (Err Device)
   cut_map old new o host text read history map written = rw read (record { text = text; map = record { o = o; host = host; history = history; map = map }; written = written })
 
-  -- all of it was
+  -- if the input is a history and its whole map was written, the map is printed
   pub printed_map : (old new : Option (List ℕ)) (o : Opening) (host : HostView) (text : List ℕ) → IsHistoryIn input o host → IsMap erase o host text
       → Appends old new text → IsMapPrinted erase input old new
   printed_map old new o host text history map written = record { text = text; map = record { o = o; host = host; history = history; map = map }; written = written }

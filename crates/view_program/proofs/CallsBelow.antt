@@ -14,13 +14,13 @@ use Rattle.realm_plan.specs.declared.step.PlanStep.{PlanStep}
 use Rattle.plan_replay.specs.Run.{Position, Turn, place_of, step_after, turn_text, IsTurn, IsTurnOf}
 use Rattle.view_program.specs.Calls.{comment_start, is_refused_by_rmm, AppendsCallsOfTurn, AppendsCallsOfEvent, AppendsTurnAndCalls, AreCallsOfEvent}
 
--- a text that is appended to if a call succeeds
+-- if the call succeeds, the new text is `whole`
 pub if_ok : {T E : Type 0} (result : Result T E) (new whole old : List ℕ) → new ≡ (if is_ok result then whole else old) → OnOk result (new ≡ whole)
 if_ok (Ok done) new whole old is = is
 if_ok (Err error) new whole old is = tt
 
 module _ (frame : Place) (runs next : List (Option ℕ)) (host : HostView) where
-  -- an event that is appended to nothing
+  -- if the text of an event is appended to an empty text, the new text is that of the event
   event_alone : (event : Event) (old new : List ℕ) → old ≡ [] → AppendsCallsOfEvent frame runs next host event old new → AreCallsOfEvent frame runs next host event new
   event_alone event old new none it = subst (AreCallsOfEvent frame runs next host event) (sym (it.appended ∙ ap (λ (t : List ℕ). t ++ it.text) none)) it.is_text
 

@@ -23,7 +23,7 @@ module _ (form : CallsForm) (frame : Place) (plan : Plan) where
   more (first ∷ order) runs pages next from mid build to old text new before this =
       (before.0, before.1, before.2, before.3, more order before.2 pages next before.0 mid build to before.1 text new before.4 this)
 
-  -- one more turn, of the build that is next
+  -- appending the text of the schedule's next turn to that of the first `i` turns gives the text of the first `i + 1`
   pub calls_more : (order items : List ℕ) (i : ℕ) (runs pages next : List (Option ℕ)) (from mid : Position) (build : ℕ) (to : Position) (old text new : List ℕ)
       → items ≡ order → i < length items
       → build ≡ get_or items i build → AppendsCallsOfTurns form frame plan (take i order) runs pages from mid old text
@@ -33,7 +33,7 @@ module _ (form : CallsForm) (frame : Place) (plan : Plan) where
       ∙ sym (take_more order i build (subst (λ xs. i < length xs) same inside)) in
       subst (λ turns. AppendsCallsOfTurns form frame plan turns runs next from to old new) taken (more (take i order) runs pages next from mid build to old text new before this)
 
-  -- all turns
+  -- the text of the first `i` turns is the text of all turns, if the schedule has no more than `i`
   pub calls_whole : (order items : List ℕ) (i : ℕ) (runs next : List (Option ℕ)) (from to : Position) (old new : List ℕ) → items ≡ order → length items ≤ i
       → AppendsCallsOfTurns form frame plan (take i order) runs next from to old new → AppendsCallsOfTurns form frame plan order runs next from to old new
   calls_whole order items i runs next from to old new same done =

@@ -1,5 +1,5 @@
 -- Lemmas on the outcomes of the subcommand `check`: nothing is written if a read fails, and a prefix of the report if a
--- write fails. A report on the bytes that are kept of an input is one on the input.
+-- write fails. A report on the bytes that are kept of an input is a report on the input.
 use Rattle.std.proofs.Common.{◌≡◌, ◌↔◌, ℕ, List, Option, Some, None, Ok, Err, Bool, true, false, refl, sym, ap, ◌∙◌, subst, string_bytes}
 use Rattle.std.specs.Prelude.{IfSome, is_ok}
 use Rattle.realm_plan.specs.Plan.{plan_of}
@@ -15,7 +15,7 @@ use Rattle.view_program.specs.Stop.{view_fault_of_read}
 use Rattle.view_program.specs.Checked.{verdict_of, IsReportOn, IsVerdictOn, AreErrorsOf, AreErrorsOfBytes, IsCheckEnd}
 use Rattle.view_program.specs.declared.fault.ViewError.TheVariants.{Device}
 
--- the report on the bytes that were kept is one on the input
+-- a report on the bytes that were kept of an input is a report on the input
 pub report_from_kept : (source : List ℕ) (known : Option (List ℕ)) (bytes : List ℕ) (report : LintReport) → IfSome known (λ xs. bytes ≡ kept_of xs) → IsReport source bytes report
     → IsReportOn source known report
 report_from_kept source None bytes report kept is = tt
@@ -39,13 +39,13 @@ errors_from_kept source known bytes errors kept are = record {
   no_plan = verdict_from_plan known bytes false kept (sym are.no_plan);
 }
 
--- nothing was read
+-- if an error ends the reading of the input, an end of `check` that writes nothing is correct
 pub unreported : (source : List ℕ) (unread : Bool) (input output : Option (List ℕ)) (error : ReadError) → (error ≡ read_error.Device → unread ≡ true)
     → IsCheckEnd source unread input output output (Err (view_fault_of_read error))
 unreported source unread input output read_error.Memory read = keeps_same output
 unreported source unread input output read_error.Device read = rw (read refl) (keeps_same output)
 
--- a prefix of the text was written
+-- if no read failed, an end of `check` that writes a prefix of the report is correct after a failed write
 pub cut_report : (source : List ℕ) (unread : Bool) (input old new : Option (List ℕ)) (report : LintReport) → unread ≡ false → IsReportOn source input report → AppendsFront old new (string_bytes report.text)
     → IsCheckEnd source unread input old new (Err Device)
 cut_report source unread input old new report read of_input written = rw read (record { report = report; of_input = of_input; written = written })

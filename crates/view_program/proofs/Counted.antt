@@ -69,7 +69,7 @@ module _ {K : Type 0} (same : K → K → Bool) where
     firsts_step earlier t seen outcome false false later was is unseen =
         ap (λ b. b || is_shown same (firsts same (earlier ++ t ∷ []) seen) outcome) is ∙ later (shown_later earlier t outcome unseen is)
 
-    -- Among the firsts is each outcome that is shown.
+    -- An outcome that no earlier sighting has is among the first sightings if and only if it is among all sightings.
     firsts_shown :
         (earlier seen : List (Sighting K)) (outcome : K)
         → is_shown same earlier outcome ≡ false
@@ -151,7 +151,7 @@ module _ {K : Type 0} (same : K → K → Bool) where
           map-append count_of_tally bumped (tally ∷ []) ∙ ap (λ c. map count_of_tally bumped ++ c ∷ []) is
           ∙ ap (λ b. map count_of_tally bumped ++ (if b then [] else record { outcome = s.outcome; count = 1; first = s.schedule } ∷ [])) (sym new) ∙ after
 
--- a borrow of a whole list, written back, is the new list
+-- if a list of the same length is written over a whole list, the result is the new list
 pub written_back : {X : Type 0} (n : ℕ) (old new : List X) → n ≡ length old → length new ≡ length old → take n (new ++ drop (length new) old) ≡ new
 written_back n old new is all = ap (λ k. take k (new ++ drop (length new) old)) (is ∙ sym all) ∙ take-append_seam new (drop (length new) old)
 

@@ -59,7 +59,7 @@ none_there : (ns : List ℕ) (n : ℕ) → slice_get ns (n % length ns) ≡ None
 none_there [] n none = refl
 none_there (x ∷ ns) n none = absurd (let some = slice_get-get_or (x ∷ ns) (n % length (x ∷ ns)) x (mod_below n (length (x ∷ ns)) (omega arith)) in let e = sym none ∙ some in cc)
 
--- if none is drawn, none has a step left
+-- if no build is drawn, no build has a step left
 none_lowest : (stream : Stream) (left : List Bool) → drawn stream left ≡ None → lowest_of left ≡ None
 unfolding builds_with_steps lowest_of
 none_lowest stream left none = none_kept (could left) (range_with_len 0 8) (none_there (builds_with_steps left) (next_u32 stream).0 none)

@@ -1,5 +1,5 @@
--- Proofs that each event in a legal history belongs to a build of the machine, and of what there is at a place of a
--- history.
+-- Proofs that each event in a legal history belongs to a build of the machine, and lemmas about the event at an index
+-- of a history.
 use Rattle.std.proofs.Common.{◌≡◌, ℕ, zero, suc, ◌<◌, ◌≤◌, true, false, ltb, List, [], ◌∷◌, length, get_or, Option, Some, None, refl, sym, ap, subst, arith}
 use Rattle.std.specs.Prelude.{is_some, slice_get, IfSome}
 use Rattle.std.proofs.lemmas.Bool.Decides.{nat_tests}
@@ -34,7 +34,7 @@ event_of_build limits history seen place event legal same inside is = of_world (
 
 -- ---- a place of a history, which is read as `seen`
 
--- a fact of the event at the place
+-- a property of the event that is read at an index holds of the history's event at this index
 pub at_event : (P : Event → Type 0) (history seen : List Event) (place : ℕ) (event : Event) → seen ≡ history → place < length seen
     → event ≡ get_or seen place event → P event → IfSome (slice_get history place) P
 at_event P history seen place event same inside is holds =
@@ -48,7 +48,7 @@ has_event history seen place same inside few = let long : length seen ≡ length
 few_events : (history seen : List Event) (place : ℕ) → seen ≡ history → false ≡ ltb place (length seen) → length history ≤ place
 few_events history seen place same past = let long : length seen ≡ length history = ap length same in grind (arith, nat_tests)
 
--- past the end every fact of the event holds, since there is none
+-- past the end of the history there is no event, so any property holds of the event there, if any
 pub at_no_event : (P : Event → Type 0) (history seen : List Event) (place : ℕ) → seen ≡ history → false ≡ ltb place (length seen)
     → IfSome (slice_get history place) P
 at_no_event P history seen place same past =

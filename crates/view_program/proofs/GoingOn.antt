@@ -12,7 +12,8 @@ use Rattle.plan_states.specs.declared.step_end.EndOfStep.{EndOfStep}
 use Rattle.plan_replay.specs.Place.{first_place}
 use Rattle.plan_replay.specs.declared.place.PlanCursor.{PlanCursor}
 
--- so far
+-- The choices so far are `front`, and then choices of the lowest build with a step left. The turns of these lead from
+-- `from` to `to`.
 pub record IsGoingOn (plan : Plan) (from : Stage) (front choices : List Choice) (to : Stage) : Type 0 where
   pub more : List Choice
   pub appended : choices ≡ front ++ more
@@ -42,7 +43,8 @@ pub GoesOnTo-whole :
 GoesOnTo-whole plan from front choices to left is same none =
     record { more = is.more; appended = is.appended; lowest = is.lowest; chosen = is.chosen; whole = subst (λ l. lowest_of l ≡ None) same none }
 
--- the run from boot
+-- turns that the lowest build with a step left takes, from the first stage until no build has a step left, are a whole
+-- run, one build after another
 pub IsChosenRun-lowest :
     (plan : Plan) (host : HostView) (places : List PlanCursor) (noted : List EndOfStep) (before choices : List Choice) (to : Stage)
     → places ≡ replicate 8 first_place → noted ≡ [] → before ≡ []

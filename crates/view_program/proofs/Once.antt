@@ -24,11 +24,12 @@ taken_once old [] a b taken other = taken ∙ sym other
 taken_once old (line ∷ more) a b taken other =
     taken_once other.0 more a b (subst (λ (mid : HostView). AreTaken mid more a) (one_taken old line taken.0 other.0 taken.1 other.1) taken.2) other.2
 
--- if a list of lines is taken, so is each of its lines after the lines before it
+-- the line can be applied to the host
 record IsNext (host : HostView) (line : List ℕ) : Type 0 where
   new : HostView
   taken : IsLineTaken host line new
 
+-- if a list of lines is taken, each line can be applied after the lines before it
 next : (old : HostView) (before : List (List ℕ)) (line : List ℕ) (after : List (List ℕ)) (last mid : HostView) → AreTaken old (before ++ line ∷ after) last → AreTaken old before mid → IsNext mid line
 next old [] line after last mid taken here = record { new = taken.0; taken = subst (λ (host : HostView). IsLineTaken host line taken.0) (sym here) taken.1 }
 next old (first ∷ more) line after last mid taken here =

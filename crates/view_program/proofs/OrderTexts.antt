@@ -11,7 +11,7 @@ use Rattle.view_program.specs.OrderText.{turn_in_lines, turns_in_lines}
 
 -- ---- the schedule
 
--- one turn more
+-- the text of a schedule with one more turn is the text of the schedule, followed by that of the turn
 turns_in_lines-append : (place : ℕ) (turns : List ℕ) (build : ℕ)
     → turns_in_lines place (turns ++ build ∷ []) ≡ turns_in_lines place turns ++ turn_in_lines (place + length turns) build
 turns_in_lines-append place [] build =
@@ -22,7 +22,7 @@ turns_in_lines-append place (first ∷ turns) build =
     (turns_in_lines-append (place + 1) turns build ∙ ap (λ at. turns_in_lines (place + 1) turns ++ turn_in_lines at build) same)
     ∙ sym (append_assoc (turn_in_lines place first) (turns_in_lines (place + 1) turns) (turn_in_lines (place + length (first ∷ turns)) build))
 
--- the turns up to a place, and the one there
+-- the text of the first `place + 1` turns is that of the first `place`, followed by that of the next turn
 pub turns_in_lines_more : (order : List ℕ) (place : ℕ) → place < length order
     → turns_in_lines 0 (take (place + 1) order) ≡ turns_in_lines 0 (take place order) ++ turn_in_lines place (get_or order place 0)
 turns_in_lines_more order place here =
@@ -33,7 +33,7 @@ turns_in_lines_more order place here =
 
 -- ---- the plan
 
--- a list that is cut at two places is its three parts
+-- a list that is cut at two places is its three parts, one after another
 pub cut_twice : (bytes until front removed back : List ℕ) (to from : ℕ) → until ≡ take to bytes → back ≡ drop to bytes → front ≡ take from until
     → removed ≡ drop from until → bytes ≡ front ++ (removed ++ back)
 cut_twice bytes until front removed back to from until_is back_is front_is removed_is =
@@ -42,7 +42,7 @@ cut_twice bytes until front removed back to from until_is back_is front_is remov
     sym (sym (append_assoc front removed back) ∙ ap (λ part. part ++ back) (joined ∙ until_is) ∙ ap (λ part. take to bytes ++ part) back_is
     ∙ take-append-drop to bytes)
 
--- three parts, each appended to those before it
+-- appending three parts one after another to an empty text gives the three parts in sequence
 pub three_parts : (none one two three front shown part back : List ℕ) → none ≡ [] → one ≡ none ++ front → two ≡ one ++ shown → three ≡ two ++ back
     → shown ≡ part → three ≡ front ++ (part ++ back)
 three_parts none one two three front shown part back none_is one_is two_is three_is shown_is =
@@ -52,12 +52,13 @@ three_parts none one two three front shown part back none_is one_is two_is three
 
 -- ---- the input
 
--- more bytes than a plan has are no plan
+-- more than 1,048,576 bytes are not a plan
 too_long_for_plan : (bytes : List ℕ) (plan : Plan) → ltb 1048576 (length bytes) ≡ true → plan_of bytes ≡ Ok plan → ⊥
 unfolding plan_of
 too_long_for_plan bytes plan long is = let other = rw long at is in cc
 
--- of an input that is a plan all bytes are kept
+-- if the bytes that were kept of an input are a plan, they are the whole input, and what holds of them holds of the
+-- input
 pub input_has : (P : List ℕ → Type 0) (input : Option (List ℕ)) (bytes : List ℕ) (plan : Plan) → IfSome input (λ xs. bytes ≡ kept_of xs)
     → plan_of bytes ≡ Ok plan → P bytes → IfSome input P
 unfolding kept_of

@@ -1,5 +1,5 @@
--- Lemmas on the outcomes of the subcommand `order`: nothing is written without a new schedule, and a prefix of the new
--- text if a write fails.
+-- Lemmas on the outcomes of the subcommand `order`: nothing is written if there is no new schedule, and a prefix of the
+-- new text is written if a write fails.
 use Rattle.std.proofs.Common.{◌≡◌, ℕ, List, Option, Ok, Err, Bool, true, false, refl, inr, string_bytes}
 use Rattle.std.specs.Prelude.{IfSome}
 use Rattle.checked_io.specs.Whole.{AppendsFront}
@@ -20,7 +20,7 @@ use Rattle.view_program.specs.declared.fault.ViewError.TheVariants.{NoPlan, Plan
 use Rattle.view_program.proofs.CheckEnds.{errors_from_kept}
 use Rattle.view_program.proofs.OrderTexts.{input_has}
 
--- a text that is not accepted is the plan's text with its schedule
+-- if the plan's text with the new schedule is not accepted, the plan is not reordered, for the same reason
 pub not_whole : (turns : SchedulingPolicy) (read : Plan) (bytes order text : List ℕ) (fault : ViewError) → IsOrderOf turns read order → IsWithOrder order bytes text
     → IsNotWhole text fault → IsNotReordered turns read bytes fault
 not_whole turns read bytes order text (NoPlan errors) is_order is_text is = absurd is
@@ -39,13 +39,13 @@ not_whole turns read bytes order text Memory is_order is_text is = tt
 not_whole turns read bytes order text Device is_order is_text is = absurd is
 
 module _ (turns : SchedulingPolicy) (source : List ℕ) (unread : Bool) (input : Option (List ℕ)) where
-  -- nothing was read
+  -- if an error ends the reading of the input, an end of `order` that writes nothing is correct
   pub unread_order : (output : Option (List ℕ)) (error : ReadError) → (error ≡ read_error.Device → unread ≡ true)
       → IsReorderEnd turns source unread input output output (Err (view_fault_of_read error))
   unread_order output read_error.Memory read = keeps_same output
   unread_order output read_error.Device read = rw (read refl) (keeps_same output)
 
-  -- the input is no plan
+  -- if the bytes that were kept give no plan, an end of `order` that writes nothing is correct
   pub no_plan_to_order : (output : Option (List ℕ)) (bytes : List ℕ) (fault : ViewError) → IfSome input (λ xs. bytes ≡ kept_of xs) → GivesNoPlan source bytes fault
       → IsReorderEnd turns source unread input output output (Err fault)
   no_plan_to_order output bytes (NoPlan errors) kept gives = (errors_from_kept source input bytes (string_bytes errors) kept gives, keeps_same output)
@@ -58,7 +58,7 @@ module _ (turns : SchedulingPolicy) (source : List ℕ) (unread : Bool) (input :
   no_plan_to_order output bytes Memory kept gives = keeps_same output
   no_plan_to_order output bytes Device kept gives = absurd gives
 
-  -- the plan is not reordered
+  -- if the plan of the bytes that were kept gets no new schedule, neither does the input, for the same reason
   no_order : (bytes : List ℕ) (plan : Plan) (fault : ViewError) → IfSome input (λ xs. bytes ≡ kept_of xs) → plan_of bytes ≡ Ok plan
       → IsNotReordered turns plan bytes fault → HasNoOrder turns input fault
   no_order bytes plan fault kept is_plan is = record {
@@ -67,7 +67,7 @@ module _ (turns : SchedulingPolicy) (source : List ℕ) (unread : Bool) (input :
     not_reordered = input_has (λ (them : List ℕ). IsNotReordered turns plan them fault) input bytes plan kept is_plan is;
   }
 
-  -- nothing was written
+  -- if the plan gets no new schedule, an end of `order` that writes nothing is correct
   pub not_reordered : (output : Option (List ℕ)) (bytes : List ℕ) (plan : Plan) (fault : ViewError) → IfSome input (λ xs. bytes ≡ kept_of xs)
       → plan_of bytes ≡ Ok plan → IsNotReordered turns plan bytes fault → IsReorderEnd turns source unread input output output (Err fault)
   not_reordered output bytes plan (NoPlan errors) kept is_plan is = absurd is
@@ -85,7 +85,7 @@ module _ (turns : SchedulingPolicy) (source : List ℕ) (unread : Bool) (input :
   not_reordered output bytes plan Memory kept is_plan is = keeps_same output
   not_reordered output bytes plan Device kept is_plan is = absurd is
 
-  -- the plan is reordered
+  -- a reordered text of the bytes that were kept is a reordered text of the input
   pub reordered_in : (bytes text : List ℕ) (plan : Plan) → IfSome input (λ xs. bytes ≡ kept_of xs) → plan_of bytes ≡ Ok plan → IsWholeText turns text
       → IsReorderedText turns plan bytes text → IsReorderedIn turns input text
   reordered_in bytes text plan kept is_plan whole is = record {
@@ -95,7 +95,7 @@ module _ (turns : SchedulingPolicy) (source : List ℕ) (unread : Bool) (input :
     is_reordered = input_has (λ (them : List ℕ). IsReorderedText turns plan them text) input bytes plan kept is_plan is;
   }
 
-  -- a prefix of the text was written
+  -- if no read failed, an end of `order` that writes a prefix of the new text is correct after a failed write
   pub cut_reordered : (old new : Option (List ℕ)) (text : List ℕ) → unread ≡ false → IsReorderedIn turns input text
       → AppendsFront old new text → IsReorderEnd turns source unread input old new (Err Device)
   cut_reordered old new text read is_text written = rw read (record { text = text; is_text = is_text; written = written })

@@ -20,7 +20,7 @@ here_or_lowest : (here : Option ℕ) (left : List Bool) (build : ℕ) → ((x : 
 here_or_lowest None left build found is = lowest_is left build is
 here_or_lowest (Some x) left build found is = found build is
 
--- the build has a step left
+-- the build that has the next turn in the rotation has a step left
 pub rotation_could : (from : ℕ) (left : List Bool) (build : ℕ) → in_rotation from left ≡ Some build → could left build ≡ true
 unfolding in_rotation
 rotation_could from left build is =
@@ -32,7 +32,7 @@ none_of : (here lowest : Option ℕ) → option_or here lowest ≡ None → lowe
 none_of None lowest is = is
 none_of (Some x) lowest is = absurd cc
 
--- if no build has the turn, none has a step left
+-- if no build has the next turn in the rotation, no build has a step left
 pub none_lowest : (from : ℕ) (left : List Bool) → in_rotation from left ≡ None → lowest_of left ≡ None
 unfolding in_rotation
 none_lowest from left none = none_of (lowest_from from left) (lowest_of left) none

@@ -9,7 +9,8 @@ front_more f xs i x inside is =
     ∙ map-append f (take i xs) (get_or xs i x ∷ [])
     ∙ (λ j. sym (take-map f i xs) j ++ f (sym is j) ∷ [])
 
--- two lists that have the same values up to a place, and there
+-- if two lists have the same values up to an index, and at the index too, they have the same values up to the next
+-- index
 pub same_more : {X Y : Type 0} (f : X → Y) (xs ys : List X) (i : ℕ) (x y : X) → i < length xs → i < length ys → x ≡ get_or xs i x → y ≡ get_or ys i y
     → take i (map f xs) ≡ take i (map f ys) → f x ≡ f y → take (i + 1) (map f xs) ≡ take (i + 1) (map f ys)
 same_more f xs ys i x y inside within is also before same =

@@ -19,7 +19,7 @@ AreSamples-more :
 AreSamples-more plan host stream [] now visit after are is = (after, subst (λ s. IsDrawn plan host s visit after) are is, refl)
 AreSamples-more plan host stream (v ∷ visits) now visit after are is = (are.0, are.1, AreSamples-more plan host are.0 visits now visit after are.2 is)
 
--- `count` schedules were drawn and run, and these are counted.
+-- The totals count the runs in `count` schedules drawn from `stream`, and `now` is the rest of the stream.
 pub record IsSampling (plan : Plan) (stream : Stream) (count : ℕ) (now : Stream) (totals : Totals) : Type 0 where
   pub visits : List Visit
   pub are_samples : AreSamples plan (opening_host plan) stream visits now
@@ -38,7 +38,7 @@ IsSampling-more plan stream count now after old new so_far is = record {
   so_many = (let so_many = so_far.so_many in omega (arith, length-append so_far.visits (is.visit ∷ [])));
 }
 
--- The run of a schedule that is drawn, on a fresh host, counted.
+-- If a run on a fresh host, in a schedule drawn from the stream, is added to the totals, it is drawn and counted.
 pub IsDrawnAndCounted-run :
     (plan : Plan) (stream after : Stream) (fresh to : HostView) (choices cs : List Choice) (ends es : List EndOfStep) (old new : Totals)
     → fresh ≡ opening_host plan → cs ≡ choices → es ≡ ends

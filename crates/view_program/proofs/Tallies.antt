@@ -12,7 +12,7 @@ use Rattle.plan_states.specs.declared.tally.PathTally.{PathTally}
 
 -- ---- the loop over tallies
 
--- the first `n` are bumped, and the others are as they were
+-- Of the first `n` tallies, those of the given outcome have their count raised by one. All others are as they were.
 pub record AreBumped {K : Type 0} (same : K → K → Bool) (outcome : K) (old : List (PathTally K)) (n : ℕ) (new : List (PathTally K)) : Type 0 where
   pub all : length new ≡ length old
   pub done : (k : ℕ) (d : PathTally K) → k < n → count_of_tally (get_or new k d) ≡ bump same outcome (count_of_tally (get_or old k d))

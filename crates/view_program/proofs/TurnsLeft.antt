@@ -28,7 +28,8 @@ use Rattle.view_program.specs.TurnsLeft.{is_of_many, AreSteady, steps_left, turn
 
 -- ---- a step's turn
 
--- The step is the same; no undo of it is left, or it had none left before, or it has fewer.
+-- The build is at the same step after the turn. It then has no undo of the step left, or had none left before, or has
+-- fewer left than before.
 record IsLess (before after : PlanCursor) : Type 0 where
   done : after.done ≡ before.done
   less : (after.left ≡ 0) ⊎ ((before.left ≡ 0) ⊎ (after.left < before.left))
@@ -36,14 +37,14 @@ record IsLess (before after : PlanCursor) : Type 0 where
 less_same : (before after : PlanCursor) → before.left ≡ 0 → after ≡ before → IsLess before after
 less_same before after none same = record { done = ap (λ (p : PlanCursor). p.done) same; less = inl (ap (λ (p : PlanCursor). p.left) same ∙ none) }
 
--- a number is 0, and then the test says so, or it is not
+-- `n == 0` is true and `n` is 0, or it is false and `n` is above 0
 zero_or_not : (n : ℕ) → ((n == 0) ≡ true) × (n ≡ 0) ⊎ ((n == 0) ≡ false) × (0 < n)
 zero_or_not n = elim (eqb_tells n 0) as (λ _. ((n == 0) ≡ true) × (n ≡ 0) ⊎ ((n == 0) ≡ false) × (0 < n)) [
   | inl none ↦ inl none
   | inr more ↦ inr (more.0, (let some : n ≢ 0 = more.1 in omega arith))
 ]
 
--- a step that is under way has as many undos to do as are left
+-- if the cursor has undos left, `count` is their number
 abbrev Counts : Result ℕ Refusal → PlanCursor → Type 0
 Counts count place = OnFalse (place.left == 0) (count ≡ Ok place.left)
 
@@ -131,21 +132,21 @@ less_step host build place (WidthLeftOut rd root) answer new after steady is =
 
 -- ---- fewer turns
 
--- fewer steps are left after each
+-- a build that has given up has a step only at the number `giving_up`
 fewer_beyond : (number : ℕ) (step : PlanStep) → given_up number ≡ Some step → number ≡ giving_up
 fewer_beyond number step is = elim (eqb_tells number giving_up) as (λ _. number ≡ giving_up) [
   | inl same ↦ same.1
   | inr apart ↦ absurd (let none : given_up number ≡ None = rw apart.0 refl in let no = sym is ∙ none in cc)
 ]
 
--- a number is below another, and then the test says so, or it is not
+-- `nat_lt n m` is true and `n` is below `m`, or it is false and `n` is not below `m`
 below_or_not : (n m : ℕ) → (nat_lt n m ≡ true) × (n < m) ⊎ (nat_lt n m ≡ false) × (m ≤ n)
 below_or_not n m = elim (cases_Bool (nat_lt n m)) as (λ _. (nat_lt n m ≡ true) × (n < m) ⊎ (nat_lt n m ≡ false) × (m ≤ n)) [
   | inl below ↦ inl (below, ltb-true n m below)
   | inr past ↦ inr (past, ltb-false n m past)
 ]
 
--- those that are left in a plan that gives up
+-- for a build that gives up but has not yet done so, the bound is its remaining steps and an abort
 left_below : (steps : List PlanStep) (number : ℕ) → number < giving_up → steps_left true steps number ≡ length steps - number + 1
 left_below steps number below = rw (lt-ltb number giving_up below) refl
 
@@ -155,7 +156,7 @@ left_beyond steps number past = elim (below_or_not number giving_up) as (λ _. s
   | inr beyond ↦ rw beyond.0 refl
 ]
 
--- the number after one of the plan's steps, in a plan that gives up
+-- after one of the plan's steps, a build that gives up has at least one step fewer left, by the bound
 next_below : (steps : List PlanStep) (number next : ℕ) → number < length steps → number < giving_up → (next ≡ giving_up) ⊎ (next ≡ number + 1)
     → steps_left true steps next + 1 ≤ steps_left true steps number
 next_below steps number next there below (inl gives_up) =
@@ -212,7 +213,7 @@ module _ (gives_up : Bool) (steps : List PlanStep) where
   at_rest : (place : PlanCursor) → (place.left == 0) ≡ true → turns_of place ≡ left_at place.done * 2 ^ 16
   at_rest place none = rw none refl
 
--- numbers of turns, by those of steps
+-- with fewer steps left, and no undos under way, the bound on the turns is lower
 rest_to_rest : (new old : ℕ) → new + 1 ≤ old → new * 2 ^ 16 < old * 2 ^ 16
 rest_to_rest new old less = omega arith
 
@@ -230,7 +231,7 @@ is_below before after (inl none) some more = absurd (omega arith)
 is_below before after (inr (inl none)) some more = absurd (omega arith)
 is_below before after (inr (inr less)) some more = less
 
--- The turns of a step, which is used up or goes on.
+-- A turn of a step, after which the step is used up or has undos left.
 module _ (gives_up : Bool) (steps : List PlanStep) (answer : TurnAnswer) (before after : PlanCursor) (step : PlanStep) (is : step_numbered gives_up steps before.done ≡ Some step) where
   abbrev moved : PlanCursor
   moved = moved_on gives_up answer after
@@ -281,7 +282,7 @@ module _ (gives_up : Bool) (steps : List PlanStep) (answer : TurnAnswer) (before
             (work_to_work (left_at gives_up steps before.done) after.left before.left (is_below before after less.less some.1 more.1))
       ])
 
-  -- of one build
+  -- a turn after which fewer than 2 ^ 16 undos are left lowers the bound on its build's further turns
   fewer_of_place : IsLess before after → moved.left < 2 ^ 16 → turns_of gives_up steps moved < turns_of gives_up steps before
   fewer_of_place less few =
       elim (zero_or_not after.left) as (λ _. turns_of gives_up steps moved < turns_of gives_up steps before) [
@@ -295,7 +296,7 @@ first_fewer new old rest less = omega arith
 rest_fewer : (first new old : ℕ) → new < old → first + new < first + old
 rest_fewer first new old less = omega arith
 
--- and so of all builds
+-- if a turn lowers the bound for its build, it lowers the bound for all builds together
 fewer_of_all :
     (gives_up : Bool) (builds : List (List PlanStep)) (places : List PlanCursor) (build : ℕ) (steps : List PlanStep) (after : PlanCursor)
     → slice_get builds build ≡ Some steps → build < length places
@@ -321,7 +322,7 @@ moved_left gives_up answer after =
 stays_at : (gives_up : Bool) (answer : TurnAnswer) (after : PlanCursor) → (after.left == 0) ≡ false → moved_on gives_up answer after ≡ after
 stays_at gives_up answer after some = rw some refl
 
--- The places after a turn: that of its build, and those of others.
+-- The cursors after a turn: that of the turn's build is the new one, and those of other builds are as they were.
 module _ (places : List PlanCursor) (build : ℕ) (after : PlanCursor) (new : List PlanCursor) (inside : build < length places) (is_new : new ≡ slice_set places build after) where
   place_of-same : place_of new build ≡ after
   place_of-same = ap (λ ps. place_of ps build) is_new ∙ get_or-set_same places build after first_place inside
@@ -382,7 +383,7 @@ pub steady_after :
 steady_after plan from turn to steady inside is =
     steady_of plan from turn to (step_after plan turn.build (place_of from.places turn.build).done) steady inside refl is
 
--- the build of a step
+-- if an optional list of steps gives a step at a number, the list is there and gives this step
 of_build :
     (gives_up : Bool) (steps : Option (List PlanStep)) (done : ℕ) (step : PlanStep)
     → option_and_then (λ ss. step_numbered gives_up ss done) steps ≡ Some step

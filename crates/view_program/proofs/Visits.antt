@@ -17,7 +17,7 @@ use Rattle.plan_states.specs.declared.step_end.EndOfStep.{EndOfStep}
 use Rattle.view_program.specs.declared.schedules.totals.Totals.{Totals}
 use Rattle.view_program.specs.Exploring.{IsAdded}
 
--- a run leaves the settings as they were
+-- a run leaves the host's settings as they were
 pub opens_same :
     (plan : Plan) (fresh to : HostView) (choices : List Choice) (ends : List EndOfStep)
     → fresh ≡ opening_host plan → IsChosenRun plan fresh choices to ends → opening_host plan ≡ fresh_like to
@@ -25,7 +25,7 @@ opens_same plan fresh to choices ends opens is =
     let told = run_of_plan plan fresh choices to ends is in
     ap fresh_like (sym opens) ∙ fresh_like-run (record plan { order = chosen_schedule choices }) fresh to [] told.0 told.1
 
--- a run with these turns and ends, as the slices have them
+-- if a run and the host's final map are counted for `n` builds, and the plan has `n`, the run is added to the totals
 pub IsAdded-run :
     (plan : Plan) (host : HostView) (choices : List Choice) (ends : List EndOfStep) (map_of_it : String Global) (old new : Totals) (n : ℕ)
     → n ≡ length plan.builds → string_bytes map_of_it ≡ map_text host

@@ -45,11 +45,11 @@ assigned ripas granule = record { state = Assigned; ripas = ripas; granule = Som
 
 -- ---- rows, one change after another
 
--- a row of level 3 that was put last, and the one that a walk ends at
+-- after a row is put at a place of level 3, it is the row there
 pub put_here : (rows : Rows) (ipa : ℕ) (row : Row) → get (insert rows (3, ipa) row) (3, ipa) ≡ Some row
 put_here rows ipa row = get-insert place_total rows (3, ipa) row (3, ipa) ∙ ap (λ t. cond t (Some row) (get rows (3, ipa))) (place_self (3, ipa))
 
--- with a page at granule 4, and without it again
+-- the rows with granule 4 mapped as a page, and (`without_page`) with that page unmapped again
 abbrev with_page : Rows → ℕ → RipasOf → Rows
 with_page rows ipa ripas = put_row rows 3 ipa (assigned ripas 4)
 
@@ -130,7 +130,7 @@ rammed = step_by eight _ _ (by 0 (Ripas 8 4)) _ refl
     ∙ check_true _ _ _ refl ∙ check_true _ _ _ all_free)
     refl
 
--- the worlds from then on, by the realm, and granules 4, 6 and 7
+-- the worlds after both tables are created, given the realm's row and the cells of granules 4, 6 and 7
 abbrev late : RealmRow → Cell → Cell → Cell → World
 late realm fourth sixth seventh = world_of (rd realm ∷ table_page ∷ table_page ∷ table_page ∷ fourth ∷ source ∷ sixth ∷ seventh ∷ [])
 
@@ -169,7 +169,7 @@ entered : step eight (with_rec_pages (active with_data ready) (page_of 7)) (by 0
 unfolding named outcome_of fits updated_all check realm_from with_realm starting_tables
 entered = step_by eight _ _ (by 0 (Enter 0)) _ refl (rec_there (active with_data ready) 0 _ (rec Ready) (latest empty (rec Ready))) refl
 
--- the guest writes the last byte of its page
+-- the bytes of the page after the guest has written the last one
 abbrev written : List ℕ
 written = set (page_of 7) 4095 1
 

@@ -72,7 +72,7 @@ filled-world : step (machine_of 2) bare (by 0 (Fill 1 255)) ≡ Some (record bar
 unfolding step named outcome_of fits updated_all check
 filled-world = refl
 
--- a byte that the host reads is the one seen, and nothing changes
+-- the world after page 1 is filled with 255; a Peek of page 1 must give this value, and it changes nothing
 abbrev filled : World
 filled = record bare { machine = page zero_page ∷ page (page_of 255) ∷ [] }
 
@@ -101,7 +101,7 @@ untaken-world : step (machine_of 2) filled (by 0 (UnTake 0 1)) ≡ Some (opening
 unfolding step named outcome_of fits updated_all check
 untaken-world = refl
 
--- all of these operations, one after another
+-- all of these operations in sequence lead back to the opening world
 in_turn-world : replay (machine_of 2) (by 0 (Take 0 1) ∷ by 0 (Fill 1 255) ∷ by 0 (Peek 1 4095 255) ∷ by 0 (Delegate 1) ∷ by 0 (Undelegate 1) ∷ by 0 (UnTake 0 1) ∷ [])
     ≡ Some (opening (machine_of 2))
 unfolding step named outcome_of fits updated_all check
@@ -131,7 +131,7 @@ blocks-free : free (replay (machine_of 4) blocks) ≡ Some []
 unfolding after step named outcome_of fits updated_all check
 blocks-free = refl
 
--- a block begins at a multiple of its size
+-- a block must begin at a multiple of its size
 unaligned : replay (machine_of 4) (by 0 (Take 1 1) ∷ []) ≡ None
 unfolding after step named outcome_of fits updated_all
 unaligned = refl

@@ -56,7 +56,7 @@ rec_page = held InRec 1
 abbrev data_page : List ℕ → Cell
 data_page bytes = record (held InData 1) { bytes = bytes }
 
--- the worlds of it, by the realm and granules 2, 3, 4, 6 and 7
+-- the worlds of this example, given the realm's row and the cells of granules 2, 3, 4, 6 and 7
 abbrev world : RealmRow → Cell → Cell → Cell → Cell → Cell → World
 world realm g2 g3 g4 g6 g7 = record { machine = cells; leases = map (λ _. Some 1) cells }
   where
@@ -125,7 +125,7 @@ gone = remove one_again 0
 latest_second : (recs : Recs) (rec : RecRow) → get (insert recs 1 rec) 1 ≡ Some rec
 latest_second recs rec = get-insert nat_cmp_total recs 1 rec 1
 
--- the first one is there all the time
+-- the first REC is unchanged after the second one is created, runs, stops and is destroyed
 first_stays : get one_again 0 ≡ Some (rec 6 Ready)
 first_stays =
     get-remove nat_cmp_total stopped 1 0 ∙ get-insert nat_cmp_total running 1 (rec 7 Ready) 0 ∙ get-insert nat_cmp_total both 1 (rec 7 Running) 0
@@ -140,7 +140,7 @@ with_both = record third { rows = with_data; measurement = m3; next = 2; recs = 
 abbrev active : Rows → Recs → RealmRow
 active rows recs = record with_both { state = Active; rows = rows; recs = recs }
 
--- the worlds with both tables, by the realm, the page of data and the pages of the RECs
+-- the worlds with both tables, given the realm's row and the cells of the data page and of the RECs
 abbrev whole : RealmRow → Cell → Cell → Cell → World
 whole realm g4 g6 g7 = world realm table_page table_page g4 g6 g7
 
@@ -163,7 +163,7 @@ entered : step (machine_of 8) (whole (active with_data both) (data_page (page_of
 unfolding named outcome_of fits updated_all check realm_from with_realm starting_tables
 entered = step_by (machine_of 8) _ _ (by 1 (Enter 1)) _ refl (rec_there (active with_data both) 1 _ (rec 7 Ready) (latest_second one (rec 7 Ready))) refl
 
--- the guest writes the byte at 4094 of its page
+-- the bytes of the page after the guest has written the one at 4094
 abbrev written : List ℕ
 written = set (page_of 7) 4094 9
 

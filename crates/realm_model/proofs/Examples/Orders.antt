@@ -23,7 +23,7 @@ in_turns = by 0 (Take 0 0) ∷ by 1 (Take 0 1) ∷ by 0 (Fill 0 7) ∷ by 1 (Del
 abbrev one_by_one : List Event
 one_by_one = by 1 (Take 0 1) ∷ by 1 (Delegate 1) ∷ by 0 (Take 0 0) ∷ by 0 (Fill 0 7) ∷ []
 
--- page 0 as build 0 filled it, and page 1 as build 1 delegated it
+-- the world with page 0 as build 0 filled it, and page 1 as build 1 delegated it
 abbrev both : World
 both = record { machine = page (page_of 7) ∷ delegated ∷ []; leases = Some 0 ∷ Some 1 ∷ [] }
 

@@ -10,7 +10,7 @@ use Rattle.realm_model.proofs.RowKinds.{Vacant}
 use Rattle.realm_model.proofs.Rows.{get-put_rows, get-put_rows_other, all_rows_from}
 use Rattle.realm_model.proofs.Examples.Tables.{vacant, leads, apart, tabled}
 
--- a table of level 3
+-- the rows with a table of level 3 at IPA granule 0
 abbrev pub mapped : Rows
 mapped = with_table tabled 3 0 3 Empty
 
@@ -20,12 +20,12 @@ mapped-above =
     get-put_rows_other (λ _. unassigned Empty) (put_row tabled 2 0 (table 3)) 3 0 512 (2, 0) (λ k less. refl)
     ∙ get-insert place_total tabled (2, 0) (table 3) (2, 0)
 
--- its row k is UNASSIGNED and EMPTY
+-- each of the 512 rows of this table is UNASSIGNED and EMPTY
 pub mapped-row : (k : ℕ) → k < 512 → get mapped (3, 0 + k * 1) ≡ Some (vacant Empty)
 unfolding with_table
 mapped-row k less = get-put_rows (λ _. unassigned Empty) (put_row tabled 2 0 (table 3)) 3 0 512 k less
 
--- RAM at pages 8 to 11
+-- the rows after pages 8 to 11 become RAM
 abbrev pub ram : Rows
 ram = with_ram mapped 8 4
 

@@ -57,7 +57,7 @@ on_four-free : free (replay (machine_of 4) on_four) ≡ Some []
 unfolding after step named outcome_of fits updated_all check realm_from starting_tables
 on_four-free = refl
 
--- a REC, with the number that is next and no other
+-- the events that create a realm and a REC with the given number; only the realm's next number, 0, is accepted
 abbrev rec_made : ℕ → List Event
 rec_made number = by 0 (Take 2 0) ∷ by 0 (Delegate 0) ∷ by 0 (Delegate 1) ∷ by 0 (Delegate 2) ∷ by 0 (Realm 0 start 1)
     ∷ by 0 (Rec 2 (record { items = [] }) number) ∷ by 0 Activate ∷ []

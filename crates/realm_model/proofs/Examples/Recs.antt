@@ -83,7 +83,7 @@ runs : step (machine_of 4) (world ready (of_realm InRec zero_page)) (by 0 (Enter
 unfolding named outcome_of fits updated_all check realm_from with_realm starting_tables
 runs = step_by (machine_of 4) _ _ (by 0 (Enter 0)) _ refl (rec_there (realm ready) 0 _ (rec Ready) (latest empty (rec Ready))) refl
 
--- one REC is counted then, and its reverse is refused
+-- while the REC runs, the count of running RECs is 1, and the destruction of the REC is refused
 runs-count : running_count (realm_of 0 (world running (of_realm InRec zero_page))) ≡ 1
 unfolding running_count realm_from starting_tables
 runs-count = ap (λ o. length {A = ℕ} (cond (is_rec_running o) (0 ∷ []) [])) (latest (ready rec) (rec Running))
@@ -120,7 +120,7 @@ back-is : undoing 0 stopped_again ≡ back
 unfolding open_entries reverse_of is_reverse
 back-is = refl
 
--- no row of a new realm is a table, and no REC is left
+-- the realm can be destroyed, since no row of its starting table is TABLE and no REC is left
 ends : step (machine_of 4) (world gone delegated) (by 0 (UnRealm 0 start 1)) ≡ Some (world_of (delegated ∷ delegated ∷ delegated ∷ page zero_page ∷ []))
 unfolding named outcome_of fits updated_all realm_from with_realm root_rows starting_tables
 ends = step_by (machine_of 4) _ _ (by 0 (UnRealm 0 start 1)) _ refl
@@ -164,7 +164,7 @@ marked-back : rolling_back (mark_at 0 on_four) stopped_again ≡ by 0 unmade ∷
 unfolding open_entries reverse_of is_reverse
 marked-back = refl
 
--- the history that is rolled back to the mark, and the world that it leads to
+-- the history with the rollback to the mark leads to the world in which the REC is gone and its granule DELEGATED
 marked-world : replay (machine_of 4) (stopped_again ++ rolling_back (mark_at 0 on_four) stopped_again) ≡ Some (world gone delegated)
 marked-world =
     ap (λ es. replay (machine_of 4) (stopped_again ++ es)) marked-back
@@ -181,8 +181,8 @@ marked-legal = record {
   in_turn = joined [] stopped_again (by 0 unmade ∷ []) (forward [] stopped_again refl) (λ r. refl, tt);
 }
 
--- without the build's events after the mark, that history is the one of the mark: the REC, its runs and the activation
--- are left out
+-- the rolled-back history without the build's events after the mark is the history at the mark: the REC, its runs and
+-- the activation are left out
 marked-left : erase_after 0 (mark_at 0 on_four).place (stopped_again ++ by 0 unmade ∷ []) ≡ on_four
 marked-left = refl
 

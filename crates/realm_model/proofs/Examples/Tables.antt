@@ -33,14 +33,14 @@ use Rattle.realm_model.proofs.Walks.{walk_there, walk_above}
 use Rattle.realm_model.proofs.Examples.Worlds.{machine_of, page, delegated, rd, table_page, start_rows, fresh, world_of, step_by, and_then, at_end, forward, joined}
 use Rattle.realm_model.proofs.Examples.Realms.{on_four, on_four-world}
 
--- rows as they are written down
+-- an UNASSIGNED row with the given RIPAS, and (`leads`) a TABLE row that leads to the given granule
 abbrev pub vacant : Ripas → Row
 vacant ripas = record { state = Unassigned; ripas = ripas; granule = None }
 
 abbrev pub leads : ℕ → Row
 leads granule = record { state = Table; ripas = Empty; granule = Some granule }
 
--- places of one level with other IPA granules
+-- two places of one level with different IPA granules differ
 pub apart : (level i k : ℕ) → (i ≡ k → ⊥) → differs (level, i) (level, k)
 apart level i k other = false_from _ (λ e. other (ap (λ (p : ℕ × ℕ). p.1) (same_place (level, i) (level, k) e)))
 
@@ -79,7 +79,7 @@ module _ (width : ℕ) where
   unfolding root_rows
   beside_root q apart = get-put_rows_other (λ _. unassigned Empty) empty 1 0 (512 * start_count width) q apart ∙ get-empty place_cmp q
 
--- the rows of one starting table
+-- the rows of a single starting table are UNASSIGNED, and there are no rows beside or below them
 
 root-first : get start_rows (1, 0) ≡ Some (vacant Empty)
 root-first = root-row 39 0 (lit≤ tt)

@@ -21,7 +21,7 @@ use Rattle.realm_model.proofs.Walks.{walk_there}
 use Rattle.realm_model.proofs.Examples.Worlds.{machine_of, delegated, rd, table_page, start_rows, fresh, world_of, step_by}
 use Rattle.realm_model.proofs.Examples.Tables.{vacant, leads, apart, within_table, beside_table, without, tabled, tabled-above, tabled-beside, tabled-first, tabled-last}
 
--- a realm of four pages whose third is a table, and the fourth a table too, or DELEGATED
+-- the worlds of a realm on four granules, given its rows and the cells of the third and fourth granule
 abbrev world : Rows → Cell → Cell → World
 world rows third fourth = world_of (rd (record fresh { rows = rows }) ∷ table_page ∷ third ∷ fourth ∷ [])
 

@@ -29,12 +29,12 @@ wide-states : states (replay (machine_of 8) (wide 0 4 41)) ≡ Some (Rd ∷ Dele
 unfolding after step named outcome_of fits updated_all check realm_from starting_tables
 wide-states = refl
 
--- a width may be 43 at most
+-- a realm of IPA width 44 is refused; the greatest width is 43
 too_wide : is_some (replay (machine_of 8) (wide 0 1 44)) ≡ false
 unfolding after step named outcome_of fits updated_all check realm_from starting_tables
 too_wide = refl
 
--- four tables begin at a multiple of four
+-- four starting tables must begin at a multiple of four
 askew : is_some (replay (machine_of 8) (wide 0 2 41)) ≡ false
 unfolding after step named outcome_of fits updated_all check realm_from starting_tables
 askew = refl
@@ -44,7 +44,7 @@ rd_apart : (is_some (replay (machine_of 8) (wide 4 4 41)) ≡ false) × (is_some
 unfolding after step named outcome_of fits updated_all check realm_from starting_tables
 rd_apart = (refl, refl)
 
--- each granule is DELEGATED
+-- a creation of a realm without the delegation of granule `g`; each granule that it names must be DELEGATED
 abbrev but_one : ℕ → List Event
 but_one g = by 0 (Take 3 0) ∷ map (λ k. by 0 (Delegate k)) (filter (λ k. not (k == g)) (0 ∷ 4 ∷ 5 ∷ 6 ∷ 7 ∷ [])) ++ by 0 (Realm 0 (root_at 4 41) 1) ∷ []
 
@@ -56,13 +56,13 @@ but_last : is_some (replay (machine_of 8) (but_one 7)) ≡ false
 unfolding after step named outcome_of fits updated_all check realm_from starting_tables
 but_last = refl
 
--- each granule is the build's
+-- the realm is refused, since one of its starting tables is a granule of another build
 others_table : is_some (replay (machine_of 8) (by 0 (Take 2 0) ∷ by 0 (Take 1 4) ∷ by 0 (Take 0 6) ∷ by 1 (Take 0 7)
     ∷ map (λ k. by 0 (Delegate k)) (0 ∷ 4 ∷ 5 ∷ 6 ∷ []) ++ by 1 (Delegate 7) ∷ by 0 (Realm 0 (root_at 4 41) 1) ∷ [])) ≡ false
 unfolding after step named outcome_of fits updated_all check realm_from starting_tables
 others_table = refl
 
--- two realms have different VMIDs
+-- the events in which two builds ask for a realm each, the second with the given VMID; the VMIDs must differ
 abbrev two_realms : ℕ → List Event
 two_realms vmid = by 0 (Take 1 0) ∷ by 1 (Take 1 2) ∷ by 0 (Delegate 0) ∷ by 0 (Delegate 1) ∷ by 1 (Delegate 2) ∷ by 1 (Delegate 3)
     ∷ by 0 (Realm 0 (root_at 1 39) 1) ∷ by 1 (Realm 2 (root_at 3 39) vmid) ∷ []

@@ -93,7 +93,7 @@ lower-start = beside_table upper 3 second 2 Empty (1, second) (λ k less. refl) 
 lower-first : get lower (3, second) ≡ Some (vacant Empty)
 lower-first = within_table upper 3 second 2 Empty 0 (lit≤ tt)
 
--- no table covers the last protected IPA granule
+-- no table of level 3 covers the last protected IPA granule
 lower-three : get lower (3, 268435455) ≡ None
 lower-three =
     beside_table upper 3 second 2 Empty (3, 268435455) (λ k less. apart 3 268435455 (second + k * 1) (λ e. omega arith))
@@ -181,7 +181,7 @@ bare-plain : all_rows (λ row. not (is_table row)) bare 1 0 2048 ≡ true
 unfolding root_rows
 bare-plain = all_rows_from (λ row. not (is_table row)) plain bare 1 0 2048 (λ k less. sym (bare-same (1, 0 + k * covered_count 1)) ∙ put_there (unassigned Empty) empty 1 0 2048 k less)
 
--- a table under the second starting table is seen
+-- the check of all starting tables for TABLE rows finds the one in the second starting table
 upper-table : all_rows (λ row. not (is_table row)) upper 1 0 2048 ≡ false
 upper-table = false_from _ (λ all.
     let found = all_rows_at (λ row. not (is_table row)) upper 1 0 2048 512 all (lit≤ tt) in
@@ -203,7 +203,7 @@ raised : step eight (world wide delegated delegated delegated) (by 0 (Rtt 1 seco
 unfolding named outcome_of fits updated_all check realm_from with_realm
 raised = step_by eight _ _ (by 0 (Rtt 1 second 2)) _ refl (end_there wide second 1 _ _ (walk_there wide second 1 (vacant Empty) (lit≤ tt) wide-second)) refl
 
--- the realm can't be destroyed now
+-- a realm with a table below a starting table can't be destroyed
 stands : outcome_in eight (world upper table_page delegated delegated) (by 0 (UnRealm 0 four 1)) ≡ Err (record { status = OfRealm; index = 0 })
 unfolding named outcome_of check realm_from with_realm
 stands = refused _ _ (λ i. eq-eqb (len no_recs) 0 (len-empty nat_cmp RecRow) i && not (not (upper-table i)))
@@ -215,7 +215,7 @@ lowered : step eight (world upper table_page delegated delegated) (by 0 (Rtt 2 s
 unfolding named outcome_of fits updated_all check realm_from with_realm
 lowered = step_by eight _ _ (by 0 (Rtt 2 second 3)) _ refl (end_there upper second 2 _ _ (walk_there upper second 2 (vacant Empty) (lit≤ tt) upper-first)) refl
 
--- the upper half of its IPA granules is not protected
+-- a page in the upper half of the realm's IPA granules is refused, since that half is not protected
 unprotected : outcome_in eight (world lower table_page table_page delegated) (by 0 (Unknown 3 268435456)) ≡ Err (record { status = Input; index = 0 })
 unfolding named outcome_of check realm_from with_realm
 unprotected = refl
@@ -254,7 +254,7 @@ unraised = step_by eight _ _ (by 0 (UnRtt 1 second 2)) _
     ∙ check_true _ _ _ refl ∙ check_true _ _ _ closed-unused)
     refl
 
--- the RD and all starting tables are DELEGATED and zero
+-- the world in which all eight granules are DELEGATED and zero
 abbrev all_delegated : World
 all_delegated = world_of (delegated ∷ delegated ∷ delegated ∷ delegated ∷ delegated ∷ delegated ∷ delegated ∷ delegated ∷ [])
 

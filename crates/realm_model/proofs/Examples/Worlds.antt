@@ -29,26 +29,26 @@ machine_of pages = record { pages = pages; vmids = 8; aux = 0; builds = 2 }
 
 -- ---- cells and worlds
 
--- a page of the host
+-- the cell of a page of the host with the given bytes
 abbrev pub page : List ℕ → Cell
 page bytes = record { state = Undelegated; realm = None; bytes = bytes; descriptor = None }
 
--- a granule that is DELEGATED
+-- the cell of a DELEGATED granule
 abbrev pub delegated : Cell
 delegated = record { state = Delegated; realm = None; bytes = zero_page; descriptor = None }
 
--- the RD granule 0, and a granule of its realm
+-- the cell of the RD, granule 0, and (`of_realm`) of another granule of its realm
 abbrev pub rd : RealmRow → Cell
 rd realm = record { state = Rd; realm = Some 0; bytes = zero_page; descriptor = Some realm }
 
 abbrev pub of_realm : GranuleState → List ℕ → Cell
 of_realm state bytes = record { state = state; realm = Some 0; bytes = bytes; descriptor = None }
 
--- a table
+-- the cell of a table of this realm
 abbrev pub table_page : Cell
 table_page = of_realm InRtt zero_page
 
--- the starting table alone, granule 1, and the rows that it begins with
+-- a single starting table, at granule 1, and (`start_rows`) the rows of a new realm with it
 abbrev pub start : Root
 start = record { first = 1; width = 39 }
 
@@ -59,14 +59,14 @@ start_rows = root_rows 39
 abbrev pub fresh : RealmRow
 fresh = record { state = New; vmid = 1; root = start; next = 0; measurement = zero_measurement; recs = empty; rows = start_rows }
 
--- its RECs, and the one of number 0 as it was put last
+-- the RECs of a realm, by number; the REC last put at number 0 is the one found there (`latest`)
 abbrev pub Recs : Type 0
 Recs = FinMap nat_cmp RecRow
 
 pub latest : (recs : Recs) (rec : RecRow) → get (insert recs 0 rec) 0 ≡ Some rec
 latest recs rec = get-insert nat_cmp_total recs 0 rec 0
 
--- the RECs of a realm that has one, of number 0: it is made, runs, stops and is destroyed
+-- the RECs of a realm in which REC 0 is created, runs, stops and is destroyed, given the REC's row in each state
 abbrev pub OneRec : Type 0
 OneRec = (RecState → RecRow) → Recs
 
@@ -83,7 +83,7 @@ module _ (rec : RecState → RecRow) where
   abbrev pub gone : Recs
   gone = remove stopped 0
 
--- all is leased by build 0
+-- a world with these cells, in which build 0 leases every granule
 abbrev pub world_of : List Cell → World
 world_of cells = record { machine = cells; leases = map (λ _. Some 0) cells }
 
@@ -100,14 +100,15 @@ pages_seen w = option_map (λ (w : World). map (λ (c : Cell). c.bytes) w.machin
 
 -- ---- steps
 
--- a step whose command depends on rows or RECs, which are not computed
+-- an allowed event whose outcome is a list of updates is a step to the world that the updates lead to; the outcome may
+-- depend on rows or RECs
 pub step_by : (limits : Limits) (w v : World) (e : Event) (us : List Update) → is_allowed limits w e ≡ true → outcome_in limits w e ≡ Ok us → updated_all e.build us w ≡ Some v
     → step limits w e ≡ Some v
 unfolding step
 step_by limits w v e us allowed outcome did =
     ap (λ t. cond t (after_outcome e.build (outcome_in limits w e) w) None) allowed ∙ ap (λ o. after_outcome e.build o w) outcome ∙ did
 
--- one step, and the steps after it
+-- if the first event leads to world `x`, all events lead where the remaining ones lead from `x`
 pub and_then : (limits : Limits) (w x : World) (o : Option World) (e : Event) (es : List Event) → step limits w e ≡ Some x → after limits es x ≡ o → after limits (e ∷ es) w ≡ o
 unfolding after
 and_then limits w x o e es stepped rest = ap (option_and_then (after limits es)) stepped ∙ rest

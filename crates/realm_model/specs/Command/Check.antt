@@ -86,8 +86,8 @@ with_realm rd f = elim rd.cell.descriptor [ Some realm ↦ f realm | None ↦ Er
 unfoldable pub with_rec : RealmRow → ℕ → (RecRow → Outcome) → Outcome
 with_rec realm number f = elim (get realm.recs number) [ Some rec ↦ f rec | None ↦ Err error_input ]
 
--- The outcome that `f` gives for the end of a walk down to a level; RMI_ERROR_RTT if the walk has no end. In every
--- world that a history leads to, a command's walk ends at a row, so no command is refused for a missing end.
+-- The outcome that `f` gives for the row at which a walk down to a level ends; RMI_ERROR_RTT if the walk finds no row.
+-- In every world that a history leads to, a command's walk ends at a row, so no command is refused for a missing one.
 unfoldable pub with_end : Rows → ℕ → ℕ → (Walk → Outcome) → Outcome
 with_end rows ipa level f = elim (walk rows ipa level) [ Some end ↦ f end | None ↦ Err (error_rtt 0) ]
 

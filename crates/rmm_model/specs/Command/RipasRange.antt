@@ -20,7 +20,7 @@ use Rattle.rmm_model.specs.Command.Operand.{is_multiple}
 abbrev pub size_checks : ℕ → ℕ → List Check
 size_checks base top = check Size [] (nat_le top base) error_input ∷ []
 
--- checks that a range begins with a whole entry that can be changed
+-- checks that a range begins where an entry begins, that this entry can be changed, and that the range has all of it
 abbrev pub progress_checks : List Condition → Machine → Changeable → Walked → ℕ → ℕ → List Check
 progress_checks after m changeable found base top =
     check BaseAlign after (not (is_multiple base (entry_size found.level))) (error_rtt found.level)

@@ -20,8 +20,9 @@ use Rattle.rmm_model.specs.Command.RipasRange.{size_checks, progress_checks, cha
 abbrev pub set_changeable : RipasRequest → Changeable
 set_changeable request = record { assigned = true; destroyed = request.changes_destroyed }
 
--- A range ends at or below the top of a REC's RIPAS request; if it is not empty and the REC is the realm's, it begins
--- at a protected address. What a guest asks for is protected, so each address of such a range is.
+-- A range ends at or below the top of a REC's RIPAS request. If the range is not empty and the REC belongs to the
+-- realm, the range begins at a protected address. A guest can ask for protected addresses only, so each address of such
+-- a range is protected.
 abbrev pub is_within : RmmRealm → RmmRec → Bool → ℕ → ℕ → Bool
 is_within realm asking is_owner base top =
     nat_le top asking.ripas.top && (not is_owner || (nat_le top base || is_protected realm base))

@@ -3,7 +3,7 @@ use Rattle.std.specs.List.{All}
 use Rattle.build_seats.specs.Seats.{SeatView}
 use Rattle.build_seats.proofs.close.audit.Given as goal
 
--- nothing has changed, and those so far count what their books do
+-- the books and the seats are unchanged, and each seat so far has the event count of its build in the books
 abbrev pub invariant-loop-seat : goal.invariant-loop-seat
 invariant-loop-seat g l =
     (l.books ≡ l.initial.books) × (l.seats ≡ l.initial.seats)

@@ -5,7 +5,8 @@ use Rattle.build_seats.specs.Passes.{unused}
 use Rattle.build_seats.specs.Seats.{new_seat}
 use Rattle.build_seats.proofs.seat.seats_of_trails.Given as goal
 
--- a seat for each pass so far; the passes and the trails that are left
+-- new seats for the first builds, unused passes for the other builds, an empty trail for each seat still to make, and
+-- memory for all seats
 abbrev pub invariant-loop-trail : goal.invariant-loop-trail
 invariant-loop-trail g l =
     (l.seats.items ≡ map new_seat (range_with_len 0 (vec_len l.seats)))

@@ -2,6 +2,6 @@ use Rattle.std.proofs.Common.{◌≡◌, ◌++◌, List, [], ℕ}
 use Rattle.command_line.specs.Painted.{AddsPainted}
 use Rattle.command_line.proofs.paint.painted.Given as goal
 
--- what is painted, and what is left, are the text
+-- the text is the part painted so far, followed by the rest
 abbrev pub invariant-lines : goal.invariant-lines
 invariant-lines l = (seen : List ℕ) × (seen ++ l.rest ≡ l.fn.text) × AddsPainted [] seen l.out.items

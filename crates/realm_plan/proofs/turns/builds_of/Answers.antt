@@ -23,7 +23,7 @@ all k builds = builds_of k (map texts builds)
 reads : ReadsOrFault one all
 reads = record { none_left = λ _. refl; one_more = λ _ _ _. refl }
 
--- the steps that a call reads are those at this place
+-- the steps of the build at index `k` are those that `steps_of` reads from the build's texts
 steps_at : (k : ℕ) (builds : List (Vec (Bor (List ℕ)) Global)) (build : Vec (Bor (List ℕ)) Global) (read : List (Bor (List ℕ))) → build ≡ get_or builds k build → read ≡ build.items
     → one k (get_or builds k build) ≡ steps_of k 0 (map (λ t. t.now) read)
 steps_at k builds build read at same = rw (same, ← at) refl

@@ -3,6 +3,6 @@ use Rattle.std.specs.List.{All}
 use Rattle.realm_program.specs.Fitting.{ReportFits}
 use Rattle.realm_program.proofs.audit.fit_all.Given as goal
 
--- those so far fit
+-- the reports checked so far match the history
 abbrev pub invariant-loop-report : goal.invariant-loop-report
 invariant-loop-report l = All (ReportFits l.history) (take l.report-index l.reports)

@@ -5,7 +5,7 @@ use Rattle.realm_plan.specs.PlanView.{plan_view}
 use Rattle.realm_program.specs.Workers.{new_worker}
 use Rattle.realm_program.proofs.new_workers.workers_of.Given as goal
 
--- a worker for each seat so far
+-- each seat taken so far has its new worker, in sequence of the builds
 abbrev pub invariant-loop-seat : goal.invariant-loop-seat
 invariant-loop-seat g l =
     (l.yielded ++ into_iter_items l.seat-iterator ≡ into_iter_items l.initial.seat-iterator)

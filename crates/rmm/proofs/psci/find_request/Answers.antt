@@ -10,7 +10,7 @@ use Rattle.rmm.proofs.Checks.{passed, failed}
 use Rattle.rmm.proofs.TwoRecs.{two_recs}
 use Rattle.rmm.proofs.psci.find_request.Goals as goal
 
--- the checks of the two RECs that are named
+-- the checks of the request have the same first failure for the found RECs as for those that the operands name
 request_refusal : (m : Machine) (a calling b target : ℕ) (r caller s named : RmmRec) (status : ℕ) → a ≡ calling → b ≡ target → r ≡ caller → s ≡ named
     → first_failing (request_checks m a r b s status) ≡ first_failing (request_checks m calling caller target named status)
 request_refusal m a calling b target r caller s named status one two three four = cc

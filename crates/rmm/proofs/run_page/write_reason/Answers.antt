@@ -12,7 +12,7 @@ zero_either : (b : Bool) (n : ℕ) → n ≡ 0 → cond b 0 n ≡ 0
 zero_either true n none = refl
 zero_either false n none = none
 
--- fields that are zero, by their words
+-- a function that is 0 at each index, with a case for each word of the list
 abbrev zero_fields : List ℕ → ℕ → ℕ
 zero_fields [] i = 0
 zero_fields (j ∷ js) i = but j 0 (zero_fields js) i
@@ -21,7 +21,7 @@ zero_fields-zero : (js : List ℕ) (i : ℕ) → zero_fields js i ≡ 0
 zero_fields-zero [] i = refl
 zero_fields-zero (j ∷ js) i = zero_either (i == j) (zero_fields js i) (zero_fields-zero js i)
 
--- the words of an exit with a reason alone
+-- an exit with a reason alone has the reason's code in word 256, and 0 in all other words
 only_word : (reason : ExitReason) (i : ℕ) → but 256 (reason_code reason) (λ k. 0) i ≡ exit_word (only_reason reason) i
 only_word reason i =
     ap (λ (n : ℕ). cond (i == 256) (reason_code reason) n)

@@ -5,14 +5,15 @@ use Rattle.rmm_model.specs.Realm.{is_protected}
 use Rattle.rmm_granules.proofs.Widths.{space_fits, half_fits}
 use Rattle.rmm.proofs.set_ripas.check_request.Goals as goal
 
--- the addresses of a range of a REC of the realm begin at a protected one
+-- if the REC belongs to the realm and the range is not empty, the range begins at a protected address
 protected : (is_owner none is : Bool) → is_owner ≡ true → none ≡ false → (not is_owner || (none || is)) ≡ true → is ≡ true
 protected true false true owned some either = either
 protected true false false owned some either = either
 protected true true is owned some either = cc
 protected false none is owned some either = cc
 
--- the same of what a range within the request is
+-- if the REC belongs to the realm, a range that is not empty and within the request begins in the lower half of the
+-- address space
 below_half : (realm : RmmRealm) (within is_owner : Bool) (base top : ℕ) → is_owner ≡ true → base < top
     → (within && (not is_owner || (nat_le top base || is_protected realm base))) ≡ true → base < 2 ^ (realm.s2sz - 1)
 below_half realm within is_owner base top owned some is =

@@ -24,7 +24,7 @@ use Rattle.rmm_laws.proofs.Walks.{right, one_place}
 use Rattle.rmm_laws.proofs.Writes.{is_user, uses-plain}
 use Rattle.rmm_laws.proofs.law.granules_have_one_role.Goals as goal
 
--- the machine of a platform
+-- a valid machine whose granules are all UNDELEGATED, without an owner, satisfies `IsProper`
 fresh : (m : Machine) → IsSound m → ((g : ℕ) → granule_at m g ≡ of_no_realm Undelegated) → IsProper m
 fresh m sound all =
     let state : (g : ℕ) → (granule_at m g).state ≡ Undelegated = λ g. ap (λ (r : RmmGranule). r.state) (all g) in

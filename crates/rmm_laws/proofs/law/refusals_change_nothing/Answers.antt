@@ -88,7 +88,7 @@ running_word ErrorRec is = absurd (omega arith)
 running_word (ErrorRtt index) is = absurd (omega arith)
 running_word Running is = refl
 
--- no check is refused with that word
+-- no check is refused with the word of a REC that runs on
 abbrev none_runs : List Check → Bool
 none_runs [] = true
 none_runs (c ∷ cs) = not (runs c.refusal.answer.word) && none_runs cs
@@ -133,12 +133,12 @@ quiet (RecDestroy rec) m = refl
 quiet (RecEnter rec run) m = refl
 quiet (PsciComplete calling target status) m = refl
 
--- a REC that is entered runs on
+-- if the answer to RMI_REC_ENTER is the word of a REC that runs on, the REC does not leave
 stays : (leaves : Bool) → runs (entered_answer leaves).word ≡ true → leaves ≡ false
 stays true is = absurd (cc)
 stays false is = refl
 
--- only the own answer of REC_ENTER has that word
+-- only RMI_REC_ENTER has the word of a REC that runs on as its own answer
 enters : (call : Call) (m : Machine) → Passed (command_of call m).checks → runs (command_of call m).answer.word ≡ true → IsRecEnter m (command_of call m).machine (Some call)
 unfolding version features granule_delegate granule_undelegate realm_create realm_activate rec_aux_count rtt_read_entry rtt_create rtt_destroy realm_destroy rtt_fold rtt_map_unprotected rtt_unmap_unprotected data_create data_create_unknown data_destroy rtt_init_ripas rtt_set_ripas rec_create rec_destroy rec_enter enter_checks psci_complete
 enters (RecEnter rec run) m ok is =
@@ -170,7 +170,7 @@ not_undelegated : (s : RmmGranuleState) → s ≢ Undelegated → is_undelegated
 not_undelegated Undelegated other = absurd (other refl)
 not_undelegated _ other = refl
 
--- a fault is at no page of the host, or not at a multiple of the size
+-- an access that faults is not at a multiple of its size, or not at a page of the host
 no_access : (m : Machine) (size address : ℕ) → IsFault m size address → (address % size == 0 && is_host_page m address) ≡ false
 no_access m size address (inl odd) = and_left (address % size == 0) (is_host_page m address) (ne_eqb (address % size) 0 odd)
 no_access m size address (inr (inl outside)) = and_right (address % size == 0) (is_host_page m address) (and_left (is_inside m address) (is_host_s m address) outside)
@@ -213,7 +213,8 @@ no_place m rec (inr full) = inr (le-ltb (rec_in m (number_of m rec)).step_count 
 pub returns-clause-not_given : goal.returns-clause-not_given
 returns-clause-not_given c = λ m rec w none. given_none (is_rec_named m rec) (nat_lt (rec_in m (number_of m rec)).step_count 16) m (with_step m (number_of m rec) w) (no_place m rec none)
 
--- an interrupt that is answered None
+-- the answer to an interrupt and the machine after it: the given ones if the REC runs, else `None` and the machine
+-- before
 abbrev ended : Bool → Word → Machine → Machine → Option Word × Machine
 ended runs word n m = if runs then (Some word, n) else (None, m)
 

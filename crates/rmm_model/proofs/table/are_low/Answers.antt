@@ -5,12 +5,13 @@ use borrow.Author.Tests.{ltb-true}
 use Rattle.rmm_model.proofs.LiveEntries.{first_live_past}
 use Rattle.rmm_model.proofs.table.are_low.Goals as goal
 
--- a number below a bound by its bitwise or with another is below it itself
+-- if the bitwise or of two numbers is below a bound, so is the first number
 low_first : (a b n : ℕ) → bit_or a b < n → a < n
 low_first a b n low =
     let most = le_or_l a b in
     omega arith
 
+-- if the bitwise or of two numbers is below a bound, so is the second number
 low_second : (a b n : ℕ) → bit_or a b < n → b < n
 low_second a b n low =
     let most = le_or_r a b in

@@ -3,7 +3,8 @@ use Rattle.std.proofs.lemmas.List.{set-append_left, set-append_right, get_or_app
 use Rattle.page_arena.specs.Page.{page_at}
 use Rattle.page_arena.proofs.plain.pages.copy_page.Goals as goal
 
--- pages in two parts: the target lies in one, and the source is first in the other, or lies in it
+-- if the pages are split at the higher of target and source, writing the source's bytes to the target in its part
+-- copies the page
 module _ (pages front back : List (List ℕ)) (target source : ℕ) (page : List ℕ) (value : pages ≡ front ++ back) where
   copied_up : length front ≡ source → target < source → page ≡ get_or back 0 [] → set front target page ++ back ≡ set pages target (page_at pages source)
   copied_up long below is =

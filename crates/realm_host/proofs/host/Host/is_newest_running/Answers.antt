@@ -8,7 +8,7 @@ use Rattle.host_ledger.proofs.Readings.{none_open}
 use Rattle.realm_host.specs.Refusals.{is_newest_running}
 use Rattle.realm_host.proofs.host.Host.is_newest_running.Goals as goal
 
--- by the newest act
+-- `is_newest_running` is `is_running` of the newest open operation, or false if nothing is open
 runs_newest : (host : HostView) (build : ℕ) (newest : Option Act) → last_or None (open_of host build) ≡ newest
     → is_newest_running host build ≡ elim newest [ Some act ↦ is_running (realm_of build (world_of host)) act | None ↦ false ]
 runs_newest host build newest is = ap (λ (o : Option Act). elim o [ Some act ↦ is_running (realm_of build (world_of host)) act | None ↦ false ]) is

@@ -5,7 +5,7 @@ use Rattle.rmi_monitor.proofs.Fresh.{new_fields, whole_new, seen_new}
 use Rattle.rmi_monitor.proofs.monitor.Monitor.build.Given.{Over}
 use Rattle.rmi_monitor.proofs.monitor.Monitor.build.Goals as goal
 
--- the fields as they are built
+-- the fields of the RMM that the code builds are `new_fields`
 built : (g : Over) (c : goal.After-new g)
     → fields_of c.args.vmids c.args.aux c.new.result c.in-Ok.field-0.granules (g.S.PageStore.page_bytes c.args.store) (g.S.PageStore.free_flags c.args.store)
     c.in-Ok.field-0.realms.items c.in-Ok.field-0.rec_counts.items c.in-Ok.field-0.recs.items

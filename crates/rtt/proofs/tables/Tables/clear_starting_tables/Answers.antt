@@ -66,13 +66,14 @@ loop-number-preserved g c =
       flags = c.fill.ensures.flags ∙ c.loop-number.invariant.flags;
     }
 
--- after the last starting table
+-- after the last starting table, the pages of all starting tables are cleared
 pub returns-clause-cleared : goal.returns-clause-cleared
 unfolding starting_tables
 returns-clause-cleared g c =
     let all : c.loop-number.number ≡ start_count c.args.self.now.root.width = omega arith in
     c.loop-number.invariant.cleared ∙ ap (λ (n : ℕ). set_each zero_page (range_with_len c.args.self.now.root.first n) (g.S.PageStore.page_bytes c.args.store.now)) all
 
+-- after the last starting table, the granules of all starting tables have the new state and the new realm
 pub returns-clause-moved : goal.returns-clause-moved
 unfolding starting_tables
 returns-clause-moved g c =
