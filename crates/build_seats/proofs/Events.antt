@@ -78,7 +78,7 @@ Fit-one steps at exchange lines exchanges asks rest = record {
 
 -- ---- questions
 
--- Each question of a list is the one that its report line answers.
+-- Each question of a list is the one that a report line with the paired `Asked` answers.
 abbrev AreAt : List Step → Questions → Type 0
 AreAt steps [] = ⊤
 AreAt steps (one ∷ more) = (Some one.1 ≡ question_at steps one.0) × AreAt steps more

@@ -64,7 +64,7 @@ use Rattle.history_calls.specs.Refused.{unless, is_delegated_in, can_start, end_
 use Rattle.history_calls.specs.Refused.{refusal_in_realm, refusal_if_realm, refusal_without_act, refusal_of_act, else, is_undelegated_page, model_refusal}
 use Rattle.history_calls.specs.Prepared.{allocated_before, act_before, access_refusal, entry_refusal, exit_refusal}
 
--- the refusal of an outcome
+-- the RMI error of an outcome that is a refusal, or none if the outcome is a success
 abbrev pub refusal_in : Outcome → Option Rmi
 refusal_in (Ok updates) = None
 refusal_in (Err rmi) = Some rmi

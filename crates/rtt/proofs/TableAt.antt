@@ -14,7 +14,7 @@ pub table_at-root : (entries : Entries) (root : Root) (ipa : ℕ) → table_at e
 unfolding table_at
 table_at-root entries root ipa = refl
 
--- the table of the next level is what the entry leads to
+-- the table of the next level for an IPA granule is the table to which the entry of this level leads
 pub table_at-suc : (entries : Entries) (root : Root) (level ipa : ℕ) → 1 ≤ level
     → table_at entries root (suc level) ipa ≡ option_and_then (λ table. table_of (entries table (entry_index level ipa))) (table_at entries root level ipa)
 unfolding table_at

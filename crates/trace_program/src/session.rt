@@ -273,7 +273,7 @@ impl Session {
         Ok(())
     }
 
-    /// Returns whether a check that stops at its first wrong line has found one.
+    /// Returns whether the check stops at its first wrong line, and has found one.
     pub fn is_done(&self, asked: &TraceSubcommand) -> bool
         ensures { result ≡ specs.is_check_done asked.now self.now }
     {

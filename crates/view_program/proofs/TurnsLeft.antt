@@ -28,8 +28,7 @@ use Rattle.view_program.specs.TurnsLeft.{is_of_many, AreSteady, steps_left, turn
 
 -- ---- a step's turn
 
--- The build is at the same step after the turn. It then has no undo of the step left, or had none left before, or has
--- fewer left than before.
+-- The turn leaves the build at the same step, with fewer undos of it left, unless none is left or none was left before.
 record IsLess (before after : PlanCursor) : Type 0 where
   done : after.done ≡ before.done
   less : (after.left ≡ 0) ⊎ ((before.left ≡ 0) ⊎ (after.left < before.left))

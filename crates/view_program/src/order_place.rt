@@ -23,7 +23,7 @@ pub struct OrderPlace {
 enum KeyReadError {
     /// A failed allocation.
     Memory,
-    /// A text in which the next item is not the expected one.
+    /// A text whose next part is not of the expected form.
     Unread,
 }
 
