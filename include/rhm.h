@@ -301,7 +301,7 @@ uint64_t rhm_roll_back(rhm_handle *handle, uint64_t build, uint64_t *value) RHM_
 /* ---- readings. Each returns false, and writes nothing, if there is nothing to read. None changes the host.
  * Required of each: handle; the last pointer is not NULL, and may be written to */
 
-/* Returns the number of pages that no build leases; 0 for a closed handle. Required: handle. */
+/* Returns the number of granules that no build leases; 0 for a closed handle. Required: handle. */
 uint64_t rhm_free_count(rhm_handle *handle) RHM_NO_NULL;
 
 typedef struct rhm_build {

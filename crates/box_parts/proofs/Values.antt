@@ -1,5 +1,5 @@
--- Lemmas about `BoxParts`: its value is well-typed, and to own it is to own its box on the C library's heap and its
--- allocator. The proofs assume `Logic`, the interface of the separation logic.
+-- Lemmas that a `BoxParts` is a well-typed value, and owns a box on the C library's heap, the box's allocator, and
+-- nothing else. The proofs assume `Logic`, the interface of the separation logic.
 use Rattle.std.proofs.Common.{◌≡◌, ℕ, List, [], ◌∷◌, ◌++◌, refl, subst}
 use mathlib.Core.Bool.{true, ◌&&◌}
 use lib.Dec.{T}
@@ -37,7 +37,7 @@ Z = heap.the_row
 abbrev pub al : Al
 al = record { row = Z; laws = heap_laws.the_row_laws; g = ghosts; d = impl [] tnil dnil; drops = impl [] tnil dnil }
 
--- the type of the parts of a box on the C library's heap, where R is the type of the box's value
+-- the type of the parts of a box on the C library's heap, given the type of the box's value
 abbrev pub HeapParts : RattleType → RattleType
 HeapParts R = parts.the_row R Z ghosts
 

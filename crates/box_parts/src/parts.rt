@@ -1,11 +1,11 @@
-//! The parts of a box: its raw pointer and its allocator.
+//! The raw pointer and the allocator of a box.
 ghost use Rattle.std.specs.Prelude.{◌≡◌};
 ghost use Rattle.std_alloc.specs.Box.Ownership.{box_owns};
 
 use std::alloc::Allocator;
 use std::marker::Model;
 
-/// The parts of a box: its raw pointer and its allocator. They own what the box owned.
+/// The raw pointer and the allocator of a box. They own what the box owned.
 pub struct BoxParts<T, A: Allocator> {
     pub ptr: *mut T,
     pub alloc: A,

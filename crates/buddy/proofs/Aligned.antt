@@ -12,7 +12,7 @@ use Rattle.buddy.specs.InHand.{LiesIn}
 pub double : (k : ℕ) → 2 ^ (k + 1) ≡ 2 ^ k + 2 ^ k
 double k = let e : 2 ^ (k + 1) ≡ 2 ^ k * 2 = pow-add 2 k 1 in omega arith
 
--- two multiples of m lie at least m apart
+-- two different multiples of m lie at least m apart
 pub step_apart : (m a b : ℕ) → a % m ≡ 0 → b % m ≡ 0 → a < b → a + m ≤ b
 step_apart m a b whole_a whole_b less =
     let parts_a : a / m * m + a % m ≡ a = div-add-mod' a m in

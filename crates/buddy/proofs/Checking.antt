@@ -1,5 +1,5 @@
--- Proofs that each iteration of the loop in `cut_out` preserves the loop's invariant, and that after the last one the
--- result is whether the block is free.
+-- Proofs that each iteration of the loop in `cut_out` preserves the loop's invariant. After the loop, `found` is true
+-- if and only if the requested block is free.
 use Rattle.std.proofs.Common.{◌≡◌, ◌≢◌, ℕ, ◌+◌, ◌%◌, ◌^◌, ◌<◌, ◌≤◌, ◌↔◌, Bool, true, false, List, length, set, inl, inr, refl, sym, ap, subst, ◌∙◌, arith}
 use Rattle.std.specs.Prelude.{IsTrue}
 use Rattle.std.specs.Bool.{OnTrue}
@@ -21,7 +21,8 @@ module _ (heads : List ℕ) (flags : List Bool) (granule order : ℕ) where
   abbrev other : ℕ
   other = buddy_at start order
 
-  -- the invariant holds after the found block is split, and the half without the granule is put back
+  -- if a block was found, the invariant holds after that block is split and its half `other`, which does not contain
+  -- `granule`, is put into a free list
   pub check_split : HasChecked heads flags granule (order + 1) true → (head_at heads other ≡ 0) × (other < length heads) × HasChecked (set heads other (order + 1)) flags granule order true
   check_split checked =
       let hand = checked.in_hand refl in
@@ -32,13 +33,14 @@ module _ (heads : List ℕ) (flags : List Bool) (granule order : ℕ) where
       )
 
   module _ (checked : HasChecked heads flags granule (order + 1) false) where
-    -- the invariant holds after the block of this order is found in its free list, and taken out of it
+    -- if the block of order `order` that contains `granule` is listed, the invariant holds with `found` true after the
+    -- block is taken out of its list
     pub check_taken : order < 10 → head_at heads start ≡ order + 1 → HasChecked (set heads start 0) flags granule order true
     check_taken low head =
         let before = checked.not_yet refl in
         record { in_hand = λ _. (omega arith, come_to_hand heads flags order start before.0 head); not_yet = λ is. absurd (true≢false is) }
 
-    -- the invariant holds if the block of this order is in no free list: none is found yet
+    -- if the block of order `order` that contains `granule` is not listed, the invariant still holds with `found` false
     pub check_on : head_at heads start ≢ order + 1 → HasChecked heads flags granule order false
     check_on none =
         let before = checked.not_yet refl in
@@ -60,7 +62,7 @@ module _ (heads : List ℕ) (flags : List Bool) (granule order : ℕ) where
         }
 
 module _ (heads : List ℕ) (flags : List Bool) (order first : ℕ) (aligned : first % 2 ^ order ≡ 0) where
-  -- when the check has reached the order of an aligned block, its result is whether the block is free
+  -- rounding the first granule of an aligned block down to a block of the same order leaves the granule as it is
   starts : start_at first order ≡ first
   starts = let some = pow_pos order in start_is first order first aligned (omega arith, omega arith)
 
@@ -79,6 +81,8 @@ module _ (heads : List ℕ) (flags : List Bool) (order first : ℕ) (aligned : f
       let less : 2 ^ h.0 < 2 ^ order = pow_below h.0 order below in
       omega arith
 
+  -- If the loop's invariant holds at the order of an aligned block, the block is free if and only if `found` is true.
+  -- In that case the listed blocks are exactly the maximal free blocks once the block's granules are taken.
   pub checked_all : order ≤ 9 → (found : Bool) → HasChecked heads flags first order found → (IsTrue found ↔ IsFreeBlock flags order first)
       × OnTrue found (AreMaximal heads (with_taken flags order first))
   checked_all low true checked = ((λ _. (found_free checked).0, λ _. refl), (found_free checked).1)

@@ -1,4 +1,5 @@
--- The proof that the allocator chooses the first block in the nonempty free list of the smallest order that suffices.
+-- The proof that the allocator chooses the first block in the first nonempty free list, from the requested order
+-- upwards.
 use Rattle.std.proofs.Common.{◌≡◌, ℕ, ◌+◌, ◌-◌, ◌<◌, ◌≤◌, true, false, List, length, get_or, inl, inr, sym, ap, ◌∙◌, arith}
 use Rattle.std.specs.Prelude.{◌==◌, None, Some, option_map}
 use Rattle.std.specs.List.{range_with_len}
@@ -12,7 +13,7 @@ use Rattle.buddy.specs.FirstBlock.{ListsView, has_head, first_block}
 use Rattle.buddy.specs.Links.{at, HasHead}
 use Rattle.buddy.proofs.Masks.{head_inside}
 
--- the test is true if some granule heads a block of that order
+-- if a listed block of an order begins at some granule, `has_head` is true for the order
 block_of_head : (heads : List ℕ) (order g : ℕ) → head_at heads g ≡ order + 1 → has_head heads order ≡ true
 block_of_head heads order g head =
     list_any_at (λ head. head == order + 1) heads g 0 (head_inside heads g order head) (eq-eqb (head_at heads g) (order + 1) head)
@@ -45,7 +46,8 @@ module _ (lists : ListsView) (order : ℕ) where
       let less : k < 10 - order = omega (arith, length-range_with_len order (10 - order)) in
       none_at k inside (none (order + k) (omega arith) (omega arith))))
 
-  -- `first_block` is the first block of the first nonempty list, from the given order's list on
+  -- if the list of each order from `order` to `found` - 1 is empty, and the list of order `found` begins with `first`,
+  -- `first_block` is `first`
   pub chosen : (found first : ℕ) → order ≤ found → found < 10 → head_at lists.heads first ≡ found + 1 → first ≡ at lists.firsts found
       → ((k : ℕ) → order ≤ k → k < found → ¬ (HasHead lists.heads k)) → first_block lists order ≡ Some first
   unfolding first_block

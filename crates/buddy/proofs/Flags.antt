@@ -1,5 +1,5 @@
--- Lemmas on the flags that say which granules are free: which blocks are free by them, before and after a block or a
--- half of one is taken.
+-- Lemmas on the flags of free granules: which blocks are free, and what changes when a block, or half of a block, is
+-- taken.
 use Rattle.std.proofs.Common.{◌≡◌, ℕ, zero, suc, ◌+◌, ◌%◌, ◌^◌, ◌<◌, ◌≤◌, Bool, true, false, List, length, ◌⊎◌, inl, inr, sym, ap, subst, ◌∙◌, arith}
 use Rattle.std.proofs.Math.Nat.{mod-one}
 use Rattle.std.proofs.lemmas.Bool.{cases_Bool, cases_eq, cases_lt, true≢false}
@@ -19,7 +19,7 @@ use Rattle.buddy.proofs.Halves.{lower_first, swapped, half_aligned, half_within,
 pub clash : {P : Type 0} (b : Bool) → b ≡ true → b ≡ false → P
 clash b is is_not = absurd (true≢false (sym is ∙ is_not))
 
--- a free granule is one of the machine's
+-- a granule that is free according to the flags is one of the granules of the machine
 pub free_inside : (flags : List Bool) (x : ℕ) → is_free flags x ≡ true → x < length flags
 free_inside flags x free =
     elim (cases_lt x (length flags)) [ inl within ↦ within | inr outside ↦ clash (is_free flags x) free (get_or_past flags x false outside) ]
@@ -34,11 +34,11 @@ one_page flags x free =
     }
 
 module _ (flag : Bool) (flags : List Bool) where
-  -- the first granule of a block has the block's flag
+  -- if every granule of a block has the flag `flag`, the block's first granule has it
   pub first_flag : (order first : ℕ) → IsBlock flag flags order first → is_free flags first ≡ flag
   first_flag order first block = let some = pow_pos order in block.run.each first (omega arith) (omega arith)
 
-  -- if all granules of a block have the flag, so do those of an aligned block that lies within it
+  -- if all granules of a block have the flag, all granules of an aligned block within that block have the flag too
   pub sub_block : (k g j h : ℕ) → g % 2 ^ k ≡ 0 → LiesWithin k g j h → IsBlock flag flags j h → IsBlock flag flags k g
   sub_block k g j h aligned within block =
       let fits = block.inside in
@@ -134,7 +134,7 @@ module _ (flags : List Bool) (k g : ℕ) (block : IsFreeBlock flags k g) where
         run = record { each = λ x low high. is_free-with_taken_outside flags k g block x (outside_of k g j h x apart (low, high)) ∙ free.run.each x low high };
       }
 
-  -- no free block begins in the taken one
+  -- after a block is taken, no free block begins inside the taken block
   pub none_inside : (j h : ℕ) → LiesIn h k g → ¬ (IsFreeBlock rest j h)
   none_inside j h inside free = clash (is_free rest h) (first_flag true rest j h free) (is_free-with_taken_inside flags k g block h inside.0 inside.1)
 

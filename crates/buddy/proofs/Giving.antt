@@ -25,7 +25,7 @@ module _ (heads : List ℕ) (flags : List Bool) (order start : ℕ) (hand : InHa
       let starts : start_at start order ≡ start = start_is start order start hand.free.aligned (omega arith, omega arith) in
       subst (λ (n : ℕ). AreHalves order base n (buddy_at n order)) starts (buddies start order)
 
-  -- the block of both halves begins where the lower one does
+  -- the block that two halves form begins at the first granule of its lower half
   pub lower : (min : ℕ) → (start < other → min ≡ start) → (other ≤ start → min ≡ other) → base ≡ min
   lower min first second =
       let some = pow_pos order in

@@ -43,14 +43,15 @@ module _ (order base one other : ℕ) (halves : AreHalves order base one other) 
         | inr l ↦ elim halves.sides [ inl s ↦ inr (omega arith, omega arith) | inr s ↦ inl (omega arith, omega arith) ]
       ]
 
-  -- a block of a higher order that holds one half holds both
+  -- an aligned block of a higher order that contains one half of a block contains both halves
   pub holds_both : (larger start : ℕ) → order < larger → start % 2 ^ larger ≡ 0 → LiesWithin order one larger start → LiesWithin (order + 1) base larger start
   holds_both larger start above aligned within =
       let some = pow_pos order in
       let half = half_within in
       nested (order + 1) base larger start (omega arith) halves.aligned aligned (omega arith) (omega arith)
 
--- `first ^ (1 << order)` is the other half
+-- the block of order `order` that contains granule `x` and the buddy that `buddy_at` gives are the two halves of the
+-- next larger block
 module _ (x order : ℕ) where
   abbrev size : ℕ
   size = 2 ^ order

@@ -1,5 +1,5 @@
--- Proofs that the heads (see `head_at`) still give exactly the maximal free blocks after one of them is taken or put
--- back.
+-- Proofs that the listed blocks are still exactly the maximal free blocks when a maximal free block is taken and
+-- unlisted, or freed and listed. A granule's head, `head_at`, gives the listed block that begins there.
 use Rattle.std.proofs.Common.{◌≡◌, ℕ, ◌+◌, ◌-◌, ◌^◌, ◌<◌, ◌≤◌, Bool, true, false, List, length, set, inl, inr, sym, ap, subst, ◌∙◌, arith, length-set}
 use Rattle.std.proofs.lemmas.Bool.{cases_eq, cases_lt}
 use Rattle.std.proofs.lemmas.List.{get_or-set_same, get_or-set_other}
@@ -13,14 +13,14 @@ use Rattle.buddy.proofs.Flags.{clash, first_flag}
 use Rattle.buddy.proofs.Maximal.{holder, same_order, maximal_beside, maximal_before}
 
 module _ (heads : List ℕ) (flags : List Bool) (lists : AreMaximal heads flags) where
-  -- each block that the heads give is maximal
+  -- each listed block is a maximal free block
   pub of_head : (order first : ℕ) → head_at heads first ≡ order + 1 → IsMaximalBlock flags order first
   of_head order first head = (lists.each order first).0 head
 
   pub head_of : (order first : ℕ) → IsMaximalBlock flags order first → head_at heads first ≡ order + 1
   head_of order first maximal = (lists.each order first).1 maximal
 
-  -- a granule that is not free heads no block
+  -- if a granule is not free, no listed block begins at the granule
   pub no_head : (granule : ℕ) → is_free flags granule ≡ false → head_at heads granule ≡ 0
   no_head granule taken =
       elim (cases_eq (head_at heads granule) 0) [
@@ -31,7 +31,7 @@ module _ (heads : List ℕ) (flags : List Bool) (lists : AreMaximal heads flags)
             clash (is_free flags granule) (first_flag true flags (head_at heads granule - 1) granule maximal.free) taken
       ]
 
-  -- with no head of an order or above there is no free block of the order
+  -- if no free block of order `order` or above is listed, no block of order `order` is free
   pub none_free : (order : ℕ) → order ≤ 9 → ((k g : ℕ) → order ≤ k → k ≤ 9 → ¬ (head_at heads g ≡ k + 1)) → (first : ℕ) → ¬ (IsFreeBlock flags order first)
   none_free order low none first free =
       let h = holder flags order first low free in
@@ -73,7 +73,7 @@ module _ (flags : List Bool) (k g : ℕ) (block : IsMaximalBlock flags k g) wher
           let before = maximal_before flags k g block order first maximal in
           get_or-set_other heads g first 0 0 before.1 ∙ head_of heads flags lists order first before.0
 
-  -- once the head of a taken maximal block is put back, the heads give exactly the maximal free blocks again
+  -- once a taken maximal block is given back and listed, the listed blocks are again exactly the maximal free blocks
   pub put_step : (heads : List ℕ) → AreMaximal heads rest → AreMaximal (set heads g (k + 1)) flags
   put_step heads lists = record {
     sized = length-set heads g (k + 1) ∙ lists.sized ∙ length-with_taken flags k g block.free;

@@ -15,7 +15,7 @@ use Rattle.buddy.proofs.Heads.{of_head, head_of}
 use Rattle.buddy.proofs.Maximal.{holder}
 
 module _ (heads : List ℕ) (flags : List Bool) (lists : AreMaximal heads flags) (x : ℕ) where
-  -- a free granule lies in a block that the heads give
+  -- a free granule lies in a listed block
   is_held : is_free flags x ≡ true → list_any (is_held_at heads x) (range_with_len 0 10) ≡ true
   is_held free =
       let h = holder flags 0 x (omega arith) (one_page flags x free) in
@@ -28,7 +28,7 @@ module _ (heads : List ℕ) (flags : List Bool) (lists : AreMaximal heads flags)
       let read : get_or (range_with_len 0 10) h.0 0 ≡ h.0 = let r = get_or-range_with_len 0 10 h.0 0 (omega arith) in omega arith in
       list_any_at (is_held_at heads x) (range_with_len 0 10) h.0 0 index (ap (is_held_at heads x) read ∙ eq-eqb (head_at heads (start_at x h.0)) (h.0 + 1) at)
 
-  -- a granule that lies in a block that the heads give is free
+  -- a granule that lies in a listed block is free
   holds_free : list_any (is_held_at heads x) (range_with_len 0 10) ≡ true → is_free flags x ≡ true
   holds_free found =
       let any = Any-from_list_any (is_held_at heads x) (range_with_len 0 10) found in

@@ -31,8 +31,8 @@ module _ (heads : List ℕ) (flags : List Bool) (order first : ℕ) (hand : InHa
   gone : ¬ (IsFreeBlock (with_taken flags order first) order first)
   gone = let some = pow_pos order in none_inside flags order first hand.free order first (omega arith, omega arith)
 
-  -- the heads give exactly the maximal free blocks once the block is in its list, if the order is 9 or the buddy is not
-  -- in that list
+  -- if the block has order 9, or its buddy is not listed with the same order, listing the block makes the listed blocks
+  -- exactly the maximal free ones
   pub put_back : order ≤ 9 → (base other : ℕ) → AreHalves order base first other → (order < 9 → head_at heads other ≢ order + 1)
       → (head_at heads first ≡ 0) × (first < length heads) × AreMaximal (set heads first (order + 1)) flags
   put_back low base other halves differs =
@@ -50,7 +50,8 @@ module _ (heads : List ℕ) (flags : List Bool) (order first : ℕ) (hand : InHa
       )
 
 module _ (heads : List ℕ) (flags : List Bool) (order base one other : ℕ) (halves : AreHalves order base one other) where
-  -- if the block is split and one half (`other`) is put into its list, the half `one` is free and in no list (`InHand`)
+  -- if a free block in no list is split, and its half `other` is put into a list, the half `one` is free and in no list
+  -- (`InHand`)
   pub split : InHand heads flags (order + 1) base → order < 9 → (head_at heads other ≡ 0) × (other < length heads) × InHand (set heads other (order + 1)) flags order one
   split hand low =
       let less = with_taken flags order one in

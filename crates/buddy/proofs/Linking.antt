@@ -24,7 +24,7 @@ module _ (count : ℕ) (heads next prev firsts : List ℕ) (L : IsLinked count h
         | inr ge ↦ let low = L.low g k head in let begins = L.begins g k head ge in omega arith
       ]
 
-  -- each list that has a block has a first one
+  -- if a listed block has order k, `firsts` has a granule of the machine for that order
   pub has_first : (g k : ℕ) → head_at heads g ≡ k + 1 → at firsts k < count
   has_first g k head = climbs L.top g k head (omega arith)
 
@@ -175,7 +175,7 @@ module _ (count : ℕ) (heads next prev firsts : List ℕ) (L : IsLinked count h
           ];
     }
 
-  -- the two cases of an insertion: the list was empty, or it had a first block
+  -- the lists are still linked after a block is inserted, whether its list was empty or had a first block
   module _ (g k : ℕ) (lt : g < count) (low : k < 10) (vacant : head_at heads g ≡ 0) where
     abbrev ended : List ℕ
     ended = set prev g 4096
@@ -234,11 +234,11 @@ module _ (count : ℕ) (heads next prev firsts : List ℕ) (L : IsLinked count h
     one_order : (y j i : ℕ) → head_at heads y ≡ j + 1 → head_at heads y ≡ i + 1 → j ≡ i
     one_order y j i a b = omega arith
 
-    -- a granule is not its own previous one in a list
+    -- the granule before `g` in its list, if there is one, is not `g`
     p_not_g : p < count → p ≢ g
     p_not_g inside same = let up = (L.back g k head inside).2 in let r : at L.ranks p ≡ at L.ranks g = ap (at L.ranks) same in omega arith
 
-    -- a granule is not its own next one in a list
+    -- the granule after `g` in its list, if there is one, is not `g`
     n_not_g : n < count → n ≢ g
     n_not_g inside same =
         let o = (L.on g k head inside).1 in
@@ -261,8 +261,7 @@ module _ (count : ℕ) (heads next prev firsts : List ℕ) (L : IsLinked count h
         let q = other_prevs (at firsts j) not_next in
         (has (at firsts j) j differs f.0, omega arith)
 
-    -- after the removal, the list that the block was in is empty, or begins with a granule of its order that has no
-    -- previous one
+    -- if the removed block's list still has a first block, that block has the list's order and no previous block
     first_own : k < 10 → at fronts k < count → First' k (at fronts k)
     first_own low inside =
         elim (cases_lt p count) [
@@ -385,7 +384,8 @@ module _ (count : ℕ) (heads next prev firsts : List ℕ) (L : IsLinked count h
       on = on_new;
     }
 
-  -- the four cases of a removal: the granule has both neighbours, only a previous one, only a next one, or none
+  -- the lists are still linked after a block is removed, whether it had both neighbours, only a previous one, only a
+  -- next one, or none
   module _ (g k p n : ℕ) (head : head_at heads g ≡ k + 1) (p_is : p ≡ at prev g) (n_is : n ≡ at next g) where
     abbrev gone_from : List ℕ → List ℕ → List ℕ → Type 0
     gone_from nexts prevs fronts = IsLinked count (set heads g 0) nexts prevs fronts

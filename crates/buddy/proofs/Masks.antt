@@ -1,5 +1,5 @@
--- Lemmas on the bit mask of nonempty free lists: its lowest set bit from an order on, and its value after a block is
--- inserted or removed.
+-- Lemmas on the bit mask of nonempty free lists: its lowest set bit at or above an order, and its value after a block
+-- is inserted or removed.
 use Rattle.std.proofs.Common.{◌≡◌, ◌≢◌, ℕ, ◌+◌, ◌-◌, ◌*◌, ◌/◌, ◌%◌, ◌^◌, ◌<◌, ◌≤◌, ◌↔◌, List, length, set, inl, inr, sym, ap, ◌∙◌, subst, arith, w16, bit_and, bit_or}
 use Rattle.std.specs.Prelude.{Option, None, Some, is_some, true, false, IfSome, IfNone}
 use Rattle.std.specs.Int.{bit_at, bit_not, trailing_zeros}
@@ -11,7 +11,7 @@ use Rattle.std.proofs.lemmas.Nat.Bits.{bit_at-zero, bit_at-trailing_zeros, bit_a
 use Rattle.buddy.specs.Heads.{head_at}
 use Rattle.buddy.specs.Links.{HasHead, IsMask}
 
--- bit k of a mask is bit k - order of the mask shifted right by order
+-- bit `k` of a mask is bit `k - order` of the mask shifted right by `order`
 shifted : (mask order k : ℕ) → order ≤ k → bit_at mask k ≡ bit_at (mask / 2 ^ order) (k - order)
 shifted mask order k le =
     let sum : order + (k - order) ≡ k = omega arith in
@@ -61,21 +61,23 @@ module _ (mask : ℕ) (heads : List ℕ) (m : IsMask mask heads) (order : ℕ) w
 
 -- ---- heads are added and removed
 
--- a granule that heads a block is one of the machine's
+-- a granule at which a listed block begins is one of the granules of the machine
 pub head_inside : (heads : List ℕ) (g k : ℕ) → head_at heads g ≡ k + 1 → g < length heads
 head_inside heads g k head =
     elim (cases_lt g (length heads)) [ inl within ↦ within | inr outside ↦ let past : head_at heads g ≡ 0 = get_or_past heads g 0 outside in absurd (omega arith) ]
 
--- what `IfNone` says of a result without a value, and `IfSome` of one with a value
+-- if `found` is None, and `IfNone` holds of `found` and a statement, the statement holds
 pub of_none : {P : Type 0} (found : Option ℕ) → is_some found ≡ false → IfNone found P → P
 of_none None is p = p
 of_none (Some first) is p = absurd (true≢false is)
 
+-- if `found` is not None, and `IfSome` holds of `found` and a property, some number has the property
 pub of_some : {P : ℕ → Type 0} (found : Option ℕ) → is_some found ≡ true → IfSome found P → (first : ℕ) × P first
 of_some None is p = absurd (true≢false (sym is))
 of_some (Some first) is p = (first, p)
 
--- if a granule's head changes, an order that is neither its old nor its new one has heads exactly if it had some before
+-- a change of the block listed at a granule leaves `HasHead` for order k as it is, if neither the old block nor the new
+-- one has order k
 other_order : (heads : List ℕ) (g head k : ℕ) → head_at heads g ≢ k + 1 → head ≢ k + 1 → g < length heads → HasHead (set heads g head) k ↔ HasHead heads k
 other_order heads g head k was is inside = (
   λ (has : HasHead (set heads g head) k). elim (cases_eq has.0 g) [
@@ -117,7 +119,7 @@ module _ (mask : ℕ) (heads : List ℕ) (m : IsMask mask heads) (g order : ℕ)
   }
 
   module _ (head : head_at heads g ≡ order + 1) where
-    -- if the list of a removed block has another one, the mask stays the mask of the lists
+    -- if the list of a removed block still has a block, the unchanged mask is the mask of the lists
     pub mask_kept : HasHead (set heads g 0) order → IsMask mask (set heads g 0)
     mask_kept some = record {
       ten = m.ten;
@@ -130,8 +132,8 @@ module _ (mask : ℕ) (heads : List ℕ) (m : IsMask mask heads) (g order : ℕ)
           ];
     }
 
-    -- if the list of a removed block is empty after it, the mask with the bit of the block's order cleared is the mask
-    -- of the lists
+    -- if the removal of a block empties its list, the mask with the bit of the block's order cleared is the mask of the
+    -- lists
     pub mask_cleared : ¬ (HasHead (set heads g 0) order) → IsMask (bit_and mask (bit_not w16 bit)) (set heads g 0)
     mask_cleared none = record {
       ten = let less = and_le_l mask (bit_not w16 bit) in let ten = m.ten in omega arith;

@@ -14,7 +14,7 @@ use Rattle.buddy.proofs.Flags.{half_block, sub_block, free_or_not, block_before,
 
 -- ---- one maximal block
 
--- a maximal block that holds a block
+-- some maximal block contains the block of order `order` that begins at `first`
 abbrev pub Holder : List Bool → ℕ → ℕ → Type 0
 Holder flags order first = (larger : ℕ) × (start : ℕ) × IsMaximalBlock flags larger start × LiesWithin order first larger start
 
@@ -45,7 +45,7 @@ climb flags (suc more) order first sum free =
 pub holder : (flags : List Bool) (order first : ℕ) → order ≤ 9 → IsFreeBlock flags order first → Holder flags order first
 holder flags order first low free = climb flags (9 - order) order first (omega arith) free
 
--- a free block of order 9, or whose buddy is not free, is maximal
+-- a free block is maximal if its order is 9 or its buddy is not free
 pub alone_maximal : (flags : List Bool) (order base one other : ℕ) → AreHalves order base one other → order ≤ 9 → IsFreeBlock flags order one
     → (order < 9 → ¬ (IsFreeBlock flags order other)) → IsMaximalBlock flags order one
 alone_maximal flags order base one other halves low free alone = record {
@@ -88,7 +88,7 @@ module _ (flags : List Bool) (k g : ℕ) (one : IsMaximalBlock flags k g) where
   abbrev rest : List Bool
   rest = with_taken flags k g
 
-  -- every other maximal block stays maximal
+  -- after a maximal block is taken, every other maximal block is still maximal
   pub maximal_beside : (j h : ℕ) → IsMaximalBlock flags j h → h ≢ g → IsMaximalBlock rest j h
   maximal_beside j h other differs = record {
     low = other.low;

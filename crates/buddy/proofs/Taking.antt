@@ -1,5 +1,5 @@
--- Proofs that a block can be cut from the start of any listed block of at least its order, and that cutting the
--- smallest of these visits the fewest orders.
+-- Proofs that a block can be cut from the start of a listed block of the same or a higher order. Cutting it from the
+-- smallest such block visits the fewest block orders.
 use Rattle.std.proofs.Common.{◌≡◌, ℕ, ◌+◌, ◌%◌, ◌^◌, ◌<◌, ◌≤◌, Bool, true, List, length, inl, inr, subst, arith}
 use Rattle.std.specs.Prelude.{Option, None, Some, IfNone}
 use Rattle.std.proofs.Math.Pow.{pow_mono}
@@ -15,7 +15,7 @@ use Rattle.buddy.proofs.Flags.{sub_block}
 use Rattle.buddy.proofs.Heads.{of_head, head_of}
 use Rattle.buddy.proofs.Maximal.{maximal_apart, same_order}
 
--- `IfNone` follows from its condition, whatever the result is
+-- if a statement holds, `IfNone` with that statement holds of any result
 pub if_none : {X P : Type 0} (found : Option X) → P → IfNone found P
 if_none None p = p
 if_none (Some x) p = tt
@@ -36,7 +36,7 @@ module _ (heads : List ℕ) (flags : List Bool) (lists : AreMaximal heads flags)
   pub inside : first < length heads
   inside = let within = whole.free.inside in let sized = lists.sized in let some = pow_pos found in omega arith
 
-  -- no maximal block of a higher order holds the block's first granule
+  -- no maximal block of an order above `found` contains the granule `first`
   pub alone_above : AllBelow flags first (found + 1)
   alone_above larger start maximal holds =
       elim (cases_eq start first) [

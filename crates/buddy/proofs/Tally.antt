@@ -13,7 +13,8 @@ use Rattle.buddy.proofs.Held.{flags_are}
 use Rattle.buddy.proofs.Counts.{count_of, count_of_free, count_of_most, count_of-with_taken, count_of-with_given}
 use Rattle.granule_addr.proofs.Same.{same_each}
 
--- if the heads give the maximal blocks of some flags, they give those of the flags computed from the heads
+-- if `AreMaximal` holds with some flags, `AreMaximal` also holds with the flags that `held` computes from the listed
+-- blocks
 pub seen : (heads : List ℕ) (flags : List Bool) → AreMaximal heads flags → AreMaximal heads (held heads)
 seen heads flags lists = subst (AreMaximal heads) (flags_are heads flags lists) lists
 

@@ -1,15 +1,16 @@
--- The allocator's choice: the first block in the nonempty free list of the smallest order that suffices.
+-- The block that the allocator chooses: the first block in the first nonempty free list, from the requested order
+-- upwards.
 use Rattle.std.specs.Prelude.{ℕ, ◌+◌, ◌-◌, ◌==◌, Bool, List, Option, option_map}
 use Rattle.std.specs.List.{find, list_any, range_with_len}
 use Rattle.buddy.specs.Links.{at}
 
--- The view of the free lists: the head of each granule (see `head_at`), and the granule where each order's list begins,
--- if the list is not empty.
+-- The free lists: `heads` says which listed block begins at each granule, if any, and `firsts` at which granule each
+-- nonempty list begins. `head_at` reads `heads`.
 pub record ListsView : Type 0 where
   pub heads : List ℕ
   pub firsts : List ℕ
 
--- The view of an index of free granules: whether each granule of the machine is free, and the free lists.
+-- The flags that say which granules of the machine are free, and the free lists.
 pub record IndexView : Type 0 where
   pub flags : List Bool
   pub lists : ListsView

@@ -14,7 +14,7 @@ pub record InHand (heads : List ℕ) (flags : List Bool) (order first : ℕ) : T
   pub free : IsFreeBlock flags order first
   pub others : AreMaximal heads (with_taken flags order first)
 
--- no maximal block of that order or above holds the granule
+-- no maximal block of the given order or a higher one contains the granule
 abbrev pub AllBelow : List Bool → ℕ → ℕ → Type 0
 AllBelow flags granule order = (larger start : ℕ) → IsMaximalBlock flags larger start → LiesIn granule larger start → larger < order
 

@@ -24,7 +24,7 @@ pub record IsLinked (count : ℕ) (heads next prev firsts : List ℕ) : Type 0 w
   pub back : (g k : ℕ) → head_at heads g ≡ k + 1 → at prev g < count → (head_at heads (at prev g) ≡ k + 1) × (at next (at prev g) ≡ g) × (at ranks g < at ranks (at prev g))
   pub on : (g k : ℕ) → head_at heads g ≡ k + 1 → at next g < count → (head_at heads (at next g) ≡ k + 1) × (at prev (at next g) ≡ g)
 
--- according to the heads, a free block of that order begins at some granule
+-- some listed block has the given order
 abbrev pub HasHead : List ℕ → ℕ → Type 0
 HasHead heads order = (g : ℕ) × (head_at heads g ≡ order + 1)
 

@@ -1,4 +1,5 @@
-//! The buddy allocator of raw pages. It has a list of free blocks for each order.
+//! A buddy allocator of 4 KiB pages, which also reads and writes the pages. It has a list of free blocks for each
+//! order.
 ghost use Rattle.std.specs.Prelude.{◌≡◌, ◌≢◌, ℕ, ◌+◌, ◌%◌, ◌^◌, ◌<◌, ◌≤◌, ◌↔◌, ◌⊎◌, true, false, length, filter, replicate, slice_set, IsTrue, IfOk, IfSome, IfNone, IsErrOf};
 ghost use Rattle.std.specs.Bool.{OnTrue, OnFalse};
 ghost use Rattle.granule_addr.specs.Page.{page_of, zero_page};
@@ -15,8 +16,8 @@ use page_arena::{
 };
 use std::alloc::Global;
 
-/// A buddy allocator whose pages are in one allocation. It has a list of free blocks for each order. The lists have the
-/// maximal free blocks, and no call searches a list.
+/// A buddy allocator whose pages are in one allocation of memory. It has a list of free blocks for each order. The
+/// lists have the maximal free blocks, and no call searches a list.
 pub struct BuddyArena {
     pages: RawPages,
     index: FreeIndex,

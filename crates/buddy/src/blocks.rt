@@ -69,9 +69,8 @@ fn check_order(lists: &mut FreeLists, granule: usize, order: usize, found: bool)
     true
 }
 
-/// Takes a block out of the free lists, if the block is free. It is cut out of the maximal free block that contains it.
-/// The maximal block has an order of at most `top`, and may be the block itself. Returns whether the block was free,
-/// and the number of orders visited.
+/// Takes a block, if it is free, out of the maximal free block that contains it. The maximal block has an order of at
+/// most `top`, and may be the block itself. Returns whether the block was free, and the number of orders visited.
 pub(crate) fn cut_out(lists: &mut FreeLists, first: usize, order: usize, top: usize) -> (bool, u8)
     ghost flags: { List Bool }
     requires orders { (order ≤ top) × (top ≤ 9) }
@@ -111,7 +110,7 @@ fn free_buddy(lists: &FreeLists, first: usize, order: usize) -> Option<usize>
     None
 }
 
-/// Puts a block back into the free lists. Below order 9, the block is merged with its buddy if the whole buddy is free.
+/// Puts a taken block into the free lists, merged with its buddy if its order is below 9 and the whole buddy is free.
 /// The merged block is merged in turn, order by order. Returns the number of orders visited.
 pub(crate) fn give_to(lists: &mut FreeLists, first: usize, order: usize) -> u8
     ghost flags: { List Bool }

@@ -1,4 +1,4 @@
-//! A buddy allocator of raw pages. It has a list of free blocks for each order.
+//! A buddy allocator of 4 KiB pages. It has a list of free blocks for each order.
 //!
 //! The lists have the maximal free blocks: those that are inside no larger one. A block is cut out of one of the
 //! smallest order that suffices. When it is given back, it is merged with its free buddies. The links are in a table

@@ -49,7 +49,7 @@ impl Links {
         })
     }
 
-    /// Returns a granule's head: one more than the order of the listed block that begins there, or 0 if none does.
+    /// Returns one more than the order of the listed block that begins at the granule, or 0 if none does.
     pub(crate) fn head(&self, granule: usize) -> u8
         ensures { result ≡ head_at self.now.heads granule }
     {

@@ -1,4 +1,4 @@
-//! The lists of free blocks, one for each block order. A mask has a bit set for each order whose list has a block.
+//! The free list of each block order, with a bit mask that says which lists have a block.
 ghost use Rattle.std.specs.Prelude.{◌≡◌, ℕ, ◌+◌, ◌<◌, ◌≤◌, ◌≢◌, length, replicate, slice_set, IfOk, IfSome, IfNone};
 ghost use Rattle.buddy.specs.Heads.{head_at};
 ghost use Rattle.buddy.specs.Links.{HasHead, at};
@@ -37,15 +37,15 @@ impl FreeLists {
         Ok(FreeLists { links, mask: 0 })
     }
 
-    /// Returns a granule's head: one more than the order of the listed block that begins there, or 0 if none does.
+    /// Returns one more than the order of the listed block that begins at the granule, or 0 if none does.
     pub(crate) fn head(&self, granule: usize) -> u8
         ensures { result ≡ head_at self.now.heads granule }
     {
         self.links.head(granule)
     }
 
-    /// Returns the lowest order from `order` on whose list has a block, and the first block of that list, or `None` if
-    /// all these lists are empty.
+    /// Returns the lowest order from `order` on that has a listed block, and the first block of its list. Returns
+    /// `None` if there is no such order.
     pub(crate) fn lowest(&self, order: usize) -> Option<(usize, usize)>
         requires { order < 10 }
         ensures first { IfSome result (λ r. r.1 ≡ at self.now.firsts r.0) }

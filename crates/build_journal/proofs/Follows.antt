@@ -17,6 +17,6 @@ module _ (stack : List Act) (act : Act) (paired : is_paired act ≡ true) where
   pub are_paired_push : are_paired stack ≡ true → are_paired (stack ++ act ∷ []) ≡ true
   are_paired_push h = list_all-append is_paired stack (act ∷ []) ∙ and_from _ _ h (and_from _ _ paired refl)
 
--- an operation that is a reverse, and has no reverse itself, takes the newest operation off the stack
+-- an operation that undoes another one, and has no reverse itself, takes the newest operation off the stack
 pub pushed_taken : (stack : List Act) (act : Act) → is_paired act ≡ false → is_reverse act ≡ true → take (length stack - 1) stack ≡ pushed stack act
 pushed_taken stack act p r = take-front stack ∙ sym (pushed_back stack act p r)

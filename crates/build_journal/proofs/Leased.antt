@@ -1,4 +1,5 @@
--- Proofs that writing one lease over a range of granules gives the same table as setting the lease granule by granule.
+-- Proofs that writing one lease over a range of granules gives the same list of leases as setting the lease granule by
+-- granule.
 use Rattle.std.proofs.Common.{◌≡◌, ℕ, zero, suc, ◌+◌, ◌-◌, ◌≤◌, List, [], ◌∷◌, ◌++◌, length, take, drop, set, replicate, Option, sym, ap, ◌∙◌, arith, append_assoc, length-drop}
 use Rattle.std.proofs.Math.Seq.{paste, paste-zero}
 use Rattle.std.proofs.lemmas.List.{length-set, length-replicate, length-take-le, take_all, take-append-le, take_more_set, drop-set-lt}
@@ -8,7 +9,8 @@ use Rattle.std.specs.List.{range_with_len}
 use Rattle.realm_model.specs.StepLaw.{set_each}
 use borrow.Rule.Slice.PartMut.{put_mid}
 
--- pasting a run of one lease over the table sets the lease of each granule of the run
+-- if `leases` has at least `count` elements from `first` on, pasting `count` copies of one lease there sets each of
+-- these elements
 pub paste-set_each : (leases : List (Option ℕ)) (lease : Option ℕ) (first count : ℕ) → first + count ≤ length leases
     → paste leases first (replicate count lease) count ≡ set_each lease (range_with_len first count) leases
 unfolding set_each
@@ -26,7 +28,8 @@ paste-set_each leases lease first (suc count) fits =
     ∙ ap (λ (xs : List (Option ℕ)). take (first + 1) once ++ run ++ xs) tail
     ∙ paste-set_each once lease (first + 1) count (omega arith)
 
--- a write of one lease over a part of the table, as the goals state it, sets the lease of each granule of the part
+-- replacing a part of the list by copies of one lease, one for each granule of the part, sets the lease of each of
+-- these granules
 pub written-set_each : (leases seen run : List (Option ℕ)) (lease : Option ℕ) (len first count many : ℕ)
     → seen ≡ leases → len ≡ length leases → many ≡ count → run ≡ replicate (length (take many (drop first seen))) lease → first + count ≤ length leases
     → take len (put_mid first many seen run ++ drop (length (put_mid first many seen run)) leases) ≡ set_each lease (range_with_len first count) leases

@@ -1,5 +1,5 @@
--- Lemmas on the stacks of leased pages: a block is pushed granule by granule, and a write to one build's stack changes
--- no other build's stack.
+-- Lemmas on appending the granules of a block, one by one, to a build's stack of leased pages, while the other builds'
+-- stacks stay as they are.
 use Rattle.std.proofs.Common.{◌≡◌, ℕ, ◌+◌, ◌<◌, ◌≤◌, List, [], ◌∷◌, ◌++◌, length, take, get_or, set, vec_len, vec_capacity}
 use Rattle.std.proofs.Common.{sym, ap, ◌∙◌, subst, arith, append_assoc}
 use Rattle.std.proofs.lemmas.List.{length-map, get_or-map, map-set, take_more_set}
@@ -9,7 +9,8 @@ use Rattle.std.specs.List.{range_with_len}
 use Rattle.build_journal.specs.Stacks.{contents, IsRoomy, IsKept}
 use Rattle.granule_addr.proofs.Runs.{range_with_len_more}
 
--- if the pages and k granules of a block are written, writing the block's next granule makes them k + 1
+-- if a list begins with `pages` and a block's first k granules, writing the block's next granule after them makes it
+-- begin with `pages` and k + 1 granules
 pub written_on : (pages before : List ℕ) (start first k granule : ℕ) → start + k < length before → granule ≡ first + k
     → take (start + k) before ≡ pages ++ range_with_len first k
     → take (start + (k + 1)) (set before (start + k) granule) ≡ pages ++ range_with_len first (k + 1)
@@ -31,14 +32,15 @@ module _ (stacks : List (Vec ℕ)) (at build : ℕ) (old new : Vec ℕ) (same : 
       ∙ get_or-map (λ stack. stack.items) stacks at old [] inside
       ∙ ap (λ (stack : Vec ℕ). stack.items) (sym read)
 
-  -- if a function maps a build's old pages to its new ones, the write applies the function to that build's pages
+  -- if the stack `new` has the pages `f old.items`, writing `new` applies `f` to the build's pages, and leaves the
+  -- pages of other builds unchanged
   pub contents_written : (f : List ℕ → List ℕ) → new.items ≡ f old.items → contents (set stacks at new) ≡ set (contents stacks) build (f (get_or (contents stacks) build []))
   contents_written f is =
       map-set (λ stack. stack.items) stacks at new
       ∙ ap (λ (k : ℕ). set (contents stacks) k new.items) same
       ∙ ap (λ (pages : List ℕ). set (contents stacks) build pages) (is ∙ ap f (sym old_contents))
 
-  -- the invariant of the stacks (`IsKept`) holds after a write of a stack with no less memory and at most `room` pages
+  -- `IsKept` still holds after a stack is replaced by one with at least as much memory and at most `room` pages
   pub IsKept-written : (room : ℕ) → IsKept room stacks → vec_capacity old ≤ vec_capacity new → vec_len new ≤ room → IsKept room (set stacks at new)
   IsKept-written room kept memory fits =
       let was : IsRoomy room old = subst (IsRoomy room) (sym read) (kept.roomy at old inside) in

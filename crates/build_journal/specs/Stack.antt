@@ -4,6 +4,6 @@ use Rattle.std.specs.List.{list_all}
 use Rattle.realm_model.specs.declared.act.Act.{Act}
 use Rattle.realm_model.specs.Act.{is_paired}
 
--- each operation has a reverse
+-- each operation of the list has a reverse
 abbrev pub are_paired : List Act → Bool
 are_paired acts = list_all is_paired acts

@@ -13,11 +13,11 @@ pub record Stacks : Type 0 where
 abbrev pub stack_of : Stacks → ℕ → List ℕ
 stack_of leases build = slice_index_or leases.stacks build []
 
--- the stacks of all builds, with that of one build replaced by the given pages
+-- the stacks of all builds after one build's stack is replaced by the given pages
 abbrev pub with_stack : Stacks → ℕ → List ℕ → Stacks
 with_stack leases build pages = record leases { stacks = slice_set leases.stacks build pages }
 
--- the pages of a build, followed by those of a block in rising order
+-- the pages of a build, followed by the granules of a block from the lowest to the highest
 abbrev pub pushed : List ℕ → ℕ → ℕ → List ℕ
 pushed pages first order = pages ++ range_with_len first (2 ^ order)
 
@@ -27,7 +27,7 @@ popped pages order = take (length pages - 2 ^ order) pages
 
 -- ---- stacks as they are kept
 
--- A stack has at most `room` pages, and memory for that many is already allocated.
+-- A stack has at most `room` pages, and the memory for `room` pages is already allocated.
 pub record IsRoomy (room : ℕ) (stack : Vec ℕ) : Type 0 where
   pub memory : room ≤ vec_capacity stack
   pub fits : vec_len stack ≤ room

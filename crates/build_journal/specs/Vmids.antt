@@ -7,7 +7,7 @@ pub record Vmids : Type 0 where
   pub vmids : ℕ
   pub used : List Bool
 
--- the VMID is free: it is in range, and not in use
+-- the VMID is in range, and not in use
 abbrev pub is_free : Vmids → ℕ → Bool
 is_free pool vmid = nat_le 1 vmid && nat_le vmid pool.vmids && not (is_used pool.used vmid)
 
@@ -16,7 +16,8 @@ pub record IsLowestFree (pool : Vmids) (vmid : ℕ) : Type 0 where
   pub free : is_free pool vmid ≡ true
   pub lower : (other : ℕ) → other < vmid → is_free pool other ≡ false
 
--- afterwards the VMID is in use exactly if `used` is true; the range and all other VMIDs are as before
+-- in `new`, the VMID is in use if `used` is true, and not in use otherwise; the range and the other VMIDs are as in
+-- `old`
 pub record IsClaimed (old new : Vmids) (vmid : ℕ) (used : Bool) : Type 0 where
   pub range : new.vmids ≡ old.vmids
   pub marked : IsMarked old.used new.used vmid used

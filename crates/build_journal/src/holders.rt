@@ -1,4 +1,5 @@
-//! A table of the builds that lease a machine's granules. The holder of a granule is the build that leases the granule.
+//! A table of a machine's granules with the builds that lease them. The holder of a granule is the build that leases
+//! the granule.
 ghost use Rattle.std.specs.Prelude.{◌≡◌, ◌+◌, ◌^◌, ◌≤◌, length, replicate, Some, None, IfOk, slice_index_or};
 ghost use Rattle.std.specs.List.{range_with_len};
 ghost use Rattle.realm_model.specs.StepLaw.{set_each};

@@ -51,8 +51,8 @@ impl Journal {
         count <= self.entries.len() as u16
     }
 
-    /// Updates the journal for an operation that the build performs. An operation that has a reverse is pushed, a
-    /// reverse pops the newest, and any other operation changes nothing.
+    /// Pushes an operation that has a reverse, or pops the newest operation if the given one is a reverse. Any other
+    /// operation changes nothing.
     pub fn follow(&mut self, act: &Act)
         requires { length (pushed self.old act.now) ≤ 512 }
         ensures { self.new ≡ pushed self.old act.now }

@@ -40,7 +40,8 @@ impl Leases {
         })
     }
 
-    /// Appends the pages of a block to a build's stack, in rising order. The build is the one that has taken the block.
+    /// Appends the granules of a block, from the lowest to the highest, to a build's stack. The build is the one that
+    /// has taken the block.
     pub fn push_block(&mut self, build: BuildId, first: Gran, order: Order)
         requires there { build < length self.old.stacks }
         requires room { length (stack_of self.old build) + 2 ^ order ≤ self.old.room }

@@ -48,7 +48,8 @@ impl VmidPool {
         None
     }
 
-    /// Claims the VMID if it is free, and returns whether it was. If it was not, nothing changes.
+    /// Marks the VMID as in use if it is free, and returns whether it was free. Nothing changes if the VMID was not
+    /// free.
     pub fn claim(&mut self, vmid: Vmid) -> bool
         ensures answer { result ≡ is_free self.old vmid }
         ensures claimed { OnTrue result (IsClaimed self.old self.new vmid true) }

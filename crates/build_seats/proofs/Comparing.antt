@@ -1,5 +1,5 @@
--- Proofs that an event-by-event comparison with the history decides whether a session handle's event list is its
--- build's part of that history.
+-- Proofs that comparing event by event finds out whether a session handle's event list equals its build's part of the
+-- history.
 use Rattle.std.proofs.Common.{◌<◌, ◌≡◌, ℕ, ◌≤◌, ◌↔◌, IsTrue, List, [], length, drop, get_or, nat_eq, refl, sym, ap, ◌∙◌, arith, length-drop}
 use Rattle.std.specs.List.{All}
 use Rattle.std.proofs.lemmas.List.{drop_all}
@@ -17,8 +17,8 @@ all_used at trail inside none =
     let nothing = ap length none in
     omega (arith, left, nothing)
 
--- if trail and history agree up to the end of the history, the trail is the build's part of it exactly if the trail is
--- at its end too
+-- Once the whole history has been compared, the event list is the build's part of the history exactly if the whole list
+-- has been compared too. One premise is the loop invariant of `is_trail`.
 pub same_at_end : (build at i : ℕ) (history trail : List Event) → at ≤ length trail → length history ≤ i
     → (drop at trail ≡ events_of build (drop i history)) ↔ (trail ≡ events_of build history) → IsTrue (nat_eq at (length trail)) ↔ (trail ≡ events_of build history)
 same_at_end build at i history trail inside done rest =
@@ -27,13 +27,15 @@ same_at_end build at i history trail inside done rest =
       (λ e. eq-eqb at (length trail) (all_used at trail inside (rest.1 e ∙ none))),
     )
 
--- if for each build the trails of its seats are its part of the history, each seat's trail is its build's part
+-- if `FitsAll` holds, and each seat is of a build below 8, the event list of each seat is its build's part of the
+-- history
 pub each_fits : (history : List Event) (books : List ℕ) (seats : List SeatView) → FitsAll history seats → All (λ (seat : SeatView). (seat.build < 8) × (get_or books seat.build 0 ≡ seat.count)) seats
     → All (λ (seat : SeatView). seat.trail ≡ events_of seat.build history) seats
 unfolding FitsAll
 each_fits history books seats fits counted k d inside = fits (get_or seats k d).build (counted k d inside).0 k d inside refl
 
--- each seat counts the events that the host under the lock has of its build
+-- if each seat's build is below 8, and its event count is the one in `books`, the host under the lock satisfies
+-- `IsHostGivenBack`
 pub given_back : (opened : HostView) (kept : KeptView) (seats : List SeatView) → IsKeptBehindLock opened kept
     → All (λ (seat : SeatView). (seat.build < 8) × (get_or kept.books seat.build 0 ≡ seat.count)) seats → IsHostGivenBack opened kept.host seats
 given_back opened kept seats is_kept counted = record {

@@ -1,4 +1,4 @@
--- A proof that the accepted lines of a worker's report match the worker's accepted commands and undos one by one.
+-- A proof that a worker's report records as accepted exactly the worker's accepted commands and undos, in sequence.
 use Rattle.std.proofs.Common.{◌≡◌, ℕ, zero, suc, ◌+◌, Bool, true, false, cond, List, [], ◌∷◌, ◌++◌, length, map, replicate, refl, sym, ap, subst, ◌∙◌, arith, append_assoc, length-append}
 use Rattle.std.specs.Prelude.{Option, Some, None, Ok, Err, filter, min, slice_get, option_map, ⊤}
 use Rattle.std.specs.List.{AllZip}
@@ -78,7 +78,7 @@ Fit-one steps at exchange lines exchanges asks rest = record {
 
 -- ---- questions
 
--- Each question of a list is the one that a report line with the paired `Asked` answers.
+-- In each pair of the list, the question is the one that a report line with the pair's `Asked` answers.
 abbrev AreAt : List Step → Questions → Type 0
 AreAt steps [] = ⊤
 AreAt steps (one ∷ more) = (Some one.1 ≡ question_at steps one.0) × AreAt steps more

@@ -1,4 +1,4 @@
--- Proofs that each step of a worker adds at most one to the number of exits and undos that would follow a refusal.
+-- Proofs that each step of a worker adds at most one to the number of exits and undos that a refusal would require.
 use Rattle.std.proofs.Common.{◌≡◌, ℕ, zero, suc, ◌+◌, ◌-◌, ◌≤◌, Bool, true, false, List, [], ◌∷◌, length, refl, sym, ap, subst, arith, cond, eqb, ltb, not}
 use Rattle.std.specs.Prelude.{Option, Some, None, Ok, Err, replicate, min}
 use Rattle.std.proofs.lemmas.List.Filters.{length-filter_both}
@@ -112,8 +112,9 @@ closed standing closes (accepted {exchange = exchange} of_question is all_put) =
 
 -- ---- steps
 
--- A step adds at most one to the questions that clear the build, and none if it is refused. Together with the step's
--- lines, they are at most two more than before. There is at most one exchange more than lines.
+-- A step adds at most one to the exits and undos that the worker would ask for after a refusal, and none if the step
+-- itself is refused. The added report lines, with these exits and undos, are at most two more than the exits and undos
+-- before. There is at most one exchange more than lines.
 pub record IsGrowth (standing : StandingView) (exchanges : List Exchange) (lines : List ReportLine) (end : Ending) : Type 0 where
   pub left : left_to_clear (standing_after exchanges standing) ≤ left_to_clear standing + 1
   pub with_lines : length lines + left_to_clear (standing_after exchanges standing) ≤ left_to_clear standing + 2
@@ -165,7 +166,8 @@ undone_left (suc more) asked standing (accepted {exchange = exchange} of_questio
     let rest = undone_left more asked (after_exchange exchange standing) put in
     omega (arith, one, rest)
 
--- The undos of a step add at least as many lines as exchanges.
+-- If a step asks for at most as many undos as operations are open, its undos satisfy `IsGrowth`, with at most as many
+-- exchanges as report lines.
 IsGrowth-undone : (place count : ℕ) (end : Ending) {exchanges : List Exchange} {lines : List ReportLine} (standing : StandingView) → count ≤ standing.journal
     → AreUndone place count exchanges lines end → IsGrowth standing exchanges lines end × (length exchanges ≤ length lines)
 IsGrowth-undone place zero end standing enough tells =

@@ -1,4 +1,5 @@
--- The invariant of the loops that ask a worker's list of questions, and proofs that an accepted question preserves it.
+-- The invariant of the loops in which a worker asks for exits or undos, and proofs that each accepted exit or undo
+-- preserves the invariant.
 use Rattle.std.proofs.Common.{◌≡◌, ℕ, suc, ◌+◌, ◌-◌, ◌<◌, ◌≤◌, List, [], ◌∷◌, ◌++◌, length, drop, get_or, replicate, map}
 use Rattle.std.proofs.Common.{sym, ap, ap₂, subst, ◌∙◌, arith, length-append, add-one, drop-cons, drop_of_length-le}
 use Rattle.std.proofs.lemmas.List.{length-map, length-replicate}
@@ -18,7 +19,8 @@ use Rattle.build_seats.proofs.Growth.{IsCloser, closed_by}
 use Rattle.build_seats.proofs.Questions.{Questions, Leads, Leads-none, Leads-next, Leads-stop, Leads-whole, ArePut-append, ArePut-append_stop, grown}
 use Rattle.build_seats.proofs.Stretches.{IsStretch-none, IsStretch-append, IsStretch-so}
 
--- The first `done` questions of a list are put and accepted. The lines and the turns have grown by at most that many.
+-- A worker has asked the questions of `all` that come before `rest`, and the host has accepted each of them. The lines
+-- and the turns have grown by at most `done`, and `left_to_clear` has not grown.
 pub record IsUnderWay (before now : List Exchange → Type 0) (passes stops : ℕ → Type 0) (old new : StandingView) (old_lines new_lines : List ReportLine)
     (done : ℕ) (rest all : Questions) : Type 0 where
   pub stretch : IsStretch before now passes stops old new old_lines new_lines ending.Done (Leads rest all)
@@ -26,13 +28,14 @@ pub record IsUnderWay (before now : List Exchange → Type 0) (passes stops : �
   pub turns : new.turn ≤ old.turn + done
   pub left : left_to_clear new ≤ left_to_clear old
 
--- the invariant holds before the first question is put
+-- `IsUnderWay` holds before a worker asks the first question of a list
 pub loop_none : {before : List Exchange → Type 0} {passes stops : ℕ → Type 0} {standing : StandingView} {lines : List ReportLine} {from all : Questions}
     → Leads from all [] []
     → IsUnderWay before before passes stops standing standing lines lines 0 from all
 loop_none leads = record { stretch = IsStretch-none leads; lines = omega arith; turns = omega arith; left = omega arith }
 
--- the invariant holds after an accepted question that leaves no more to clear than before
+-- `IsUnderWay` still holds after the host accepts the next question, if that question, like an exit or an undo, never
+-- raises `left_to_clear`
 pub loop_next : {before between after : List Exchange → Type 0} {passes stops : ℕ → Type 0} {old mid new : StandingView} {old_lines mid_lines new_lines : List ReportLine}
     {asked : Asked} {question : Question} {from all : Questions} {done : ℕ} (rest : Questions)
     → from ≡ (asked, question) ∷ rest
@@ -52,7 +55,7 @@ loop_next {all = all} rest is closes so_far put =
       left = omega (arith, less, so_far.left);
     }
 
--- if the next question is refused or gets no turn, the whole list ends with it
+-- if the next question is refused or gets no turn, the asking of the whole list ends with that outcome
 pub loop_stop : {before between after : List Exchange → Type 0} {passes stops : ℕ → Type 0} {old mid new : StandingView} {old_lines mid_lines new_lines : List ReportLine}
     {end : Ending} {first : Asked × Question} {from all : Questions} {done : ℕ} (rest : Questions)
     → from ≡ first ∷ rest
@@ -63,7 +66,8 @@ pub loop_stop : {before between after : List Exchange → Type 0} {passes stops 
 loop_stop {all = all} rest is goes so_far put =
     IsStretch-append so_far.stretch put (λ exchanges lines more its _ _ leads one. Leads-stop {rest = rest} goes (subst (λ qs. Leads qs all exchanges lines) is leads) one)
 
--- when no question is left, the whole list has been put and accepted
+-- if `IsUnderWay` holds and no question is left, the worker has asked the whole list, and the host has accepted each
+-- question
 pub loop_whole : {before after : List Exchange → Type 0} {passes stops : ℕ → Type 0} {old new : StandingView} {old_lines new_lines : List ReportLine} {from all : Questions} {done : ℕ}
     → from ≡ []
     → IsUnderWay before after passes stops old new old_lines new_lines done from all
@@ -76,7 +80,7 @@ pub replicate-next : (again : Asked × Question) (count done : ℕ) → done < c
 replicate-next again count done left =
     let one : count - done ≡ suc (count - (done + 1)) = omega arith in ap (λ n. replicate n again) one
 
--- before the first of `count` equal questions, all of them are left to put
+-- `Leads` holds before the first of `count` equal questions is asked, when all of them remain to be asked
 pub Leads-all : (count : ℕ) (again : Asked × Question) → Leads (replicate (count - 0) again) (replicate count again) [] []
 Leads-all count again =
     let all : count ≡ count - 0 = omega arith in
@@ -99,7 +103,8 @@ exits-none numbers place end = ap (map exit_of) (drop_of_length-le numbers end)
 
 -- ---- the clearing of a build
 
--- accepted exits of the running RECs, and then undos of the open operations, are the clearing of a build
+-- if the exits of all running RECs are accepted, asking next for the undos of all open operations completes the asking
+-- of the questions of `clearing`
 pub cleared : {before between after : List Exchange → Type 0} {passes stops : ℕ → Type 0} {old mid new : StandingView} {old_lines mid_lines new_lines : List ReportLine} {end : Ending}
     (standing : StandingView) (numbers : List ℕ) (opened : ℕ)
     → numbers ≡ standing.running
@@ -112,7 +117,8 @@ cleared {end = end} standing numbers opened runs opens exits undos =
     subst (λ ns. ArePut (map exit_of ns ++ replicate standing.journal (asked.Undo, question.Undo)) (exchanges ++ more) (lines ++ its) end) runs
     (subst (λ n. ArePut (map exit_of numbers ++ replicate n (asked.Undo, question.Undo)) (exchanges ++ more) (lines ++ its) end) opens (ArePut-append exit undo)))
 
--- if an exit is refused or gets no turn, the clearing of the build ends with it
+-- if an exit that follows a refusal is itself refused, or gets no turn, the asking of the questions of `clearing` ends
+-- with that outcome
 pub cleared_stop : {before after : List Exchange → Type 0} {passes stops : ℕ → Type 0} {old new : StandingView} {old_lines new_lines : List ReportLine} {end : Ending}
     (standing : StandingView) (numbers : List ℕ)
     → numbers ≡ standing.running

@@ -1,4 +1,5 @@
--- The invariant of the loop in which a worker takes its build's steps, and proofs that an accepted step preserves it.
+-- The invariant of the loop in which a worker performs its build's steps, and proofs that an accepted step preserves
+-- the invariant.
 use Rattle.std.proofs.Common.{◌≡◌, ℕ, ◌+◌, ◌<◌, ◌≤◌, Bool, true, false, List, [], ◌∷◌, ◌++◌, length, drop, get_or, refl, sym}
 use Rattle.std.proofs.Common.{ap, subst, ◌∙◌, arith, append_assoc, add-one, drop-cons, drop_of_length-le, length-append}
 use Rattle.std.proofs.lemmas.List.{append-nil}
@@ -14,7 +15,7 @@ use Rattle.build_seats.specs.declared.ask.Ending.TheVariants as ending
 use Rattle.build_seats.proofs.Growth.{IsGrowth-step}
 use Rattle.build_seats.proofs.Stretches.{IsStretch-append, IsStretch-so, turn-standing_after}
 
--- With the report of the remaining steps, these lines are a report of all steps.
+-- Any report of the steps in `rest`, appended to `exchanges` and `lines`, completes a report of all steps.
 pub record LeadsOn (place : ℕ) (standing : StandingView) (rest : List Step) (start : StandingView) (steps : List Step) (exchanges : List Exchange) (lines : List ReportLine) : Type 0 where
   pub on : (more : List Exchange) (its : List ReportLine) (ended : Bool) → IsWorkerReport place standing rest more its ended → IsWorkerReport 0 start steps (exchanges ++ more) (lines ++ its) ended
 
@@ -34,7 +35,7 @@ LeadsOn-next place standing start step rest steps exchanges more lines its leads
       (leads.on (more ++ after) (its ++ after_lines) ended (accepted more after its after_lines taken report refl refl));
 }
 
--- an accepted next step preserves the invariant
+-- `LeadsOn` still holds after the next step is accepted
 pub steps_next : {before between after : List Exchange → Type 0} {passes stops : ℕ → Type 0} {old mid new : StandingView} {old_lines mid_lines new_lines : List ReportLine}
     (place : ℕ) (step : Step) (from rest steps : List Step)
     → from ≡ step ∷ rest
@@ -55,7 +56,7 @@ reported : {before between after : List Exchange → Type 0} {passes stops : ℕ
 reported place from steps ended so_far rest =
     IsStretch-append so_far rest (λ exchanges lines more its _ _ leads report. leads.on more its ended report)
 
--- a refused step, and then the questions that clear the build, complete the report of all steps
+-- a refused step, with the exits and undos that follow the refusal, completes the report of all steps
 pub steps_cleared : {before between further after : List Exchange → Type 0} {passes stops : ℕ → Type 0} {old mid later new : StandingView}
     {old_lines mid_lines later_lines new_lines : List ReportLine} {end : Ending} (place : ℕ) (step : Step) (from rest steps : List Step)
     → from ≡ step ∷ rest
@@ -69,7 +70,7 @@ steps_cleared {mid = mid} {end = end} place step from rest steps is so_far taken
     subst (λ xs. IsWorkerReport place mid xs (exchanges ++ more) (lines ++ its) (is_over end)) (sym is)
     (refused exchanges more lines its one (subst (λ s. ArePut (clearing s) more its end) counts cleared) refl refl)))
 
--- if the gate withholds a turn that a step needs, the report of all steps ends there, and the worker has not ended
+-- if the gate withholds a turn that a step needs, the report of all steps ends there, as a report of unfinished work
 pub steps_cut : {before between after : List Exchange → Type 0} {passes stops : ℕ → Type 0} {old mid new : StandingView} {old_lines mid_lines new_lines : List ReportLine}
     (place : ℕ) (step : Step) (from rest steps : List Step)
     → from ≡ step ∷ rest
@@ -102,8 +103,9 @@ drop-none steps place end = drop_of_length-le steps end
 
 -- ---- what a step adds
 
--- A step adds at most one to the questions that clear the build. Together with its lines, they are at most two more
--- than before. It takes at most one turn more than it adds lines.
+-- A step raises `left_to_clear`, the number of exits and undos that the worker would ask for after a refusal, by at
+-- most one. Together with the report lines, these exits and undos are at most two more than before. A step takes at
+-- most one turn more than it adds lines.
 pub grown_step : {before after : List Exchange → Type 0} {passes stops : ℕ → Type 0} {old new : StandingView} {old_lines new_lines : List ReportLine} {end : Ending} (place : ℕ) (step : Step)
     → IsStretch before after passes stops old new old_lines new_lines end (λ exchanges lines. IsStepReported place old step exchanges lines end)
     → (left_to_clear new ≤ left_to_clear old + 1) × (length new_lines + left_to_clear new ≤ length old_lines + left_to_clear old + 2) × (new.turn + length old_lines ≤ old.turn + length new_lines + 1)
@@ -134,7 +136,8 @@ cut_if_not_over ending.Done is = cc
 cut_if_not_over ending.Refused is = cc
 cut_if_not_over ending.Cut is = refl
 
--- If a worker has asked nothing and its report is empty, the run that follows is its work (`IsWork`).
+-- If a stretch of a worker's run starts from `first_standing` without report lines, and is a report of the worker's
+-- steps, `IsWork` holds.
 pub IsWork-stretch : {before after : List Exchange → Type 0} {passes stops : ℕ → Type 0} {old new : StandingView} {old_lines new_lines : List ReportLine} {end : Ending} (steps : List Step) (ended : Bool)
     → old ≡ first_standing
     → old_lines ≡ []

@@ -1,5 +1,5 @@
--- Proofs that to ask a worker's questions part by part is to ask the whole list, with one report line for each
--- exchange.
+-- Proofs that asking the parts of a list of questions one after the other amounts to asking the whole list. Each
+-- exchange has one report line.
 use Rattle.std.proofs.Common.{◌≡◌, ℕ, ◌+◌, ◌≤◌, List, [], ◌∷◌, ◌++◌, length, refl, sym, ap, subst, ◌∙◌, arith, append_assoc, length-append}
 use Rattle.std.proofs.lemmas.List.{append-nil}
 use Rattle.build_seats.specs.Asked.{told, line, ArePut, all_put, cut_short, refused, accepted}
@@ -16,7 +16,7 @@ use Rattle.build_seats.proofs.Stretches.{turn-standing_after}
 abbrev pub Questions : Type 0
 Questions = List (Asked × Question)
 
--- If the rest is asked after these exchanges, the whole list is asked.
+-- Asking the questions of `rest`, after `exchanges`, completes the asking of the whole list `all`.
 pub record Leads (rest all : Questions) (exchanges : List Exchange) (lines : List ReportLine) : Type 0 where
   pub on : (more : List Exchange) (its : List ReportLine) (end : Ending) → ArePut rest more its end → ArePut all (exchanges ++ more) (lines ++ its) end
 
@@ -26,7 +26,7 @@ Leads-none all = record { on = λ more its end put. put }
 both_along : (P : List Exchange → List ReportLine → Type 0) {es es' : List Exchange} {ls ls' : List ReportLine} → es ≡ es' → ls ≡ ls' → P es ls → P es' ls'
 both_along P {es} {es'} {ls} {ls'} e l h = subst (P es') l (subst (λ x. P x ls) e h)
 
--- after the first remaining question is accepted, the questions after it remain
+-- `Leads` still holds after the first remaining question is accepted
 pub Leads-next : {question : Asked × Question} {rest all : Questions} {exchanges more : List Exchange} {lines its : List ReportLine} → Leads (question ∷ rest) all exchanges lines
     → ArePut (question ∷ []) more its ending.Done → Leads rest all (exchanges ++ more) (lines ++ its)
 Leads-next {all = all} {exchanges = exchanges} {lines = lines} leads (accepted {exchange = exchange} of_question is all_put) = record {
@@ -35,7 +35,7 @@ Leads-next {all = all} {exchanges = exchanges} {lines = lines} leads (accepted {
       (leads.on (exchange ∷ after) (line _ (told exchange) ∷ after_lines) end (accepted of_question is put));
 }
 
--- if no question remains, the whole list has been put and accepted
+-- if `Leads` holds and no question remains, the worker has asked the whole list, and each question was accepted
 pub Leads-whole : {all : Questions} {exchanges : List Exchange} {lines : List ReportLine} → Leads [] all exchanges lines → ArePut all exchanges lines ending.Done
 Leads-whole {all} {exchanges} {lines} leads = both_along (λ es ls. ArePut all es ls ending.Done) (append-nil exchanges) (append-nil lines) (leads.on [] [] ending.Done all_put)
 
@@ -45,12 +45,12 @@ stops_there goes cut_short = cut_short
 stops_there goes (refused of_question is) = refused of_question is
 stops_there goes (accepted of_question is all_put) = absurd (goes refl)
 
--- if the first remaining question is refused or gets no turn, the whole list ends with it
+-- if the first remaining question is refused or gets no turn, the asking of the whole list ends with that outcome
 pub Leads-stop : {question : Asked × Question} {rest all : Questions} {exchanges more : List Exchange} {lines its : List ReportLine} {end : Ending}
     → (end ≡ ending.Done → ⊥) → Leads (question ∷ rest) all exchanges lines → ArePut (question ∷ []) more its end → ArePut all (exchanges ++ more) (lines ++ its) end
 Leads-stop {more = more} {its = its} {end = end} goes leads put = leads.on more its end (stops_there goes put)
 
--- If all questions of one list are accepted and then another list is put, both are put as one list.
+-- If all questions of one list are accepted and then another list is asked, the two lists are asked as one.
 pub ArePut-append : {first more : Questions} {exchanges later : List Exchange} {lines its : List ReportLine} {end : Ending} → ArePut first exchanges lines ending.Done
     → ArePut more later its end → ArePut (first ++ more) (exchanges ++ later) (lines ++ its) end
 ArePut-append all_put rest = rest
@@ -71,7 +71,7 @@ length-ArePut cut_short = (refl, omega arith)
 length-ArePut (refused of_question is) = (refl, omega arith)
 length-ArePut (accepted of_question is put) = let h = length-ArePut put in (omega arith, omega arith)
 
--- At most one line is added and one turn is taken for each question.
+-- For each question of a list, at most one report line is added and at most one turn is taken.
 pub grown : {before after : List Exchange → Type 0} {passes stops : ℕ → Type 0} {old new : StandingView} {old_lines new_lines : List ReportLine} {end : Ending} {questions : Questions}
     → IsStretch before after passes stops old new old_lines new_lines end (λ exchanges lines. ArePut questions exchanges lines end)
     → (length new_lines ≤ length old_lines + length questions) × (new.turn ≤ old.turn + length questions)

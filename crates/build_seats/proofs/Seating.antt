@@ -1,4 +1,5 @@
--- Proofs that the loop that creates the session handles (`Seat`) gives each build a handle with no event counted yet.
+-- Proofs that the loop that creates session handles (`Seat`) makes one for each build, and that no handle has counted
+-- an event yet.
 use Rattle.std.proofs.Common.{◌≡◌, ℕ, suc, ◌+◌, ◌-◌, ◌<◌, List, [], ◌∷◌, ◌++◌, length, map, take, get_or, replicate, Option, Some, None, sym, ap, ◌∙◌, subst, arith, zero-add}
 use Rattle.std.specs.Array.Iter.{array_into_iter_items, array_steps}
 use Rattle.std.specs.List.{range_with_len}
@@ -25,11 +26,12 @@ the_first : (r : Option PassView) (s t : IntoIter PassView 8) (pass : PassView) 
 the_first r s t pass is steps = subst (λ (o : Option PassView). array_steps s o t) is steps
 
 module _ (k : ℕ) (below : k < 8) (s t : IntoIter PassView 8) (r : Option PassView) (left : array_into_iter_items s ≡ map unused (range_with_len k (8 - k))) (steps : array_steps s r t) where
-  -- if k is below 8, a pass is left
+  -- if k is below 8, and the iterator still has the ledger share, or `Pass`, of each build from k to 7, the iterator
+  -- gives another share
   pub some_pass : IsSome r
   some_pass = some_first r s t steps (let long = ap length left ∙ length-map-range_with_len unused k (8 - k) in omega arith)
 
-  -- the pass is that of build k, and those of the builds after it are left
+  -- the share that the iterator gives is build k's, with no event counted, and the shares of builds k + 1 to 7 are left
   module _ (pass : PassView) (is : r ≡ Some pass) where
     both : (pass ≡ unused k) × (array_into_iter_items t ≡ map unused (range_with_len (k + 1) (8 - (k + 1))))
     both = heads _ _ _ _ (sym (the_first r s t pass is steps) ∙ left ∙ first_left k below)
@@ -40,7 +42,7 @@ module _ (k : ℕ) (below : k < 8) (s t : IntoIter PassView 8) (r : Option PassV
     pub passes_left : array_into_iter_items t ≡ map unused (range_with_len (k + 1) (8 - (k + 1)))
     passes_left = both.1
 
--- the last of some empty trails is empty, and so are the others
+-- if all of `n` event lists are empty, the last one is empty, and the other `n - 1` are too
 module _ (trails rest : List (List Event)) (n m : ℕ) (empty : trails ≡ replicate n []) (one : m + 1 ≡ n) (trail : List Event) where
   pub trail_is : Some trail ≡ Some (get_or trails (n - 1) []) → trail ≡ []
   trail_is last = same_Some _ _ last ∙ ap (λ ts. get_or ts (n - 1) []) empty ∙ get_or-replicate n (n - 1) [] [] (omega arith)

@@ -1,4 +1,5 @@
--- A proof that a host with an empty history satisfies the invariant of the data under a shared host's lock.
+-- A proof that a sound host with an empty history, together with event counts of 0, satisfies the invariant of the data
+-- under a shared host's lock.
 use Rattle.std.proofs.Common.{◌≡◌, ℕ, Bool, true, false, List, [], ◌∷◌, length, get_or, refl, sym, ap, ◌∙◌, arith}
 use Rattle.std.proofs.lemmas.List.{get_or-replicate}
 use Rattle.realm_model.specs.declared.act.Event.{Event}
@@ -7,7 +8,7 @@ use Rattle.host_ledger.specs.View.{HostView, is_aborting}
 use Rattle.host_ledger.proofs.Empty.{none_open}
 use Rattle.build_seats.specs.Kept.{IsSound, IsKeptBehindLock}
 
--- nothing is open, so no build is in abort
+-- if the history of a sound host is empty, no operation is open, so no build is in abort
 none_aborts : (host : HostView) → IsSound host → host.history ≡ [] → (build : ℕ) → is_aborting host build ≡ false
 none_aborts host sound empty build = at (is_aborting host build) refl
   where

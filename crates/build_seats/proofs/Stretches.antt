@@ -1,5 +1,5 @@
--- Proofs about parts of a worker's run: asking one question is a part, asking none is an empty part, and two adjacent
--- parts together are a part.
+-- Proofs that one answered question is a stretch of a worker's run, and that two adjacent stretches together are a
+-- stretch.
 use Rattle.std.proofs.Common.{◌≡◌, ℕ, ◌+◌, Bool, true, false, List, [], ◌∷◌, ◌++◌, length, refl, sym, ap, subst, ◌∙◌, arith, append_assoc, cond, ltb}
 use Rattle.std.specs.Prelude.{Some, Result, Ok, Err, MatchResult}
 use Rattle.std.proofs.lemmas.List.{append-nil}
@@ -28,7 +28,7 @@ turn-after_answer (KeptMark (Ok mark)) standing = refl
 turn-after_answer (KeptMark (Err refusal)) standing = refl
 turn-after_answer (CheckedBack mark result) standing = refl
 
--- each exchange takes a turn
+-- a list of exchanges raises the index of the worker's next turn by the number of exchanges
 pub turn-standing_after : (exchanges : List Exchange) (standing : StandingView) → (standing_after exchanges standing).turn ≡ standing.turn + length exchanges
 turn-standing_after [] standing = omega arith
 turn-standing_after (exchange ∷ more) standing =
@@ -55,12 +55,13 @@ cut_at false is = cc
 pub not_cut : (answer : Answer) → ending_of answer ≡ ending.Cut → ⊥
 not_cut answer is = cut_at (is_refused answer) is
 
--- an answer that is a result's value, or its refusal as an answer, is the answer of the result (`answer_of`)
+-- if an answer is the value of a result, or reports the refusal of the result, `answer_of` the result is that answer
 pub answered : (result : Result Answer Refusal) (answer : Answer) → MatchResult result (λ said. answer ≡ said) (λ refusal. answer ≡ Refused refusal) → answer ≡ answer_of result
 answered (Ok said) answer is = is
 answered (Err refusal) answer is = is
 
--- An exchange with the question and the answer meets `IsExchange` if it was recorded and counted.
+-- `IsExchange` holds of a question and its answer if an exchange has both, was added to the teller's exchanges, and was
+-- counted as a turn.
 pub IsExchange-of : {before after : List Exchange → Type 0} {question : Question} {old new : StandingView} {answer : Answer} (exchange : Exchange)
     → question_of exchange ≡ Some question
     → ((earlier : List Exchange) → before earlier → after (earlier ++ exchange ∷ []))
@@ -75,7 +76,7 @@ IsExchange-of exchange of_question tells counts is = record {
   answer_is = is;
 }
 
--- One exchange, in a turn that the gate gave, is a stretch with the lines that were added.
+-- An exchange in a turn that the gate gave, with the report lines added after it, makes up a stretch of a worker's run.
 pub IsStretch-exchange : {before after : List Exchange → Type 0} {passes stops : ℕ → Type 0} {old new : StandingView} {end : Ending} {old_lines new_lines : List ReportLine}
     {AreThose : List Exchange → List ReportLine → Type 0} {turn : ℕ} (exchange : Exchange) (its : List ReportLine)
     → turn ≡ old.turn
@@ -99,7 +100,8 @@ IsStretch-exchange {passes = passes} {old = old} {new = new} {turn = turn} excha
       are_those = those;
     }
 
--- A question that was asked in a turn that the gate gave, with its report line, is a stretch.
+-- An answered question in a turn that the gate gave, with the question's report line, makes up a stretch of a worker's
+-- run.
 pub IsStretch-one : {before after : List Exchange → Type 0} {passes stops : ℕ → Type 0} {question : Question} {old new : StandingView} {answer said : Answer}
     {asked : Asked} {end : Ending} {old_lines new_lines : List ReportLine} {turn : ℕ}
     → turn ≡ old.turn
@@ -116,7 +118,7 @@ IsStretch-one {question = question} {answer = answer} {asked = asked} {end = end
     (subst (λ e. ArePut ((asked, question) ∷ []) (put.exchange ∷ []) its e) (ap (λ a. ending_of a) (sym tells) ∙ sym is)
     (put_alone asked question put.exchange (is_refused (told put.exchange)) put.of_question refl))
 
--- A turn that the gate withholds, with nothing asked and no line added, is a stretch.
+-- A wait for a turn that the gate withholds makes up a stretch without exchanges and lines, with the outcome `Cut`.
 pub IsStretch-cut : {before : List Exchange → Type 0} {passes stops : ℕ → Type 0} {standing : StandingView} {lines : List ReportLine} {AreThose : List Exchange → List ReportLine → Type 0} {turn : ℕ}
     → turn ≡ standing.turn
     → stops turn
@@ -133,7 +135,7 @@ IsStretch-cut {before} {passes} {stops} {standing} {lines} {AreThose} {turn} at 
   are_those = those;
 }
 
--- A report line that is added without a question is a stretch.
+-- One report line, added without a question to the host, makes up a stretch of a worker's run.
 pub IsStretch-told : {before : List Exchange → Type 0} {passes stops : ℕ → Type 0} {standing : StandingView} {old_lines new_lines : List ReportLine} {end : Ending}
     {AreThose : List Exchange → List ReportLine → Type 0} (asked : Asked) (answer : Answer)
     → end ≡ ending_of answer
@@ -151,7 +153,7 @@ IsStretch-told {before = before} asked answer is adds those = record {
   are_those = those;
 }
 
--- To ask nothing and add no line is a stretch.
+-- A part of a worker's run without questions and new report lines is a stretch.
 pub IsStretch-none : {before : List Exchange → Type 0} {passes stops : ℕ → Type 0} {standing : StandingView} {lines : List ReportLine} {AreThose : List Exchange → List ReportLine → Type 0}
     → AreThose [] []
     → IsStretch before before passes stops standing standing lines lines ending.Done AreThose
@@ -166,7 +168,8 @@ IsStretch-none {before = before} {lines = lines} those = record {
   are_those = those;
 }
 
--- Two stretches, one after the other, are a stretch.
+-- Two adjacent stretches of a worker's run are one stretch. The properties of the two, `First` and `Second`, have to
+-- imply the property `Whole`.
 pub IsStretch-append : {before between after : List Exchange → Type 0} {passes stops : ℕ → Type 0} {old mid new : StandingView} {old_lines mid_lines new_lines : List ReportLine}
     {one end : Ending} {First Second Whole : List Exchange → List ReportLine → Type 0}
     → IsStretch before between passes stops old mid old_lines mid_lines one First
@@ -188,7 +191,7 @@ IsStretch-append {before} {between} {after} {passes} {stops} {old} {mid} {new} {
   are_those = whole first.exchanges first.lines second.exchanges second.lines first.counted second.counted first.are_those second.are_those;
 }
 
--- If the property of a stretch implies another one, it is a stretch with that other property.
+-- If a stretch has the property `First`, and `First` implies `Whole`, the stretch has the property `Whole` too.
 pub IsStretch-so : {before after : List Exchange → Type 0} {passes stops : ℕ → Type 0} {old new : StandingView} {old_lines new_lines : List ReportLine}
     {end : Ending} {First Whole : List Exchange → List ReportLine → Type 0}
     → IsStretch before after passes stops old new old_lines new_lines end First
@@ -205,7 +208,8 @@ IsStretch-so stretch so = record {
   are_those = so stretch.exchanges stretch.lines stretch.counted stretch.are_those;
 }
 
--- if two build numbers are equal, a stretch with the turns of the first build is one with the turns of the second
+-- a stretch of a worker's run with the turns of build `other` is also one with the turns of `build`, if the two builds
+-- are equal
 pub IsStretch-build : {before after : List Exchange → Type 0} {old new : StandingView} {old_lines new_lines : List ReportLine} {end : Ending} {AreThose : List Exchange
     → List ReportLine → Type 0} (passes stops : ℕ → ℕ → Type 0) {other build : ℕ}
     → other ≡ build

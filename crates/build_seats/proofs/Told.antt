@@ -56,7 +56,7 @@ IsStepBack-none {end = end} place journal mark none is adds =
     IsStretch-told (asked.Step place) (Refused NothingToUndo) is adds (subst (λ m. IsStepBack place m journal [] (line (asked.Step place) (Refused NothingToUndo) ∷ []) end)
     (sym none) (told_alone place (Refused NothingToUndo) end is))
 
--- a `back` step to a mark that the host refuses is reported by one line, with the host's refusal
+-- if the host refuses to go back to a mark, the `back` step is reported by one line, with the host's refusal
 pub IsWayBack-refused : {before after : List Exchange → Type 0} {passes stops : ℕ → Type 0} {old new : StandingView} {old_lines new_lines : List ReportLine}
     {end : Ending} {turn : ℕ} (place : ℕ) (mark : Mark) (journal : ℕ) (refusal : Refusal)
     → turn ≡ old.turn
@@ -71,7 +71,8 @@ IsWayBack-refused {end = end} place mark journal refusal at pass tells counts is
     IsStretch-exchange (CheckedBack mark (Err refusal)) its at pass tells counts (λ cut. cut_at true (sym is ∙ cut)) adds
     (subst (λ e. IsWayBack place mark journal (CheckedBack mark (Err refusal) ∷ []) its e) (sym is) (refused refusal))
 
--- The exchange in which the host accepts a rollback to a mark and gives the number of undos. It has no report line.
+-- The only exchange is one in which the host accepts a rollback to `mark`, and answers that `count` operations are to
+-- be undone. No report line is added.
 record IsOpening (mark : Mark) (count : ℕ) (exchanges : List Exchange) (lines : List ReportLine) : Type 0 where
   looked : exchanges ≡ CheckedBack mark (Ok count) ∷ []
   no_line : lines ≡ []

@@ -11,8 +11,8 @@ use Rattle.build_seats.specs.declared.ask.Question.TheVariants as question
 use Rattle.build_seats.specs.declared.ask.Ending.{Ending}
 use Rattle.build_seats.specs.declared.ask.Ending.TheVariants as ending
 
--- The answer in an exchange's report line, as the teller gave it. An accepted request for the number of operations
--- since a mark has the answer Nothing, which is reported only if a `back` step has nothing to undo.
+-- The teller's answer in an exchange, in the form that a report line has. An accepted request for the number of
+-- operations since a mark has the answer Nothing, which is reported only if a `back` step has nothing to undo.
 abbrev pub told : Exchange → Answer
 told (Did cmd (Ok reply)) = Replied reply
 told (Did cmd (Err refusal)) = Refused refusal
@@ -35,8 +35,8 @@ is_refused (Marked length) = false
 is_refused Nothing = false
 is_refused (Refused refusal) = true
 
--- The question of an exchange, if it asks for a command, an undo or a mark. A request for the number of operations
--- since a mark is not a `Question`, so the result is None.
+-- The question of an exchange in which a worker asks for a command, an undo or a mark; None for any other exchange. A
+-- request for the number of operations since a mark is not a `Question`.
 abbrev pub question_of : Exchange → Option Question
 question_of (Did cmd result) = Some (question.Do cmd)
 question_of (Undid result) = Some question.Undo

@@ -42,7 +42,7 @@ pub record Differs (build : ℕ) (history : List Event) (seats : List SeatView) 
 
 -- ---- the host that is given back
 
--- The host is one that the lock can hold, and has the limits and the history capacity that it had at the start. Each
+-- The host is sound with no build in abort, and has the limits and the history capacity of the host `opened`. Each
 -- seat's count is the number of its build's events in the host's history.
 pub record IsHostGivenBack (opened host : HostView) (seats : List SeatView) : Type 0 where
   pub shared : IsShared host

@@ -1,4 +1,5 @@
--- The condition that the accepted lines of a worker's report match the worker's accepted commands and undos one by one.
+-- The condition that a worker's report records as accepted exactly the worker's accepted commands and undos, in
+-- sequence.
 use Rattle.std.specs.Prelude.{◌≡◌, Bool, true, false, List, filter, Option, Some, slice_get, option_map}
 use Rattle.std.specs.List.{AllZip}
 use Rattle.host_commands.specs.declared.cmd.Cmd.TheVariants as cmd
@@ -28,8 +29,8 @@ is_done (Refused refusal) = false
 abbrev pub is_accepted : ReportLine → Bool
 is_accepted line = is_done line.answer
 
--- The question that a report line of a step answers. A line of an abort or of a `back` step answers a request for an
--- undo.
+-- The question to which a report line of a step has the answer. For an abort or a `back` step, the question is a
+-- request for an undo.
 abbrev pub question_of_step : Step → Question
 question_of_step (step.Ask cmd) = question.Do cmd
 question_of_step step.Undo = question.Undo
@@ -37,18 +38,20 @@ question_of_step step.Abort = question.Undo
 question_of_step step.Mark = question.Mark
 question_of_step step.Back = question.Undo
 
--- The question that a report line answers, given the build's steps; none if no step has the line's index.
+-- The question to which a report line has the answer, given the build's steps; none if the line's step is not one of
+-- them.
 abbrev pub question_at : List Step → Asked → Option Question
 question_at steps (asked.Step place) = option_map question_of_step (slice_get steps place)
 question_at steps (asked.Exit number) = Some (question.Do (cmd.Exit number))
 question_at steps asked.Undo = Some question.Undo
 
--- The report line belongs to the exchange: both have the same question and the same answer.
+-- The report line and the exchange have the same question and the same answer.
 pub record IsLineOf (steps : List Step) (line : ReportLine) (exchange : Exchange) : Type 0 where
   pub asks : question_of exchange ≡ question_at steps line.asked
   pub tells : line.answer ≡ told exchange
 
--- The accepted lines of a worker's report match the events among the worker's exchanges one by one, in sequence.
+-- If the lines are a worker's report on the exchanges, the report records as accepted exactly the events among the
+-- exchanges, in sequence. Each accepted line has the question and the answer of its event.
 abbrev pub AcceptedMatchEvents : StandingView → List Step → List Exchange → List ReportLine → Bool → Type 0
 AcceptedMatchEvents standing steps exchanges lines ended =
     IsWorkerReport 0 standing steps exchanges lines ended → AllZip (IsLineOf steps) (filter is_accepted lines) (filter is_event exchanges)

@@ -1,4 +1,4 @@
--- Exchanges of a worker with its `Teller`, the client side of a host: each is a question and its answer.
+-- Exchanges of a worker with its `Teller`, the client side of a host. An exchange is a question with the answer.
 use Rattle.std.specs.Prelude.{ℕ, Bool, true, false, Result, Ok, Err}
 use Rattle.host_ledger.specs.declared.mark.Mark.{Mark}
 use Rattle.host_commands.specs.declared.cmd.Cmd.{Cmd}
@@ -14,7 +14,7 @@ pub data Exchange : Type 0 where
   KeptMark : Result Mark Refusal → Exchange
   CheckedBack : Mark → Result ℕ Refusal → Exchange
 
--- The exchange is an event of the build: an accepted command or an accepted undo. Marks are not events.
+-- The exchange is an accepted command or an accepted undo, and so an event of the build. Marks are not events.
 abbrev pub is_event : Exchange → Bool
 is_event (Did cmd (Ok reply)) = true
 is_event (Did cmd (Err refusal)) = false

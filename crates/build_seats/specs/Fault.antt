@@ -6,8 +6,8 @@ use Rattle.build_seats.specs.declared.close.CloseFault.TheVariants.{SeatMissing,
 use Rattle.build_seats.specs.Close.{IsMissing, AreSeatsWhole, Differs}
 use Rattle.build_seats.specs.Seats.{SeatView}
 
--- The fault names the lowest build without exactly one seat. If there is none, it names the lowest with a seat whose
--- event list differs from the build's part of the history.
+-- The fault names the lowest build that does not have exactly one seat, or else the lowest build with a wrong event
+-- list. An event list is wrong if it differs from the build's part of the history.
 abbrev pub IsFault : CloseFault → HostView → List SeatView → Type 0
 IsFault (SeatMissing build) host seats = IsMissing host.limits.builds build seats
 IsFault (RecordMismatch build) host seats = AreSeatsWhole host.limits.builds seats × Differs build host.history seats

@@ -15,8 +15,8 @@ pub record KeptView : Type 0 where
   pub host : HostView
   pub books : List ℕ
 
--- The invariant of any host: its history is legal, its limits and history capacity are in range, and no build has used
--- more than its room. Each build has a flag and a place for a mark, both valid.
+-- The host's history is legal, the host's limits and history capacity are in range, and no build has used more than its
+-- room. Each build has a flag and a place for a mark, both valid. Any host satisfies this invariant.
 pub record IsSound (host : HostView) : Type 0 where
   pub legal : IsLegal host.limits host.history
   pub in_range : IsInRange host.limits host.capacity
@@ -24,7 +24,7 @@ pub record IsSound (host : HostView) : Type 0 where
   pub each : AreOfEach host
   pub points : (build : ℕ) → PointsHold host build
 
--- A host under the lock: it is sound, and no build is in abort.
+-- The host is sound, and no build is in abort. Every host under the lock satisfies this condition.
 pub record IsShared (host : HostView) : Type 0 where
   pub sound : IsSound host
   pub no_abort : (build : ℕ) → is_aborting host build ≡ false
@@ -34,8 +34,9 @@ pub record IsCounted (history : List Event) (books : List ℕ) : Type 0 where
   pub whole : length books ≡ 8
   pub each : (build : ℕ) → build < 8 → slice_index books build ≡ length (events_of build history)
 
--- The invariant of the data that the lock protects. The limits and the history's capacity are as at the start, so no
--- trail has less room than the history has for its build.
+-- The data under the lock satisfy the invariant: the host is sound with no build in abort, and each build's events are
+-- counted. The host has the limits and the history capacity of the host `opened`, so no trail has less room than the
+-- history has for its build.
 pub record IsKeptBehindLock (opened : HostView) (kept : KeptView) : Type 0 where
   pub shared : IsShared kept.host
   pub counted : IsCounted kept.host.history kept.books

@@ -1,4 +1,4 @@
--- The names of the ghost ledgers of eight builds.
+-- The names of the ghost ledgers of builds 0 to 7.
 use Rattle.std.specs.Prelude.{◌≡◌, ℕ, [], ◌∷◌, slice_index}
 use Rattle.build_seats.specs.declared.blanks.Blanks.{Blanks}
 

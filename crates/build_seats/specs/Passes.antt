@@ -1,10 +1,11 @@
--- The view of a `Pass`, the only share of a build's ghost ledger: the build, and the number of its counted events.
+-- The view of a `Pass`: the build, and the number of the build's events that are counted. A `Pass` is the only share of
+-- a build's ghost ledger.
 use Rattle.std.specs.Prelude.{ℕ}
 
 pub record PassView : Type 0 where
   pub build : ℕ
   pub count : ℕ
 
--- a build's pass that has counted no event
+-- the view of a build's `Pass` (ledger share) before any event is counted
 abbrev pub unused : ℕ → PassView
 unused build = record { build = build; count = 0 }

@@ -1,4 +1,4 @@
--- A worker's report on its build's steps: the questions that it asked, and the lines that it reported.
+-- The condition that exchanges and report lines are those of a worker that performs its build's steps.
 use Rattle.std.specs.Prelude.{◌≡◌, ℕ, zero, suc, ◌+◌, ◌<◌, min, Bool, true, false, List, [], ◌∷◌, ◌++◌, length, map, replicate, Option, Some, None, Ok, Err, if◌then◌else◌}
 use Rattle.host_ledger.specs.declared.mark.Mark.{Mark}
 use Rattle.host_commands.specs.declared.cmd.Cmd.TheVariants as cmd
@@ -21,7 +21,7 @@ use Rattle.build_seats.specs.declared.ask.Ending.TheVariants as ending
 
 -- ---- the report of one step
 
--- the outcome of a question with the given answer: refused or done
+-- the outcome of a question with the given answer, either refused or done
 abbrev pub ending_of : Answer → Ending
 ending_of answer = if is_refused answer then ending.Refused else ending.Done
 
@@ -48,8 +48,8 @@ abbrev pub IsAbort : ℕ → List ℕ → ℕ → List Exchange → List ReportL
 IsAbort place [] journal exchanges lines end = AreUndone place journal exchanges lines end
 IsAbort place (number ∷ numbers) journal exchanges lines end = IsAnswerReported place (Refused RecRunning) exchanges lines end
 
--- A `back` step asks whether the build can go back to its mark, and then for the undos that lead there. These are as
--- many as the answer says, but no more than the build has open.
+-- A `back` step asks whether the build can go back to its mark, and then asks for the undos that lead there. The undos
+-- are as many as the answer says, but no more than the build has open operations.
 pub data IsWayBack (place : ℕ) (mark : Mark) (journal : ℕ) : List Exchange → List ReportLine → Ending → Type 0 where
   cut_short : IsWayBack place mark journal [] [] ending.Cut
   refused : (refusal : Refusal)
@@ -63,7 +63,7 @@ abbrev pub IsStepBack : ℕ → Option Mark → ℕ → List Exchange → List R
 IsStepBack place None journal exchanges lines end = IsAnswerReported place (Refused NothingToUndo) exchanges lines end
 IsStepBack place (Some mark) journal exchanges lines end = IsWayBack place mark journal exchanges lines end
 
--- The questions that a step with the given index asks, and the report lines with their answers.
+-- A step with the given index has these exchanges, these report lines and this outcome.
 abbrev pub IsStepReported : ℕ → StandingView → Step → List Exchange → List ReportLine → Ending → Type 0
 IsStepReported place standing (step.Ask cmd) exchanges lines end = IsQuestionAsked place (question.Do cmd) exchanges lines end
 IsStepReported place standing step.Undo exchanges lines end = IsQuestionAsked place question.Undo exchanges lines end
@@ -73,23 +73,23 @@ IsStepReported place standing step.Back exchanges lines end = IsStepBack place s
 
 -- ---- the report of all steps
 
--- the exit of a REC after a refusal: how a report line names it, and the question that asks for it
+-- the question that asks for a REC's exit after a refusal, with the `Asked` of its report line
 abbrev pub exit_of : ℕ → Asked × Question
 exit_of number = (asked.Exit number, question.Do (cmd.Exit number))
 
--- The questions after a refusal: exits of the running RECs, the lowest number first, and then undos of all open
--- operations.
+-- The questions that a worker asks after a refusal: for the exit of each running REC, and then for the undo of each
+-- open operation. The lowest REC number comes first.
 abbrev pub clearing : StandingView → List (Asked × Question)
 clearing standing = map exit_of standing.running ++ replicate standing.journal (asked.Undo, question.Undo)
 
--- the questions ended because all were accepted or one was refused, and not for lack of a turn
+-- the asking of questions ended because all were accepted or one was refused, and not for lack of a turn
 abbrev pub is_over : Ending → Bool
 is_over ending.Done = true
 is_over ending.Refused = true
 is_over ending.Cut = false
 
--- The report on the steps from an index on, given the state of the build (`standing`) before them. The steps are taken
--- in sequence, and after the first refusal the build is cleared.
+-- The exchanges and lines are a worker's report on the steps from an index on, given the build's state before these
+-- steps. The steps are taken in sequence, and after the first refusal the build is cleared.
 pub data IsWorkerReport : ℕ → StandingView → List Step → List Exchange → List ReportLine → Bool → Type 0 where
   no_step_left : {place : ℕ} {standing : StandingView} → IsWorkerReport place standing [] [] [] true
   accepted : {place : ℕ} {standing : StandingView} {step : Step} {steps : List Step} {exchanges : List Exchange} {lines : List ReportLine} {ended : Bool}
@@ -110,7 +110,7 @@ pub data IsWorkerReport : ℕ → StandingView → List Step → List Exchange �
       → IsStepReported place standing step exchanges lines ending.Cut
       → IsWorkerReport place standing (step ∷ steps) exchanges lines false
 
--- A worker has done its work, or has stopped at a turn that the gate withholds. The teller was asked just these
+-- A worker's run has ended, or has stopped at a turn that the gate withholds. The teller was asked just these
 -- questions, the gate gave a turn for each, and the report has the answers.
 pub record IsWork (before after : List Exchange → Type 0) (passes stops : ℕ → Type 0) (steps : List Step) (lines : List ReportLine) (ended : Bool) : Type 0 where
   pub exchanges : List Exchange

@@ -1,5 +1,5 @@
--- The view of a session handle (`Seat`): its build, the number of the build's counted events, and the list of these
--- events.
+-- The view of a session handle (`Seat`): its build, the number of the build's events that are counted, and the list of
+-- these events.
 use Rattle.std.specs.Prelude.{ℕ, ◌+◌, List, [], ◌∷◌, ◌++◌}
 use Rattle.realm_model.specs.declared.act.Event.{Event}
 

@@ -7,16 +7,16 @@ use Rattle.host_commands.specs.declared.cmd.Cmd.TheVariants.{Enter, Exit}
 use Rattle.build_seats.specs.Exchange.{Exchange, Did, Undid, KeptMark, CheckedBack}
 
 pub record StandingView : Type 0 where
-  -- the number of questions so far, which is the next turn
+  -- the index of the next turn, which is the number of exchanges so far
   pub turn : ℕ
   -- the number of open operations
   pub journal : ℕ
-  -- the RECs that run, in rising number
+  -- the numbers of the running RECs, in ascending order
   pub running : List ℕ
-  -- the last mark
+  -- the last mark that was set, if any
   pub mark : Option Mark
 
--- the standing of a build before its first question
+-- the state of a build, as its worker knows it, before the worker's first question
 abbrev pub first_standing : StandingView
 first_standing = record { turn = 0; journal = 0; running = []; mark = None }
 
@@ -35,15 +35,15 @@ numbers_running_after (Enter number) running = with_number number running
 numbers_running_after (Exit number) running = without_number number running
 numbers_running_after _ running = running
 
--- The standing after an accepted command. A paired command adds an open operation; an entered REC runs until it
--- exits.
+-- The state of a build, as its worker knows it, after an accepted command. A command with a reverse adds an open
+-- operation; an entered REC runs until it exits.
 unfoldable pub standing_after_command : Cmd → StandingView → StandingView
 standing_after_command cmd standing = record standing {
   journal = if (needs_of cmd).paired then standing.journal + 1 else standing.journal;
   running = numbers_running_after cmd standing.running;
 }
 
--- the standing after an answer; a refusal changes nothing
+-- the state of a build, as its worker knows it, after an answer; a refusal changes nothing
 abbrev pub after_answer : Exchange → StandingView → StandingView
 after_answer (Did cmd (Ok reply)) standing = standing_after_command cmd standing
 after_answer (Did cmd (Err refusal)) standing = standing
@@ -56,11 +56,12 @@ after_answer (CheckedBack mark result) standing = standing
 abbrev pub after_exchange : Exchange → StandingView → StandingView
 after_exchange exchange standing = after_answer exchange (record standing { turn = standing.turn + 1 })
 
--- the standing after a list of exchanges, taken in sequence
+-- the state of a build, as its worker knows it, after a list of exchanges, taken in sequence
 abbrev pub standing_after : List Exchange → StandingView → StandingView
 standing_after [] standing = standing
 standing_after (exchange ∷ more) standing = standing_after more (after_exchange exchange standing)
 
--- the number of questions that clear the build: one for each running REC and each open operation
+-- the number of exits and undos that a worker would ask for after a refusal: one for each running REC and each open
+-- operation
 abbrev pub left_to_clear : StandingView → ℕ
 left_to_clear standing = length standing.running + standing.journal

@@ -3,7 +3,7 @@ use Rattle.std.specs.Prelude.{◌≡◌}
 use Rattle.host_ledger.specs.Booted.{booted}
 use Rattle.host_ledger.specs.View.{HostView}
 
--- The host has the limits that it had at the start, and the same room for each build in the history.
+-- The host has the limits and the history capacity of the host `opened`.
 pub record IsOfStart (opened host : HostView) : Type 0 where
   pub limits : host.limits ≡ opened.limits
   pub capacity : host.capacity ≡ opened.capacity

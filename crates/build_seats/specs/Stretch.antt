@@ -1,4 +1,4 @@
--- A part of a worker's run: the exchanges for some of the worker's questions, and their report lines.
+-- Stretches of a worker's run, each with the exchanges and the report lines of successive questions.
 use Rattle.std.specs.Prelude.{◌≡◌, ℕ, ◌<◌, ◌≤◌, List, [], ◌∷◌, ◌++◌, Some}
 use Rattle.build_seats.specs.Asked.{told, question_of}
 use Rattle.build_seats.specs.Exchange.{Exchange}

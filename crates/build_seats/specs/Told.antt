@@ -1,4 +1,4 @@
--- The facts about the host under a lock that follow from the answer to one call. They do not say in which state the
+-- The facts that the answer to one call proves about the host under a lock. The facts do not say in which state the
 -- host was. But the host has the limits and the history capacity of the start, and as many events of the seat's build
 -- as the seat counts.
 use Rattle.std.specs.Prelude.{◌≡◌, ℕ, ◌-◌, [], ◌∷◌, ◌++◌, length, Result}
@@ -18,15 +18,15 @@ use Rattle.realm_model.specs.History.{events_of}
 use Rattle.build_seats.specs.Seats.{SeatView, with_noted}
 use Rattle.build_seats.specs.Start.{IsOfStart}
 
--- The host is one that the lock can hold if the host `opened` was first put under it. The host has as many events of
--- the seat's build as the seat counts.
+-- The host is sound with no build in abort, and has the limits and the history capacity of the host `opened`. The host
+-- has as many events of the seat's build as the seat counts.
 pub record IsBehind (opened host : HostView) (seat : SeatView) : Type 0 where
   pub shared : IsShared host
   pub of_start : IsOfStart opened host
   pub counted : length (events_of seat.build host.history) ≡ seat.count
 
--- An accepted call: the host, in some state under the lock, gave the answer, and its history and the seat's event list
--- got the same event.
+-- The host, in some state under the lock, accepted the call with this answer. The host's history and the seat's event
+-- list got the same event.
 pub record IsCallTold (opened : HostView) (call : Call) (answer : HostAnswer) (seat new_seat : SeatView) : Type 0 where
   pub host : HostView
   pub new : HostView
@@ -37,13 +37,13 @@ pub record IsCallTold (opened : HostView) (call : Call) (answer : HostAnswer) (s
   pub after : IsBehind opened new new_seat
   pub noted : new_seat ≡ with_noted seat event
 
--- A refused call: the host, in some state under the lock, gave the refusal, and did not change.
+-- The host, in some state under the lock, gave this refusal of the call, and did not change.
 pub record IsCallRefused (opened : HostView) (call : Call) (refusal : Refusal) (seat : SeatView) : Type 0 where
   pub host : HostView
   pub behind : IsBehind opened host seat
   pub answered : IsAnswer host seat.build call (Refused refusal) host
 
--- The host, in some state under the lock, gave this answer to a request for a mark: a mark or a refusal.
+-- The host, in some state under the lock, answered a request for a mark with this mark or this refusal.
 pub record IsMarkTold (opened : HostView) (seat : SeatView) (result : Result Mark Refusal) : Type 0 where
   pub host : HostView
   pub new : HostView

@@ -1,5 +1,4 @@
--- The view of the only share of a build's ghost ledger: the build, how many of the ledger's parts the share has, and the
--- amount that it counts.
+-- The build, the number of parts and the amount of a `Whole`, which is the only share of a build's ghost ledger.
 use Rattle.std.specs.Prelude.{ℕ}
 use Rattle.build_seats.specs.declared.ledgers.Whole.{Whole}
 use Rattle.build_seats.specs.declared.ledgers.Whole.TheVariants.{Build0, Build1, Build2, Build3, Build4, Build5, Build6, Build7}
@@ -14,7 +13,7 @@ build_of (Build5 share) = 5
 build_of (Build6 share) = 6
 build_of (Build7 share) = 7
 
--- how many parts of its ledger a share has, and the amount that it counts
+-- the number of parts and the amount of a `Whole`
 abbrev pub share_of : {L : Type 0} → Whole L → ℕ × ℕ
 share_of (Build0 share) = (share.parts, share.amount)
 share_of (Build1 share) = (share.parts, share.amount)

@@ -12,8 +12,8 @@ use crate::standing::Standing;
 use crate::teller::{Gate, Teller};
 use host_commands::{Cmd, Refusal};
 
-/// A question that a build's worker asks the host: a command, an undo or a mark. The answer becomes a line of the
-/// worker's report.
+/// A command, an undo or a mark that a build's worker asks the host for. The answer becomes a line of the worker's
+/// report.
 #[derive(Drop)]
 pub enum Question {
     Do(Cmd),
@@ -21,7 +21,8 @@ pub enum Question {
     Mark,
 }
 
-/// The outcome of a list of a worker's requests to the host: all accepted, one refused, or cut short.
+/// The outcome of a worker's list of requests to the host: all are accepted, one is refused, or the gate withholds a
+/// turn.
 #[derive(Clone, Copy)]
 pub enum Ending {
     /// The outcome when each request is accepted.

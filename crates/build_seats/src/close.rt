@@ -1,5 +1,5 @@
-//! The checks before a shared host is closed. Each build has to have one session handle (`Seat`), whose trail has to be
-//! the build's part of the history.
+//! The checks that precede the closing of a shared host. Each build has to have one session handle (`Seat`), whose
+//! trail has to be the build's part of the history.
 ghost use Rattle.std.specs.Prelude.{◌≡◌, ◌+◌, ◌<◌, ◌≤◌, ◌↔◌, [], filter, slice_index, true, IsTrue, IfSome, IfNone};
 ghost use Rattle.std.specs.List.{All};
 ghost use Rattle.build_seats.specs.Close.{seats_of, Fits, IsMissing, AreSeatsWhole, Differs, FitsAll};
@@ -79,7 +79,7 @@ fn mismatch<L: Ledgers>(seats: &[Seat<L>], history: &[Event]) -> Option<BuildId>
     None
 }
 
-/// Finds the reason, if any, why a host is not to be closed with the session handles `seats`.
+/// Finds the reason, if any, why a host must not be closed with the session handles `seats`.
 pub fn fault<S: PageStore, L: Ledgers>(host: &Host<S>, seats: &[Seat<L>]) -> Option<CloseFault>
     ensures some { IfSome result (λ fault. IsFault fault host.now seats.now) }
     ensures whole { IfNone result (AreSeatsWhole host.now.limits.builds seats.now) }

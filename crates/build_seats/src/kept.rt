@@ -27,7 +27,7 @@ use realm_model::Event;
 use std::alloc::{AllocError, Global};
 use std::marker::Model;
 
-/// A shared host, with the number of events of each build in the history. No build is in abort.
+/// A shared host, and the number of events that each build has in the history. No build is in abort.
 pub struct Kept<S: PageStore, L: Ledgers> {
     host: Host<S>,
     books: Books<L>,
@@ -107,9 +107,9 @@ impl<S: PageStore, L: Ledgers> Kept<S, L> {
         Ok(reply)
     }
 
-    /// Undoes the newest open (not yet undone) operation of the build whose session handle is `seat`. The answer is the
-    /// host's. An accepted undo appends one event of the build to the history and to the trail. A refusal leaves both
-    /// as they are. No memory is taken.
+    /// Undoes the newest open operation of the build whose session handle is `seat`. The answer is the host's. An
+    /// accepted undo appends one event of the build to the history and to the trail. A refusal leaves both as they are.
+    /// No memory is taken.
     pub fn undo(&mut self, seat: &mut Seat<L>) -> Result<Undone, Refusal>
         ensures answer { IsAnswer self.old.host seat.old.build Undo (undone result) self.new.host }
         ensures noted { IfOk result (λ _. IsNoted self.old seat.old self.new seat.new) }
@@ -123,8 +123,7 @@ impl<S: PageStore, L: Ledgers> Kept<S, L> {
         Ok(undone)
     }
 
-    /// Sets a rollback mark for the build whose session handle is `seat`. Returns the host's answer. A mark is not an
-    /// event.
+    /// Sets a mark for the build whose session handle is `seat`. Returns the host's answer. A mark is not an event.
     pub fn mark(&mut self, seat: &mut Seat<L>) -> Result<Mark, Refusal>
         ensures answer { IsMarked self.old.host seat.old.build result self.new.host }
         ensures books { self.new.books ≡ self.old.books }

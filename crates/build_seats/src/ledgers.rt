@@ -151,7 +151,7 @@ impl<L: Ledgers> Drop for Whole<L> {
     }
 }
 
-/// The only share of a build's ghost ledger, which counts the build's events. The view is the build and the count.
+/// The only share of the ghost ledger that counts a build's events. The view is the build and the count.
 #[derive(Drop)]
 pub struct Pass<L: Ledgers> {
     whole: Whole<L>,

@@ -20,21 +20,21 @@ pub enum Answer {
     Replied(Reply),
     /// An accepted undo, with the operation's kind and the number of operations left to undo.
     Undone(Undone),
-    /// The number of open (not yet undone) operations when a rollback mark was set.
+    /// The number of operations that were open when a mark was set.
     Marked(u16),
     /// The answer to a step that has nothing to undo. The step is an abort or a `back`.
     Nothing,
     Refused(Refusal),
 }
 
-/// One line of a worker's report: a question and the answer to it.
+/// One line of a worker's report, with a question and the answer to it.
 #[derive(Clone, Copy, PartialEq, Eq)]
 pub struct ReportLine {
     pub asked: Asked,
     pub answer: Answer,
 }
 
-/// The answers that the worker of a build received, line by line.
+/// The report of a build's worker, with a line for each answer to a step, exit or undo.
 #[derive(Drop)]
 pub struct Report {
     pub build: BuildId,

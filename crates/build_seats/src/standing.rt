@@ -115,22 +115,22 @@ impl Standing {
         }
     }
 
-    /// Returns how many operations of the worker's build are open (not undone yet).
+    /// Returns the number of open operations of the worker's build.
     pub fn journal(&self) -> usize
         ensures { result ≡ self.now.journal }
     {
         self.journal
     }
 
-    /// Records an accepted undo: one operation fewer is open (not undone yet). The number of open operations stays 0 if
-    /// it is 0.
+    /// Records an accepted undo, after which one operation fewer is open. The number of open operations stays 0 if it
+    /// is 0.
     pub(crate) fn count_undo(&mut self)
         ensures { self.new ≡ record self.old { journal = self.old.journal - 1 } }
     {
         self.journal = self.journal.saturating_sub(1);
     }
 
-    /// Returns the last mark (rollback point) that the worker set for its build, if any.
+    /// Returns the last mark that the worker set for its build, if any.
     pub fn mark(&self) -> Option<Mark>
         ensures { result ≡ self.now.mark }
     {

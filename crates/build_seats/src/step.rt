@@ -151,8 +151,8 @@ fn go_back<T: Teller, G: Gate>(
     }
 }
 
-/// Performs one step of a build's part of a plan. The answers are added to the report. The step's index in the build's
-/// list is `place`.
+/// Performs one step of a build for the build's worker. The answers are added to the report. The step's index in the
+/// build's list is `place`.
 pub(crate) fn take_step<T: Teller, G: Gate>(
     report: &mut Report,
     standing: &mut Standing,

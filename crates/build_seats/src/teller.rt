@@ -8,15 +8,14 @@ use granule_addr::BuildId;
 use host_commands::{Cmd, Refusal, Reply, Undone};
 use host_ledger::Mark;
 
-/// A client of a host, which passes on the requests of one build's worker. A teller asks the host the worker's
-/// questions, and returns the answers. A session handle (`Seat`) with its shared host is a teller.
+/// A host client that passes on the requests of one build's worker. A teller asks the host the worker's questions, and
+/// returns the answers. A session handle (`Seat`) with its shared host is a teller.
 pub trait Teller {
-    /// Whether a list has all exchanges of the teller so far, in sequence. An exchange is a question to the teller,
-    /// with its answer.
+    /// The condition that a list has all exchanges of the teller so far, in sequence. An exchange is a question to the
+    /// teller, with its answer.
     ghost tells: { Self → List Exchange → Type 0 };
 
-    /// A number that identifies the mutable borrow through which this host client writes. A teller need not have such a
-    /// borrow.
+    /// A number that identifies a teller's mutable borrow of its session handle. A teller need not have such a borrow.
     ghost loan: { Self → ℕ };
 
     /// Asks the host to perform a command. The command is borrowed from the worker.
@@ -24,7 +23,7 @@ pub trait Teller {
         ensures told { (earlier : List Exchange) → tells self.old earlier → tells self.new (earlier ++ Did cmd.now result ∷ []) }
         ensures loan { loan self.new ≡ loan self.old };
 
-    /// Asks the host to undo the build's newest reversible operation that is not undone yet.
+    /// Asks the host to undo the build's newest open operation.
     fn undo(&mut self) -> Result<Undone, Refusal>
         ensures told { (earlier : List Exchange) → tells self.old earlier → tells self.new (earlier ++ Undid result ∷ []) }
         ensures loan { loan self.new ≡ loan self.old };
@@ -42,11 +41,11 @@ pub trait Teller {
 
 /// The scheduler that gives the workers of builds their turns.
 pub trait Gate {
-    /// Whether the scheduler (gate) gives a build's worker the turn with a given number. The arguments are the build
-    /// and the number of the turn.
+    /// The condition that the gate gives a build's worker the turn with a given number. The arguments are the build and
+    /// the number of the turn.
     ghost passes: { Self → ℕ → ℕ → Type 0 };
 
-    /// Whether the scheduler (gate) withholds the turn with a given number from a build's worker. The arguments are the
+    /// The condition that the gate withholds the turn with a given number from a build's worker. The arguments are the
     /// build and the number of the turn.
     ghost stops: { Self → ℕ → ℕ → Type 0 };
 

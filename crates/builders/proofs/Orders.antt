@@ -1,5 +1,5 @@
--- Proofs that two legal histories with the event lists of the same session handles (`Seat`) have the same events for
--- each build, and lead to the same world.
+-- Proofs that two legal histories lead to the same world if both have, for each build, exactly the event list of the
+-- build's seat. Each build has exactly one seat.
 use Rattle.std.proofs.Common.{◌≡◌, ℕ, ◌<◌, ◌≤◌, Bool, true, false, cond, List, [], ◌∷◌, length, Result, Ok, Err, refl, sym, ◌∙◌, subst, arith}
 use Rattle.std.specs.Prelude.{◌==◌, nat_lt, filter, IfOk, MatchResult}
 use Rattle.std.specs.List.{All}
@@ -55,7 +55,8 @@ pub world_of_seats : (host : HostView) (seats : List SeatView) → IsLegal host.
 world_of_seats host seats legal closed history too trails =
     sym (schedule_does_not_matter host.limits host.history history legal too (same_by_seats host.limits host.history history legal too seats closed.whole closed.trails trails)) ∙ world_is host legal
 
--- two hosts that began alike and are closed with the same seats have the same events of each build
+-- if builds that start with the host `opened` end with `host` or with `twin`, and with the same seats, each build has
+-- the same events in both hosts' histories
 pub did_the_same : (opened host twin : HostView) (seats : List SeatView) → IsHostGivenBack opened host seats → IsClosed host seats → IsHostGivenBack opened twin seats
     → IsClosed twin seats → DidTheSame host twin
 did_the_same opened host twin seats given closed again too =

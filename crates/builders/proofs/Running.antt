@@ -1,11 +1,12 @@
--- A proof that a run of all workers meets its specification if the run of each worker meets its own.
+-- A proof that `AreRun` holds for two equally long lists of workers if `IsWorkerRun` holds for the two workers at each
+-- index.
 use Rattle.std.proofs.Common.{◌≡◌, ℕ, suc, ◌<◌, List, [], ◌∷◌, length, get_or, subst, arith}
 use Rattle.std.specs.List.{AllZip}
 use Rattle.host_ledger.specs.View.{HostView}
 use Rattle.builders.specs.Runs.{AreRun}
 use Rattle.builders.specs.Workers.{WorkerView, IsWorkerRun}
 
--- R holds of the elements at the same index of two lists
+-- R holds of the elements that the lists `xs` and `ys` have at index `k`; past the end of a list, `d` is the element
 abbrev pub HoldsOf : {X : Type 0} → (X → X → Type 0) → List X → List X → ℕ → X → Type 0
 HoldsOf {X} R xs ys k d = (x : X) × (y : X) × (x ≡ get_or xs k d) × (y ≡ get_or ys k d) × R x y
 

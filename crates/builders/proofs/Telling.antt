@@ -1,5 +1,5 @@
--- Proofs that the event list of a session handle (`Seat`) has one event for each accepted command or undo of its
--- worker. Then proofs that answered exchanges, with one more answered exchange at the end, are answered in sequence.
+-- Proofs that the event list of a worker's seat has one event for each accepted command or undo of the worker. Then
+-- proofs that answered exchanges, with one more answered exchange at the end, are answered in sequence.
 use Rattle.std.proofs.Common.{◌≡◌, ℕ, List, [], ◌∷◌, ◌++◌, refl, sym, ap, subst, ◌∙◌}
 use Rattle.std.proofs.lemmas.List.{append-nil, append_assoc}
 use Rattle.std.proofs.lemmas.List.Elements.{filter-append}
@@ -53,7 +53,7 @@ abbrev event_or : Event → Option Event → Event
 event_or other None = other
 event_or other (Some event) = event
 
--- if a history grew by a single event, that event is unique
+-- two events are equal if adding either of them to the end of a history gives the same list
 same_end : (history grown : List Event) (event other : Event) → grown ≡ history ++ event ∷ [] → grown ≡ history ++ other ∷ [] → event ≡ other
 same_end history grown event other one two =
     ap (event_or other) (sym (last_push None history event) ∙ ap (last_or None) (sym one ∙ two) ∙ last_push None history other)
@@ -127,7 +127,8 @@ answers_tell opened (exchange ∷ exchanges) earlier old new (between, is, are) 
     subst (λ es. IsTrailOf new.build es new.trail) (append_assoc earlier (exchange ∷ []) exchanges)
     (answers_tell opened exchanges (earlier ++ exchange ∷ []) between new are (answered_tells opened old between exchange is earlier so))
 
--- the trail of a seat that was new has one event for each accepted command or undo among the answered exchanges
+-- if a new seat's requests are answered in sequence, the seat at the end has one event for each accepted command or
+-- undo among these requests
 pub trail_of_answers : (opened : HostView) (build : ℕ) (exchanges : List Exchange) (new : SeatView) → AreAnswered opened (new_seat build) exchanges new → IsTrailOf new.build exchanges new.trail
 unfolding IsTrailOf
 trail_of_answers opened build exchanges new are = answers_tell opened exchanges [] (new_seat build) new are tt
@@ -139,7 +140,8 @@ answered_more : (opened : HostView) (old : SeatView) (exchanges : List Exchange)
 answered_more opened old [] between exchange new are is = (new, subst (λ (s : SeatView). IsAnswered opened s exchange new) are is, refl)
 answered_more opened old (first ∷ exchanges) between exchange new (next, its, are) is = (next, its, answered_more opened next exchanges between exchange new are is)
 
--- a further answered exchange extends the answered exchanges of a seat that was new at first
+-- if a new seat's requests are answered in sequence, and a further request of the same build is answered next, all
+-- these requests are answered in sequence
 pub answer_more : (opened : HostView) (old new : SeatView) (exchange : Exchange) → new.build ≡ old.build → IsAnswered opened old exchange new
     → (earlier : List Exchange) → AreAnswered opened (new_seat old.build) earlier old → AreAnswered opened (new_seat new.build) (earlier ++ exchange ∷ []) new
 answer_more opened old new exchange same is earlier are =
@@ -150,7 +152,7 @@ asked : (opened : HostView) (old new : SeatView) (cmd : Cmd) (result : Result Re
 asked opened old new cmd (Ok reply) ok err = ok
 asked opened old new cmd (Err refusal) ok err = err
 
--- an answer to a command that equals the worker's own is an answer to the worker's command
+-- if two commands are equal, the answer to one is an answer to the other
 pub asked_again : (opened : HostView) (old new : SeatView) (cmd again : Cmd) (result : Result Reply Refusal) → again ≡ cmd → IfOk result (λ reply. IsCallTold opened (Ask again) (Replied reply) old new)
     → IfErr result (λ refusal. IsCallRefused opened (Ask again) refusal old × (new ≡ old)) → IsAnswered opened old (Did cmd result) new
 asked_again opened old new cmd again result same ok err = subst (λ c. IsAnswered opened old (Did c result) new) same (asked opened old new again result ok err)

@@ -1,5 +1,5 @@
--- A proof that the minimum of the builds whose workers have not ended is the lowest of them, or none if all workers
--- have ended.
+-- A proof that `reduce min`, over the numbers of the builds whose workers have not ended, gives the lowest number, or
+-- None if all workers have ended.
 use Rattle.std.proofs.Common.{◌≡◌, ℕ, zero, suc, ◌≤◌, min, Bool, true, false, not, cond, List, [], ◌∷◌, map, fold, filter, MatchOption, ◌⊎◌, inl, inr, refl, sym, subst, ◌∙◌, arith}
 use Rattle.std.proofs.lemmas.Bool.Decides.{leb_tells}
 use Rattle.std.proofs.lemmas.Iterator.Adapters.{option_map_id}
@@ -17,7 +17,7 @@ HasEnded worker = worker.ended ≡ true
 abbrev WaitsAt : ℕ → WorkerView → Type 0
 WaitsAt build worker = (worker.ended ≡ false) × (worker.seat.build ≡ build)
 
--- if the worker has not ended, its build is at least `least`
+-- if the worker has not ended, the number of its build is at least `least`
 abbrev IsAbove : ℕ → WorkerView → Type 0
 IsAbove least worker = worker.ended ≡ false → least ≤ worker.seat.build
 
@@ -83,6 +83,7 @@ told : (workers : List WorkerView) → IsTold workers (reduce min (waiting worke
 told [] = λ k d lt. absurd (omega arith)
 told (x ∷ xs) = told_cons x xs (told xs) x.ended refl
 
--- the minimum of the builds whose workers have not ended is the lowest such build, or None if all workers have ended
+-- `reduce min` over the builds whose workers have not ended finds the lowest such build, or None if all workers have
+-- ended
 pub least_is_told : (workers : List WorkerView) (found : Option ℕ) → option_map (λ build. build) found ≡ reduce min (waiting workers) → IsTold workers found
 least_is_told workers found is = subst (IsTold workers) (sym is ∙ option_map_id found) (told workers)

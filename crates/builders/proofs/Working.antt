@@ -1,4 +1,5 @@
--- Proofs that a worker's run meets its contract, and that a worker with an empty report has no events.
+-- Proofs that a worker's run meets its contract, and that a worker's seat has no events if the worker's report is
+-- empty.
 use Rattle.std.proofs.Common.{◌≡◌, ℕ, Bool, false, List, [], ◌∷◌, length, inl, inr, refl, sym, ◌∙◌, ap, subst}
 use Rattle.std.specs.Prelude.{filter}
 use Rattle.std.specs.List.{AllZip}
@@ -17,7 +18,7 @@ use Rattle.build_seats.specs.Seats.{SeatView, new_seat}
 use Rattle.builders.specs.Trails.{IsEventOf, IsTrailOf}
 use Rattle.builders.specs.Workers.{WorkerView, IsFaithful, IsWorkerRun}
 
--- a seat with no event is new
+-- a seat without events is new if its count is the length of its event list
 is_fresh : (seat : SeatView) → seat.count ≡ length seat.trail → seat.trail ≡ [] → seat ≡ new_seat seat.build
 is_fresh seat counted empty =
     ap (λ (n : ℕ). record { build = seat.build; count = n; trail = seat.trail }) (counted ∙ ap length empty)
@@ -43,7 +44,8 @@ is_run opened old new passes stops steps lines answered ended is counts empty co
       stopped = λ not_ended. work.stopped (sym is ∙ not_ended);
     }
 
--- a run of a worker that has no lines yet is also a run of any worker with the same seat and steps
+-- if a worker that has not ended, with an empty report, becomes `new` by a run, so does the worker `old`, which has the
+-- same seat and steps
 pub of_worker : (opened : HostView) (passes stops : ℕ → Type 0) (old new : WorkerView)
     → IsWorkerRun opened passes stops (record { seat = old.seat; steps = old.steps; lines = []; ended = false }) new → IsWorkerRun opened passes stops old new
 of_worker opened passes stops old new run = record { steps_are = run.steps_are; build_is = run.build_is; worked = run.worked; passed = run.passed; stopped = run.stopped }
@@ -53,7 +55,7 @@ none_left R [] [] e h = refl
 none_left R [] (y ∷ ys) e h = absurd h
 none_left R (x ∷ xs) ys e h = cc
 
--- without a line there is no event
+-- if a worker's invariant holds, and the worker's report is empty, then its seat has no events
 pub no_event : (opened : HostView) (worker : WorkerView) → IsFaithful opened worker → worker.lines ≡ [] → worker.seat.trail ≡ []
 unfolding IsTrailOf
 no_event opened worker (inl fresh) none = fresh.no_event

@@ -1,5 +1,4 @@
--- The condition that the answers to a build's questions, in sequence, are ones that a host shared under a lock can
--- give.
+-- The condition that a worker's requests, one after another, have answers that a host under a lock can give.
 use Rattle.std.specs.Prelude.{◌≡◌, List, [], ◌∷◌, Ok, Err}
 use Rattle.host_ledger.specs.View.{HostView}
 use Rattle.realm_host.specs.Call.{Ask, Undo}
@@ -8,8 +7,9 @@ use Rattle.build_seats.specs.Exchange.{Exchange, Did, Undid, KeptMark, CheckedBa
 use Rattle.build_seats.specs.Seats.{SeatView}
 use Rattle.build_seats.specs.Told.{IsCallTold, IsCallRefused, IsMarkTold, IsBackTold}
 
--- The exchange has an answer that a host under the lock can give, if the builds were started with the host `opened`. An
--- accepted command or undo makes a new seat; any other question leaves the seat as it is.
+-- A worker's request, given together with an answer as an `Exchange`, can get this answer from a host under the lock.
+-- The builds were started with the host `opened`. An accepted command or undo makes a new seat; any other request
+-- leaves the seat as it is.
 abbrev pub IsAnswered : HostView → SeatView → Exchange → SeatView → Type 0
 IsAnswered opened seat (Did cmd (Ok reply)) new = IsCallTold opened (Ask cmd) (Replied reply) seat new
 IsAnswered opened seat (Did cmd (Err refusal)) new = IsCallRefused opened (Ask cmd) refusal seat × (new ≡ seat)
@@ -18,7 +18,7 @@ IsAnswered opened seat (Undid (Err refusal)) new = IsCallRefused opened Undo ref
 IsAnswered opened seat (KeptMark result) new = IsMarkTold opened seat result × (new ≡ seat)
 IsAnswered opened seat (CheckedBack mark result) new = IsBackTold opened seat mark result × (new ≡ seat)
 
--- the exchanges are answered in sequence, each on the seat that the previous exchange left
+-- a worker's requests can get their answers in sequence, each request at the seat that the request before it left
 abbrev pub AreAnswered : HostView → SeatView → List Exchange → SeatView → Type 0
 AreAnswered opened seat [] new = new ≡ seat
 AreAnswered opened seat (exchange ∷ exchanges) new =

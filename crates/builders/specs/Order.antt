@@ -6,8 +6,8 @@ use Rattle.realm_model.specs.declared.act.Event.{Event}
 use Rattle.realm_model.specs.History.{events_of, replay, IsLegal}
 use Rattle.build_seats.specs.Seats.{SeatView}
 
--- Each legal history in which each seat's build has the seat's events, in sequence, leads to the host's world. The
--- schedule of the builds' events may be any.
+-- Each legal history leads to the host's world if the event list of each seat is that of the seat's build in the
+-- history. The schedule of the builds' events may be any.
 abbrev pub IsWorldOfSeats : HostView → List SeatView → Type 0
 IsWorldOfSeats host seats =
     (history : List Event) → IsLegal host.limits history → All (λ seat. seat.trail ≡ events_of seat.build history) seats

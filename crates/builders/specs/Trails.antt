@@ -1,5 +1,4 @@
--- The condition that the event list of a session handle (`Seat`) has one event for each accepted command or undo of its
--- worker, in sequence.
+-- The condition that a seat's event list has one event for each accepted command or undo of its worker, in sequence.
 use Rattle.std.specs.Prelude.{◌≡◌, ℕ, List, filter, Some, Ok}
 use Rattle.std.specs.List.{AllZip}
 use Rattle.host_commands.specs.Acts.{act_of}
@@ -15,8 +14,7 @@ use Rattle.realm_model.specs.declared.act.Act.TheVariants as acts
 use Rattle.realm_model.specs.declared.act.Event.{Event}
 use Rattle.build_seats.specs.Exchange.{Exchange, Did, Undid, is_event}
 
--- The operation is one that the command can ask for: it has the command's own numbers, but any granules for its pages
--- and any allocated values.
+-- The command asks for this operation, given some granules for the command's pages and some allocated values.
 abbrev pub IsActFor : Cmd → Act → Type 0
 IsActFor (Take order) act = (first : ℕ) × (act ≡ acts.Take order first)
 IsActFor cmd act = (granules : List ℕ) × (allocated : Allocated) × (act_of cmd granules allocated ≡ Some act)
@@ -25,15 +23,15 @@ IsActFor cmd act = (granules : List ℕ) × (allocated : Allocated) × (act_of c
 abbrev pub IsReverseOf : Kind → Act → Type 0
 IsReverseOf kind act = (opened : Act) × (act_kind opened ≡ Some kind) × (reverse_of opened ≡ Some act)
 
--- The event records an accepted command or undo of the build: an operation of the command with this reply, or the
--- reverse of an operation of the reply's kind.
+-- The event can be the record of this exchange, which is an accepted command or undo of the build. An accepted command
+-- can ask for the event's operation, and the command's reply fits that operation. An accepted undo performs the reverse
+-- of an operation of the undone kind.
 abbrev pub IsEventOf : ℕ → Exchange → Event → Type 0
 IsEventOf build (Did cmd (Ok reply)) event =
     (event.build ≡ build) × IsActFor cmd event.act × ((pages : ℕ) × (reply ≡ reply_of pages event.act))
 IsEventOf build (Undid (Ok undone)) event = (event.build ≡ build) × IsReverseOf undone.kind event.act
 IsEventOf build _ event = ⊥
 
--- The trail, a list of events, has one event of the build for each accepted command or undo among the exchanges, in
--- sequence.
+-- A list of events has one event of the build for each accepted command or undo among the exchanges, in sequence.
 unfoldable pub IsTrailOf : ℕ → List Exchange → List Event → Type 0
 IsTrailOf build exchanges trail = AllZip (IsEventOf build) (filter is_event exchanges) trail

@@ -1,5 +1,5 @@
--- A worker as contracts see it: its view, its invariant, and the effect of its run. The view has the session handle
--- (`Seat`), the steps, the report, and whether the worker has ended.
+-- Definitions of what contracts see of a worker, of a worker's invariant, and of the effect of a worker's run.
+-- Contracts see the session handle (`Seat`), the steps, the report, and whether the worker has ended.
 use Rattle.std.specs.Prelude.{◌≡◌, ℕ, ◌<◌, ◌⊎◌, Bool, false, List, [], length}
 use Rattle.host_ledger.specs.View.{HostView}
 use Rattle.host_commands.specs.declared.cmd.Step.{Step}
@@ -17,15 +17,15 @@ pub record WorkerView : Type 0 where
   pub lines : List ReportLine
   pub ended : Bool
 
--- the worker has asked nothing yet
+-- the worker is new: its report is empty, its seat has no events, and it has not ended
 pub record IsNew (worker : WorkerView) : Type 0 where
   pub no_line : worker.lines ≡ []
   pub no_event : worker.seat.trail ≡ []
   pub not_ended : worker.ended ≡ false
 
--- The worker has worked on its steps: its report lines say what it asked the host and what the host answered. Since
--- the seat was new, the questions were answered by hosts that the lock of builds started with `opened` can hold. The
--- accepted commands and undos are the trail's events, which the seat counts.
+-- The worker has worked on its steps, and the report is that of its requests and the host's answers. Since the seat was
+-- new, the requests were answered by hosts that the lock of builds started with `opened` can hold. The accepted
+-- commands and undos are the trail's events, which the seat counts.
 pub record HasWorked (opened : HostView) (worker : WorkerView) : Type 0 where
   pub exchanges : List Exchange
   pub is_report : IsWorkerReport 0 first_standing worker.steps exchanges worker.lines worker.ended
@@ -33,7 +33,7 @@ pub record HasWorked (opened : HostView) (worker : WorkerView) : Type 0 where
   pub is_trail : IsTrailOf worker.seat.build exchanges worker.seat.trail
   pub counted : worker.seat.count ≡ length worker.seat.trail
 
--- the invariant of a worker: it is new, or it has worked on its steps
+-- the worker's invariant holds: the worker is new, or has worked on its steps
 abbrev pub IsFaithful : HostView → WorkerView → Type 0
 IsFaithful opened worker = IsNew worker ⊎ HasWorked opened worker
 

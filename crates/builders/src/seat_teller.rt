@@ -1,4 +1,4 @@
-//! A client (`Teller`) that calls a shared host for the worker of one build.
+//! A client (`Teller`) through which the worker of one build calls a shared host.
 ghost use Rattle.std.specs.Prelude.{◌+◌, ◌*◌};
 ghost use Rattle.builders.specs.Answered.{AreAnswered};
 ghost use Rattle.build_seats.specs.Seats.{new_seat};

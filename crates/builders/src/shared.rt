@@ -70,7 +70,7 @@ impl<S: PageStore, L: Ledgers> Shared<S, L> {
         self.kept.lock(rt).mark(seat)
     }
 
-    /// Returns the number of undos needed to roll the build whose session handle is `seat` back to a mark. The error is
+    /// Returns the number of undos that lead back to a mark of the build whose session handle is `seat`. The error is
     /// the host's refusal. The handle is borrowed as for `mark`.
     pub fn check_back(&self, rt: &impl Wait, seat: &mut Seat<L>, mark: Mark) -> Result<u16, Refusal>
         ensures told { IsBackTold L.opened seat.old mark result }
@@ -79,11 +79,13 @@ impl<S: PageStore, L: Ledgers> Shared<S, L> {
         self.kept.lock(rt).check_back(seat, mark)
     }
 
-    /// Ends the sharing: takes back each build's session handle (`Seat`) and returns the host. Each build has to have
-    /// one handle, with the events that the history has of the build. At `Err` the host is returned too. Either way the
-    /// host has the limits and the capacity of the host that was handed to `start`. At `Ok` its world is a function of
-    /// the limits and the handles' lists alone. The schedule in which the builds took the lock is in the history, and
-    /// leaves nothing behind in the world.
+    /// Takes back each build's session handle (`Seat`), and returns the host, which is then no longer shared. Each
+    /// build has to have one handle, with the events that the history has of the build. At `Err` the host is returned
+    /// too.
+    ///
+    /// Either way the host has the limits and the capacity of the host that was handed to `start`. At `Ok` the world of
+    /// the host is a function of the limits and the handles' lists alone. The schedule in which the builds took the
+    /// lock is in the history, and affects the world only through these lists.
     pub fn close(self, seats: Vec<Seat<L>>) -> Result<Host<S>, (CloseFault, Host<S>)>
         ensures closed { IfOk result (λ host. IsClosed host seats.items) }
         ensures order { IfOk result (λ host. IsWorldOfSeats host seats.items) }

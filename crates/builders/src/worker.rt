@@ -79,8 +79,8 @@ impl<L: Ledgers> Worker<L> {
         self.seat.build()
     }
 
-    /// Returns whether the worker has run to its end, without being stopped by the scheduler (gate). The gate then gave
-    /// it every turn that it waited for.
+    /// Returns whether the worker has finished a run in which the gate stopped no turn. The gate then gave the worker
+    /// every turn that the worker waited for.
     pub fn has_ended(&self) -> bool
         ensures { result ≡ self.now.ended }
     {

@@ -1,5 +1,5 @@
--- Proofs about the next line of an input: that the bytes read are that line, that it is too long, or that no line is
--- left.
+-- Proofs about the three outcomes of reading a line: the bytes read are the next line, the next line is too long, or no
+-- line is left.
 use Rattle.std.proofs.Common.{◌≡◌, ℕ, ◌+◌, ◌<◌, ◌==◌, false, List, [], ◌∷◌, ◌++◌, length, take, drop, get_or, length-drop}
 use Rattle.std.proofs.Common.{length-take, drop-cons, add-one, Option, Some, None, IfSome, refl, sym, ap, ◌∙◌, arith, subst}
 use mathlib.Core.List.{append-nil}
@@ -52,14 +52,15 @@ pub at_end : (known : Option (List ℕ)) → IsAtEnd known → IsAtEnd (prepend_
 at_end None end = tt
 at_end (Some xs) end = end
 
--- if nothing is consumed between `b` and `c`, the bytes consumed up to `b` are those consumed up to `c`
+-- if reading consumes `front` between the inputs `a` and `b`, and nothing between `b` and `c`, it consumes `front`
+-- between `a` and `c`
 pub consumes_same : (a b c : Option (List ℕ)) (front : List ℕ) → Consumes a b front → Consumes b c [] → Consumes a c front
 consumes_same None b c front h k = tt
 consumes_same (Some xs) None c front h k = absurd h
 consumes_same (Some xs) (Some ys) None front h k = absurd k
 consumes_same (Some xs) (Some ys) (Some zs) front h k = h ∙ ap (λ t. front ++ t) k
 
--- a nonempty part of the buffer is the byte at its first index, followed by the part after that byte
+-- a nonempty part of the buffer is the byte at index `from`, followed by the rest of the part
 pub first_of_part : (buffer : List ℕ) (from to : ℕ) (part : List ℕ) → drop from (take to buffer) ≡ part → 0 < length part → part ≡ get_or buffer from 0 ∷ drop (from + 1) (take to buffer)
 first_of_part buffer from to part is some =
     let within : from < length (take to buffer) = omega (arith, length-drop from (take to buffer), ap length is) in

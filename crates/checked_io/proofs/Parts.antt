@@ -1,12 +1,11 @@
--- Proofs about the first line of a byte string: it goes up to the first line feed, or to the end of a string that has
--- none.
+-- Proofs that the first line of a byte string goes up to the first line feed, or else to the end of the string.
 use Rattle.std.proofs.Common.{◌≡◌, ℕ, ◌<◌, ◌==◌, not, true, false, List, [], ◌∷◌, ◌++◌, length, refl, ap, ◌∙◌, arith}
 use Rattle.std.specs.List.{onto_first, list_all}
 use Rattle.std.proofs.lemmas.Bool.{and_parts, not-true}
 use Rattle.std.proofs.lemmas.List.Splits.{length-slice_split}
 use Rattle.checked_io.specs.Lines.{parts_of, last_line, without_empty_last, lines_in, HasLongLine}
 
--- no line feed among the bytes
+-- the bytes have no line feed
 abbrev pub HasNoFeed : List ℕ → Type 0
 HasNoFeed bytes = list_all (λ b. not (b == 10)) bytes ≡ true
 
@@ -49,7 +48,7 @@ some_last (b ∷ line) some = refl
 pub lines_last : (line : List ℕ) → HasNoFeed line → 0 < length line → lines_in line ≡ line ∷ []
 lines_last line h some = ap without_empty_last (parts_last line h) ∙ some_last line some
 
--- the first part of `bytes` is longer than `line`
+-- the first part of `bytes`, which ends at the first line feed or at the end, is longer than `line`
 pub record GoesOn (line bytes : List ℕ) : Type 0 where
   pub whole : List ℕ
   pub more : List (List ℕ)

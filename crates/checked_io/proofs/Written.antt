@@ -1,11 +1,11 @@
 -- Proofs that consecutive writes append their bytes to an output in sequence, and that partial writes of a text append
--- a prefix of it.
+-- a prefix of the text.
 use Rattle.std.proofs.Common.{◌≡◌, ℕ, List, [], ◌++◌, take, drop, Option, Some, None, sym, ap, ◌∙◌}
 use mathlib.Core.List.{append_assoc, append-nil}
 use Rattle.std.proofs.lemmas.List.{take-append-drop}
 use Rattle.std.specs.Io.KnownBytes.{Appends, Keeps}
 
--- `rest` is the text without a prefix; if the bytes of the output are known, they have grown by that prefix
+-- the part of the text before `rest` has been appended to the output, if the bytes of the output are known
 pub record Wrote (old new : Option (List ℕ)) (text rest : List ℕ) : Type 0 where
   pub front : List ℕ
   pub split : text ≡ front ++ rest

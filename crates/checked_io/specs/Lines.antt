@@ -23,7 +23,7 @@ lines_in bytes = without_empty_last (parts_of bytes)
 
 -- ---- the next item, if it is known what the input has left
 
--- if the input is known, the line that was read was its next one, and the lines after it remain
+-- if the input is known, the line that was read is the first line of the input, and the other lines remain
 abbrev pub IsLine : Option (List ℕ) → List ℕ → Option (List ℕ) → Type 0
 IsLine None line new = Unit {0}
 IsLine (Some xs) line None = ⊥

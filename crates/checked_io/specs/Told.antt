@@ -3,9 +3,9 @@ use Rattle.std.specs.Prelude.{ℕ, Bool}
 
 pub record ToldView (D : Type 0) : Type 0 where
   pub device : D
-  -- whether a call of the device has failed
+  -- whether a call to the reader or writer has failed
   pub failed : Bool
-  -- whether a write or flush failed because nobody reads what is written
+  -- whether a write or flush failed because of a closed pipe
   pub is_closed : Bool
-  -- the number of times the device was asked to read, up to the greatest `u64`
+  -- the number of read calls, or the greatest `u64` if there were more
   pub reads : ℕ

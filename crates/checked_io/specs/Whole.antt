@@ -2,7 +2,7 @@
 use Rattle.std.specs.Prelude.{◌≡◌, ℕ, List, ◌++◌, Option}
 use Rattle.std.specs.Io.KnownBytes.{Appends}
 
--- if the bytes of an output are known, a prefix of the text has been appended to them
+-- if the bytes of an output are known, `new` is `old` followed by a prefix of `text`
 pub record AppendsFront (old new : Option (List ℕ)) (text : List ℕ) : Type 0 where
   pub front : List ℕ
   pub rest : List ℕ

@@ -14,7 +14,7 @@ pub realmhost_is : IsKnown realmhost (codes "replay" ∷ codes "run" ∷ [])
 unfolding realmhost
 realmhost_is = record { is_free = refl; required = refl; named = named_by realmhost _ refl }
 
--- words that have no fault, and do not ask for a replay, ask for a run
+-- if a command line without a fault does not ask for a replay, it asks for a run
 pub run_is_asked : (words : List Text) → fault_of realmhost words ≡ [] → ¬ (name_in (subcommand_of realmhost words) ≡ Some (codes "replay"))
     → IsHostSubcommand (subcommand_of realmhost words) Run
 run_is_asked words e other =

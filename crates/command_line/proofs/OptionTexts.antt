@@ -16,11 +16,12 @@ use Rattle.command_line.proofs.Passed.{accepted, text_passed}
 abbrev pub build_in : Option ℕ → Option ℕ
 build_in number = option_and_then (λ n. if nat_lt n 8 then Some n else None) number
 
--- a text that is parsed as a number below 8 is a text of `--erase` for the build with that number
+-- if a text is parsed as a number below 8, the text is a value of `--erase` that names the build with that number
 read_below : (text : Text) (n : ℕ) → n < 8 → ParsesUnsigned {E = Unit {0}} 8 10 text (Ok n) → IsErase (Some text) (build_in (Some n))
 read_below text n small read = rw (lt-ltb n 8 small) ((read.0.0, subst (λ k. k < 8) read.1 small), read.1)
 
--- if the rows have passed the parser of `--erase`, the option's text is a number from 0 to 7 without a first hyphen
+-- if the values of `--erase` have passed its parser, the option's text is what remains of a number from 0 to 7 once a
+-- leading hyphen is removed
 erase_in_range : (rows : List Row) (text : Text) → Each (IsPassed built_erase) rows → one_of (codes "erase") rows ≡ Some text
     → (t : Text) × (text ≡ without_minus t) × IsSignedIn (pos 0) (pos 7) t
 erase_in_range rows text passed is =

@@ -43,7 +43,7 @@ each_append : (P : Row → Type 0) (xs ys : List Row) → Each P xs → Each P y
 each_append P [] ys h k = k
 each_append P (r ∷ rs) ys h k = (h.0, each_append P rs ys h.1 k)
 
--- an action that gives its argument values
+-- whether the action is `Set`, `SetTrue`, `SetFalse` or `Append`, each of which stores its argument's values
 abbrev pub gives_values : ArgAction → Bool
 gives_values action.Set = true
 gives_values action.SetTrue = true
@@ -51,11 +51,11 @@ gives_values action.SetFalse = true
 gives_values action.Append = true
 gives_values _ = false
 
--- the rule has another id than the rule `a`, and an action that gives its argument values
+-- the rules differ in their ids, and `gives_values` holds for the second rule's action
 abbrev pub IsOtherSet : Rule → Rule → Type 0
 IsOtherSet a x = (bytes_eq x.id a.id ≡ false) × (gives_values (action_of x) ≡ true)
 
--- the rule is the rule `a`, or asks for help or the version and has no defaults, or is another with values of its own
+-- the second rule equals the first, satisfies `IsOtherSet`, or has no defaults and asks for help or the version
 abbrev pub IsOrAsks : Rule → Rule → Type 0
 IsOrAsks a x = (x ≡ a) ⊎ (((is_request (action_of x) ≡ true) × (x.defaults ≡ [])) ⊎ IsOtherSet a x)
 
@@ -63,7 +63,8 @@ abbrev pub AreOrAsk : Rule → List Rule → Type 0
 AreOrAsk a [] = Unit {0}
 AreOrAsk a (x ∷ xs) = IsOrAsks a x × AreOrAsk a xs
 
--- the test that a rule asks for help or the version and has no defaults, or has another id and values of its own
+-- whether the rule has an id other than `id` and an action with `gives_values`, or asks for help or the version and has
+-- no defaults
 abbrev pub is_apart : Text → Rule → Bool
 is_apart id x = is_request (action_of x) && is_empty x.defaults || not (bytes_eq x.id id) && gives_values (action_of x)
 
@@ -120,7 +121,7 @@ values_added a id s values rows pass h =
     (λ r here p. ((λ own. (no_values_fault a r.values values (p own).0 pass, (p own).1)), tt))
     ((λ own. (pass, refl)), tt) h
 
--- a row with the id of one argument does not have the id of another
+-- a row of matched values that has one of two different ids does not have the other id
 other_row : (a x : Text) (r : Row) → bytes_eq x a ≡ false → bytes_eq r.id x ≡ true → bytes_eq r.id a ≡ true → ⊥
 other_row a x r apart here own = false≢true (sym apart ∙ subst (λ t. bytes_eq t a ≡ true) ((bytes_eq-Decides r.id x).0 here) own)
 
@@ -219,7 +220,7 @@ module _ (a : Rule) (set : action_of a ≡ action.Set) (s : Shape) (fits : AreOr
       flag None none = reacted_passed x [] h (is x refl) none p
       flag (Some w) none = p
 
-  -- if `fault` finds no fault and the rows have passed, the rows after `goes` have passed too
+  -- if `fault` finds no fault, `goes` preserves the property `Passed` of the values matched so far
   abbrev Goes : (Held → Kinds) → (Held → Held × Outcome) → Type 0
   Goes fault goes = (h : Held) → fault h ≡ [] → Passed h.rows → Passed (goes h).0.rows
 
@@ -390,7 +391,8 @@ module _ (a : Rule) (set : action_of a ≡ action.Set) (s : Shape) (fits : AreOr
       let both = none_of_both (default_fault rows x) (defaults_fault (with_default rows x) xs) e in
       defaults_passed xs (with_default rows x) all.1 both.1 (default_passed x rows all.0 both.0 p)
 
-  -- the rows of words that have no fault at a level have passed the rule's parser
+  -- if the words after a program's or subcommand's name have no fault, the values matched for the rule `a` have passed
+  -- its parser
   pub level_passed : (names : Names) (words : List Text) (has : Bool) (below : Kinds) → level_fault s names nothing_held words has below ≡ []
       → Passed (rows_after s.rules names words)
   level_passed names words has below e =
@@ -422,7 +424,8 @@ found_passed a set p (s ∷ ss) words r fits e is = elim (cases_Bool (p s)) [
   | inr there ↦ found_passed a set p ss words r fits.1 (rw there at e) (rw there at is)
 ]
 
--- if the words have no fault, the rows of the subcommand that they enter have passed the rule's parser
+-- if a subcommand was matched and its words have no fault, the values matched there for the rule `a` have passed the
+-- rule's parser
 pub entered_passed : (a : Rule) → action_of a ≡ action.Set → (app : App) (stop : Option (Text × List Text)) (r : Text × List Row) → AllAreOrAsk a app.subs
     → entered_fault app stop ≡ [] → entered app stop ≡ Some r → Each (IsPassed a) r.1
 entered_passed a set app None r fits e is = absurd (cc)
@@ -434,7 +437,8 @@ first_passed a [] text e is = absurd (cc)
 first_passed a (v ∷ vs) text e is =
     (v, sym (same_Some _ _ is), (none_of_both (value_kinds a.ignore_case (parser_of_value a.parser) v) (values_fault a vs) e).0)
 
--- the text that passed rows give for an argument is read from a text in which the parser finds no fault
+-- if the values matched for the rule `a` have passed its parser, the text read for `a` comes from a value without a
+-- fault
 pub text_passed : (a : Rule) (rows : List Row) (text : Text) → Each (IsPassed a) rows → one_of a.id rows ≡ Some text
     → (t : Text) × (text ≡ read_as (reading_by a) t) × (value_kinds a.ignore_case (parser_of_value a.parser) t ≡ [])
 text_passed a [] text h is = absurd (cc)
@@ -447,6 +451,6 @@ accepted_if : (b : Bool) (k : ErrorKind) → (cond b [] (k ∷ [])) ≡ [] → b
 accepted_if true k e = refl
 accepted_if false k e = absurd (cc)
 
--- the parser takes a text that has no fault
+-- if `value_kinds` finds no fault in a text, the parser accepts the text
 pub accepted : (ignore_case : Bool) (p : ValueParser) (text : Text) → value_kinds ignore_case p text ≡ [] → Accepts ignore_case p text
 accepted ignore_case p text e = accepts-Accepts ignore_case p text (accepted_if (accepts ignore_case p text) (refused_kind p) e)

@@ -1,5 +1,5 @@
--- Proofs about accepted command lines of a program that requires a subcommand: each names one of the program's
--- subcommands, and the values of that subcommand's options have passed their parsers.
+-- Proofs that an accepted command line names one of the program's subcommands, if one is required, and that the values
+-- of that subcommand's options have passed their parsers.
 use Rattle.std.proofs.Common.{◌≡◌, ◌∙◌, List, [], ◌∷◌, ◌++◌, map, Bool, true, false, refl, sym, ap, ap₂, subst, ◌⊎◌, inl, inr}
 use Rattle.std.specs.Prelude.{not, ◌&&◌, find, Option, Some, None, option_map, is_some, Box}
 use Rattle.std.specs.Box.{box_value}
@@ -19,7 +19,8 @@ use Rattle.command_line.proofs.Passed.{AllAreOrAsk, none_of_both, entered_passed
 
 -- ---- a level that has no fault
 
--- if a level has no fault, the level below it has none, and none of its own checks fails
+-- if `level_fault` finds no fault, the subcommand's words have no fault, and the check at the end of the words finds
+-- none
 level_nil : (s : Shape) (names : Names) (h : Held) (words : List Text) (has : Bool) (below : Kinds) → level_fault s names h words has below ≡ []
     → (below ≡ []) × (check_fault s (finished s.rules (walk s.rules names h words).held) has ≡ [])
 level_nil s names h words has below e =
@@ -74,7 +75,8 @@ module _ (a : App) (words : List Text) (well : fault_of a words ≡ []) where
   is_entered : (built a).top.subcommand_required ≡ true → is_some (subcommand_of a words) ≡ true
   is_entered required = has_from (is_some (entered (built a) stop)) (built a).top.subcommand_required required (required_there _ _ _ level.1)
 
-  -- each value of a subcommand's option has passed its parser
+  -- If the words have no fault, the values matched for a rule in their subcommand have passed the rule's parser. The
+  -- rule's action has to be `Set`, and `AllAreOrAsk` has to hold of the subcommands' rules.
   pub values_passed : (rule : Rule) → action_of rule ≡ action.Set → AllAreOrAsk rule (built a).subs → (rows : List Row)
       → option_map (λ p. p.1) (subcommand_of a words) ≡ Some rows → Each (IsPassed rule) rows
   values_passed rule set fits rows is = go (subcommand_of a words) refl is
@@ -83,7 +85,7 @@ module _ (a : App) (words : List Text) (well : fault_of a words ≡ []) where
       go None found at = absurd (cc)
       go (Some r) found at = subst (Each (IsPassed rule)) (same_Some _ _ at) (entered_passed rule set (built a) stop r fits level.0 found)
 
--- the subcommand is one of the program's
+-- the subcommand that the words name is one of the program's subcommands
 is_one : (a : App) (words : List Text) (r : Text × List Row) → subcommand_of a words ≡ Some r → IsOneOf r.0 (names_of_all (built a).subs)
 is_one a words r is = entered_one (built a) (stop_after (built a).top.rules (names_of (built a)) (argument_words a words)) r is
 
@@ -96,25 +98,25 @@ rows_name : {Z : Type 0} (found : Option (Box SubCommand Z)) → option_map (λ 
 rows_name None = refl
 rows_name (Some b) = refl
 
--- the name that a parse returns is that of the words' subcommand
+-- the subcommand name that `clap` returns is the name of the subcommand that `clap` matched
 pub name_of_rows : (m : ArgMatches) (sub : Option (Text × List Row)) → subcommand_rows_of m ≡ sub → subcommand_name_of m ≡ name_in sub
 name_of_rows m sub is = rows_name (out-ArgMatches m).subcommand ∙ ap name_in is
 
--- a subcommand is determined by its name and its rows
+-- if the matched subcommand has the name `name` and the matched values `rows`, it is the pair of both
 pub is_named : (sub : Option (Text × List Row)) (name : Text) (rows : List Row)
     → name_in sub ≡ Some name → option_map (λ p. p.1) sub ≡ Some rows → sub ≡ Some (name, rows)
 is_named None name rows named found = absurd (cc)
 is_named (Some s) name rows named found = ap₂ (λ (n : Text) (r : List Row). Some (n, r)) (same_Some _ _ named) (same_Some _ _ found)
 
--- what holds of any subcommand with a name holds of the one that has the name
+-- if each subcommand named `name` has a property, and the matched subcommand is named `name`, it has the property
 pub by_name : (P : Option (Text × List Row) → Type 0) (name : Text) → ((r : Text × List Row) → r.0 ≡ name → P (Some r)) → (sub : Option (Text × List Row)) → name_in sub ≡ Some name → P sub
 by_name P name of_row None is = absurd (cc)
 by_name P name of_row (Some r) is = of_row r (same_Some _ _ is)
 
 -- ---- a program
 
--- The facts about a program that the proofs use: it is simple (`is_simple_and_free`) and requires a subcommand. If
--- words have no fault, the name of their subcommand is in `names`.
+-- The program requires a subcommand, and words without a fault name a subcommand in `names`. The program also satisfies
+-- `is_simple_and_free`.
 pub record IsKnown (a : App) (names : List Text) : Type 0 where
   pub is_free : is_simple_and_free a ≡ true
   pub required : (built a).top.subcommand_required ≡ true
@@ -141,7 +143,8 @@ last_from : (others : List Text) (last : Text) (sub : Option (Text × List Row))
 last_from others last None has names none = absurd (false≢true has)
 last_from others last (Some r) has names none = ap Some (last_one others last r.0 (names r refl) none)
 
--- words that have no fault, and ask for none of the subcommands before the last, ask for the last
+-- if a program requires one of the subcommands `others` and `last`, and words without a fault ask for none of `others`,
+-- the words ask for `last`
 pub last_is_asked : (a : App) (others : List Text) (last : Text) → IsKnown a (others ++ last ∷ []) → (words : List Text) → fault_of a words ≡ []
     → IsNoneOf (name_in (subcommand_of a words)) others → name_in (subcommand_of a words) ≡ Some last
 last_is_asked a others last known words e none =

@@ -8,8 +8,8 @@ use Rattle.command_line.specs.declared.ended.Ended.TheVariants.{Done, Shown, Clo
 use Rattle.command_line.specs.declared.stop.Stop.{Stop}
 use Rattle.command_line.specs.declared.stop.Stop.TheVariants.{Run}
 
--- the outcome of a program's run, or its fault as the reason to stop; if the output is closed, a failed run is not an
--- error
+-- the end of a program whose run has this outcome; the fault of a failed run is the reason to stop, unless the output
+-- is closed
 abbrev pub end_of_run : {V F : Type 0} → Result V F → Bool → Result (Ended V) (Stop F)
 end_of_run (Ok verdict) is_closed = Ok (Done verdict)
 end_of_run (Err fault) true = Ok Closed
@@ -21,14 +21,14 @@ is_request DisplayHelp = true
 is_request DisplayVersion = true
 is_request _ = false
 
--- the outcome of printing a help or version text: `Shown` with an output that has not failed, or `Closed` with an
--- output that is closed
+-- after a help or version text, the program ends as `Shown` with an output that has not failed, or as `Closed` with a
+-- closed output
 abbrev pub IsShown : {V : Type 0} → Bool → Bool → Ended V → Type 0
 IsShown failed is_closed Shown = failed ≡ false
 IsShown failed is_closed Closed = is_closed ≡ true
 IsShown failed is_closed (Done verdict) = ⊥
 
--- the reason to stop if a help or version text was not printed: allocation failed, or the output failed and is not
+-- the program stops because a help or version text was not printed: allocation failed, or the output failed and is not
 -- closed
 abbrev pub IsUnshown : {F : Type 0} → F → Bool → Bool → Stop F → Type 0
 IsUnshown memory failed is_closed (Run fault) = (fault ≡ memory) ⊎ ((failed ≡ true) × (is_closed ≡ false))
@@ -39,9 +39,8 @@ abbrev pub IsFaultWith : {F : Type 0} → (F → Type 0) → Stop F → Type 0
 IsFaultWith P (Run fault) = P fault
 IsFaultWith P _ = ⊥
 
--- The exit status of a program: the status of its verdict or of its reason to stop, or 0 if it has shown its help or
--- its version. If its output was closed, the status is 128 + 13, which a shell gives for a program that the signal
--- SIGPIPE ends.
+-- The exit status of a program: that of its verdict or of its reason to stop, 0 after a help or version text, and 141
+-- after a closed output. 141 is 128 + 13, the status that a shell gives for a program that the signal SIGPIPE ends.
 abbrev pub status_of_end : {V F : Type 0} → (V → ℕ) → (F → ℕ) → Result (Ended V) (Stop F) → ℕ
 status_of_end status_of_verdict status_of_fault (Ok (Done verdict)) = status_of_verdict verdict
 status_of_end status_of_verdict status_of_fault (Ok Shown) = 0

@@ -1,5 +1,5 @@
--- Definitions for `clap` command lines: a program, the option `--erase`, the file argument, and values that have passed
--- their parsers.
+-- Parts of `clap` command lines, such as the option `--erase` and the file argument, and the condition that values have
+-- passed their parsers.
 use Rattle.std.specs.Prelude.{◌≡◌, ℕ, List, [], ◌∷◌, true, codes, Option, Some, None, Ok, pos, if◌then◌else◌}
 use Rattle.std.specs.Str.{bytes_eq}
 use Rattle.std.specs.Str.Parse.{ParsesUnsigned}
@@ -41,8 +41,7 @@ abbrev pub Each : (Row → Type 0) → List Row → Type 0
 Each P [] = Unit {0}
 Each P (r ∷ rs) = P r × Each P rs
 
--- if a row belongs to the rule's argument, its values have passed the rule's parser, and the row is read as the rule
--- says
+-- if a row has the id of this rule, its values have passed the rule's parser, and are to be read as the rule says
 abbrev pub IsPassed : Rule → Row → Type 0
 IsPassed a r = bytes_eq r.id a.id ≡ true → (values_fault a r.values ≡ []) × (r.reading ≡ reading_by a)
 

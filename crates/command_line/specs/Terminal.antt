@@ -17,15 +17,14 @@ pub record IsUnopenedLine (program name line : List ℕ) : Type 0 where
   pub reason : List ℕ
   pub whole : line ≡ program ++ (codes ": " ++ (name ++ (codes ": " ++ reason)))
 
--- The program stops because the file of this name cannot be opened: a line says so, or memory ran out.
+-- The program stops: the file of this name cannot be opened, and the printed line says so, or memory ran out.
 abbrev pub StopsAtFile : {F : Type 0} → F → List ℕ → List ℕ → Stop F → Type 0
 StopsAtFile memory program name (Unopened line) = IsUnopenedLine program name (string_bytes line)
 StopsAtFile memory program name (Run fault) = fault ≡ memory
 StopsAtFile memory program name (Usage error) = ⊥
 StopsAtFile memory program name NotUtf8 = ⊥
 
--- the program stops because it cannot open its input; this happens only for a file, since standard input is open
--- already
+-- the program stops because it cannot open its input file; standard input is always open
 abbrev pub StopsAtInput : {F : Type 0} → F → List ℕ → Option (List ℕ) → Stop F → Type 0
 StopsAtInput memory program None stop = ⊥
 StopsAtInput memory program (Some name) stop = StopsAtFile memory program name stop

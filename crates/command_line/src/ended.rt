@@ -22,8 +22,8 @@ pub enum Ended<V> {
 }
 
 impl<V> Ended<V> {
-    /// Returns the outcome of a program's run, or its fault as the reason to stop. If the output is closed, a failed
-    /// run is not an error.
+    /// Turns the outcome of a program's run into how the program ended, or into the run's fault as the reason to stop.
+    /// If the output is closed, a failed run is not an error.
     pub fn of_run<F>(outcome: Result<V, F>, is_closed: bool) -> Result<Ended<V>, Stop<F>>
     where
         V: Drop,

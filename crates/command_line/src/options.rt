@@ -39,8 +39,8 @@ pub(crate) fn erase<'a>(alloc: Global, help: &'a str) -> Arg<'a>
         .value_parser(value_parser!(u8).range(0..=7))
 }
 
-/// Parses a command line by a program's `clap` definition, if there was memory to make it. Returns the matches, or the
-/// error.
+/// Parses a command line by a program's `clap` definition, if there was memory to make the definition. Returns the
+/// matches, or the error.
 pub(crate) fn matched<'a>(
     program: Result<Command<'a>, AllocError>,
     words: &'a [String],

@@ -1,4 +1,4 @@
-//! The command line arguments of a program, and the report of why it stops, with its exit status.
+//! Functions that return a program's command line arguments, and print why a program stops.
 ghost use Rattle.std.specs.Prelude.{◌≡◌, ◌⊎◌, IfErr, IfOk};
 ghost use Rattle.std.specs.Process.{exit_status};
 ghost use Rattle.std.specs.Vec.Iter.{into_iter_items};

@@ -13,9 +13,10 @@ use std::fmt;
 /// The request that a command line of `realmview` makes.
 #[derive(Clone, Copy)]
 pub enum ViewSubcommand {
-    /// Writes the history that a plan's run leads to. A build may be left out.
+    /// Writes the history of a plan's run, optionally without the events of one build.
     History(Option<BuildId>),
-    /// Applies a history, and writes the host's resulting map of pages and realms. A build may be left out.
+    /// Applies a history, and writes the map of pages and realms that it leads to, optionally without one build's
+    /// events.
     Apply(Option<BuildId>),
     /// Writes the JSON document of a plan's run.
     Json,
@@ -48,21 +49,21 @@ pub enum CallsForm {
 pub enum Schedules {
     /// All schedules, if their runs have at most the given number of states.
     All(u32),
-    /// A given number of schedules drawn at random. The values are the number of schedules, and the seed of the random
-    /// numbers.
+    /// A given number of schedules drawn at random with a given seed. The values are the number of schedules, and the
+    /// seed of the random numbers.
     Drawn(u32, u32),
     /// The shortest schedule at whose end a given condition holds. The runs may have at most the given number of
     /// states.
     Shortest(u32, ScheduleQuestion),
 }
 
-/// A condition that must hold at the end of the schedule that a search looks for.
+/// The aim of a search for a schedule: a condition that must hold at the end of the schedule.
 #[derive(Clone, Copy, Drop)]
 pub enum ScheduleQuestion {
     /// The condition that the given step of a build is refused.
     Refused(StepPlace),
-    /// The condition that the given build waits for resources while another build holds no page. A build waits if its
-    /// step is refused for lack of a block or a VMID.
+    /// The condition that the given build waits, and that some other build holds no page. A build waits if its step is
+    /// refused for lack of a block or a VMID.
     Waiting(u32),
     /// The condition that at least the given number of granules is leased.
     Leased(u32),

@@ -25,11 +25,11 @@ pub struct Comparison {
     pub is_each: bool,
     /// Whether the check stops at the first wrong line.
     pub stops: bool,
-    /// The names to which the comparison is restricted, if any are given: names of commands, other questions and
-    /// checks.
+    /// The names to which the comparison is restricted, if any are given. Each is that of a command, of another
+    /// question of a trace, or of a check.
     pub only: Option<NameSet>,
-    /// The names by which trace lines are left out of the comparison, if any are given: names of commands, other
-    /// questions and checks.
+    /// The names whose lines of a trace are left out of the comparison, if any are given. Each is that of a command, of
+    /// another question of a trace, or of a check.
     pub skip: Option<NameSet>,
 }
 

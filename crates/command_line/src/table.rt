@@ -5,7 +5,7 @@ use clap::error::ErrorKind;
 use clap::{Arg, ArgAction, ArgMatches, Command, Error, value_parser};
 use std::alloc::{AllocError, Global};
 
-/// An argument of a subcommand, FILE or an option, with its help text.
+/// An argument of a subcommand, either FILE or an option, with its help text.
 #[derive(Clone, Copy)]
 pub(crate) enum Argument {
     /// The argument FILE.
@@ -16,14 +16,13 @@ pub(crate) enum Argument {
     Number(&'static str, &'static str, &'static str),
     /// An option without a value. The texts are its name and its help.
     Flag(&'static str, &'static str),
-    /// An option that may be repeated, with a name each time.
+    /// An option that may be given several times, each time with a name as its value.
     Names(&'static str, &'static str),
     /// An option with a text as its value. The fields are the option's name, the value's name, and the help.
     Text(&'static str, &'static str, &'static str),
 }
 
-/// A description of a program's subcommand: its name, help texts and arguments. The help texts are a description and
-/// examples.
+/// A program's subcommand, with its name, help texts and arguments. The help texts are a description and examples.
 #[derive(Clone, Copy)]
 pub(crate) struct Subcommand {
     pub name: &'static str,
@@ -32,7 +31,7 @@ pub(crate) struct Subcommand {
     pub arguments: &'static [Argument],
 }
 
-/// A description of a program's command line: the program's name, help texts and subcommands. The help texts are a
+/// A program's name, help texts and subcommands, from which its command line is defined. The help texts are a
 /// description and examples. A command line has to name a subcommand.
 #[derive(Clone, Copy)]
 pub(crate) struct Program {

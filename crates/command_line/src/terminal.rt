@@ -1,4 +1,4 @@
-//! The input, the output and the error messages of a program, with colours on a terminal.
+//! The input of a program, and its output and error messages, which can be coloured on a terminal.
 ghost use Rattle.std.specs.Prelude.{◌≡◌, ◌⊎◌, IfErr, IfOk, is_some, option_map, true, None};
 ghost use Rattle.std.specs.Process.{exit_status};
 ghost use Rattle.command_line.specs.Stop.{status_of_stop};
@@ -15,7 +15,7 @@ use std::io::{IsTerminal, Read, Stdin, Stdout, Write};
 use std::process::ExitCode;
 use std::{env, io};
 
-/// The input of a program: standard input, or the file that the command line names.
+/// The input of a program, which is standard input or the file that the command line names.
 #[derive(Drop)]
 pub enum Input<'a> {
     /// Standard input.

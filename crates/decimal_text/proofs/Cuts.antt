@@ -4,7 +4,7 @@ use Rattle.std.proofs.lemmas.Bool.Decides.{nat_tests}
 use Rattle.std.specs.Prelude.{◌==◌}
 use Rattle.decimal_text.specs.Numbers.{before_space, from_space, spelled_numbers}
 
--- no space among the bytes
+-- the bytes have no space
 abbrev pub HasNoSpace : List ℕ → Type 0
 HasNoSpace bs = (i : ℕ) → i < length bs → get_or bs i 0 ≢ 32
 

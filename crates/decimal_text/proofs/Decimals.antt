@@ -12,7 +12,7 @@ use Rattle.std.proofs.lemmas.Fmt.{digits_decimal, decimal_nonempty, decimal_digi
 use Rattle.std.proofs.lemmas.Result.{OkIff-at_ok}
 use Rattle.decimal_text.specs.Numbers.{IsPlain}
 
--- strings of ASCII digits, with their decimal values, are a model of numerals
+-- strings of ASCII digits, with their decimal values, satisfy `IsNumeralModel`
 pub ascii_numerals : IsNumeralModel (λ ds. all_ascii_digits ds ≡ true) (digits_value 10)
 ascii_numerals = numerals_by_value (λ ds. all_ascii_digits ds ≡ true) tells_all_ascii_digits
 

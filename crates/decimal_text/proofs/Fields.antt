@@ -1,5 +1,5 @@
--- Proofs that the loop of `numbers_of` preserves its invariant: the numbers found spell the text that was read, and any
--- further numbers are spelled by the unread text.
+-- Proofs that the loop of `numbers_of` preserves its invariant: the text read so far spells the numbers found, and the
+-- unread text spells any further numbers.
 use Rattle.std.proofs.Common.{◌≡◌, ◌≢◌, ℕ, ◌<◌, ◌^◌, List, [], ◌∷◌, ◌++◌, length, length-append, sym, ap, ◌∙◌, arith}
 use mathlib.Core.List.{append_assoc}
 use Rattle.std.specs.List.{AllByRecursion}
@@ -13,11 +13,12 @@ use Rattle.decimal_text.proofs.Cuts.{HasNoSpace, before_space-spelled, from_spac
 pub no_space_decimal : (n : ℕ) → n < 2 ^ 64 → HasNoSpace (decimal n)
 no_space_decimal n small = not_in_digits ascii_numerals (decimal n) 32 (digits_decimal ascii_numerals n small) (λ r. omega (arith, r))
 
--- the numbers after those found so far, which the rest of the text spells
+-- the list `ns` begins with `found`, and `rest` spells its other numbers
 abbrev pub GoesOn : List ℕ → List ℕ → List ℕ → Type 0
 GoesOn found ns rest = (ms : List ℕ) × (ns ≡ found ++ ms) × (rest ≡ spelled_numbers ms)
 
--- the next number after those found, and the numbers after it, where `fields` is the text after a space
+-- the list `ns` has a number below 2^32 after `found`, and `fields` spells that number and the later numbers, without a
+-- leading space
 pub record Next (found ns fields : List ℕ) : Type 0 where
   pub number : ℕ
   pub more : List ℕ
@@ -49,7 +50,7 @@ next_of found ns fields (m ∷ ms) all same spelled =
 pub next_field : (most : ℕ) (found ns fields rest : List ℕ) → AreNumbers most ns → rest ≡ 32 ∷ fields → GoesOn found ns rest → Next found ns fields
 next_field most found ns fields rest are begins on = next_of found ns fields on.0 are.1 on.1 (sym begins ∙ on.2)
 
--- no number follows if `most` numbers are found
+-- if a list has at most `most` numbers, of which `most` are found, no number follows
 pub full_has_no_next : (most : ℕ) (found ns fields : List ℕ) → AreNumbers most ns → length found ≡ most → Next found ns fields → ⊥
 full_has_no_next most found ns fields are full next = omega (arith, are.0, simp length-append at (ap length next.split))
 
@@ -66,7 +67,7 @@ one_more [] n rest = ap (λ t. 32 ∷ t) (sym (append_assoc (decimal n) [] rest)
 one_more (m ∷ found) n rest = ap (λ t. 32 ∷ t) (append_assoc (decimal m) (spelled_numbers found) (32 ∷ (decimal n ++ rest)) ∙ ap (λ t. decimal m ++ t) (one_more found n rest)
     ∙ sym (append_assoc (decimal m) (spelled_numbers (found ++ n ∷ [])) rest))
 
--- with one more number found, the numbers found still spell the text that was read
+-- after one more number is found, the text is still the spelling of the found numbers, followed by the unread rest
 pub spelled_more : (text found fields rest : List ℕ) (n : ℕ) → text ≡ spelled_numbers found ++ rest → rest ≡ 32 ∷ fields → before_space fields ≡ decimal n
     → text ≡ spelled_numbers (found ++ n ∷ []) ++ from_space fields
 spelled_more text found fields rest n so_far begins is =

@@ -1,5 +1,5 @@
--- A proof that a text means a value of a grammar if and only if the text is the value's word and numbers, and the value
--- is in range.
+-- A proof that a text means a value of a grammar if and only if the text spells the value's word and numbers, and the
+-- value is in its range.
 use Rattle.std.proofs.Common.{◌≡◌, ◌≢◌, ℕ, suc, ◌<◌, ◌^◌, List, [], ◌∷◌, ◌++◌, map, Bool, true, false, cond, ltb, ◌&&◌, Option, Some, None, option_map, refl, sym, ap, ◌∙◌, arith}
 use Rattle.std.specs.Prelude.{option_and_then, ◌==◌}
 use mathlib.Core.List.{append-nil}
@@ -24,8 +24,8 @@ pub record Spells {A : Type 0} (word_of numbers_of : A → List ℕ) (IsInRange 
   pub numbers_are : ns ≡ numbers_of value
   pub in_range : IsInRange value
 
--- a value in range is the meaning of its own word and numbers alone; the word has no space, and there are at most
--- `most` numbers, each below 2^32
+-- `meaning` gives a value for a word and numbers if and only if the value has this word and these numbers, and is in
+-- range. Words have no space, and a value in range has at most `most` numbers, each below 2^32.
 pub record IsGrammar {A : Type 0} (word_of numbers_of : A → List ℕ) (IsInRange : A → Type 0) (meaning : List ℕ → List ℕ → Option A) (most : ℕ) : Type 0 where
   pub means : (value : A) → IsInRange value → meaning (word_of value) (numbers_of value) ≡ Some value
   pub spells : (word ns : List ℕ) (value : A) → meaning word ns ≡ Some value → Spells word_of numbers_of IsInRange word ns value

@@ -1,5 +1,6 @@
--- Lemmas about tables of words: a property shown for each word's values holds for every value of the table, and a value
--- can be made from operands that were checked before.
+-- Lemmas about the functions `none` to `four`, which make a value from a word's numbers, and about tables that select
+-- one of them by the word. A property shown for each word's values holds for every value of the table. A value can be
+-- made from operands that were checked before.
 use Rattle.std.proofs.Common.{◌≡◌, ℕ, ◌≤◌, List, [], ◌∷◌, cond, leb, ◌&&◌, Bool, true, false, Option, Some, None, option_map, refl, subst, inl, inr}
 use Rattle.std.specs.Option.{option_or, option_zip}
 use Rattle.std.specs.Str.{bytes_eq}
@@ -97,7 +98,7 @@ module _ {A B : Type 0} (f : A → B) where
   four_mapped a b c d make (k ∷ l ∷ m ∷ n ∷ []) found e = rw e (map_test (leb k a && leb l b && leb m c && leb n d) (make k l m n))
   four_mapped a b c d make (k ∷ l ∷ m ∷ n ∷ o ∷ ns) found e = rw e refl
 
--- to find the operands and then make a value of them is to make the value from the numbers
+-- if `found` is the operands read from a list of one to four numbers, `make` of `found` is the value made from the list
 module _ {B : Type 0} where
   pub one_made : (a : ℕ) (make : ℕ → B) (ns : List ℕ) (found : Option ℕ) → found ≡ one a (λ k. k) ns → option_map make found ≡ one a make ns
   one_made a make ns found e = one_mapped make a (λ k. k) ns found e

@@ -11,7 +11,8 @@ use Rattle.decimal_text.specs.Ranges.{AreAtMost}
 use Rattle.decimal_text.proofs.Cuts.{HasNoSpace, before_space-spelled, from_space-spelled}
 use Rattle.decimal_text.proofs.Fields.{no_space_decimal}
 
--- bytes have no space if the test finds none; for a word that is written out, the test computes
+-- if the test of each byte finds no space, `HasNoSpace` holds of the bytes; for a constant word, the prover evaluates
+-- the test
 pub no_space_from_test : (bs : List ℕ) → list_all (λ b. not (eqb b 32)) bs ≡ true → HasNoSpace bs
 no_space_from_test [] h i within = absurd (omega arith)
 no_space_from_test (b ∷ bs) h zero within = λ e. let parts = and_parts (not (eqb b 32)) (list_all (λ b. not (eqb b 32)) bs) h in eqb-false b 32 (not-true _ parts.0) e

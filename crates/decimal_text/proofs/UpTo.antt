@@ -71,8 +71,8 @@ all_below (m ∷ ms) h =
     let parts = and_parts (ltb m (2 ^ 32)) (list_all (λ k. ltb k (2 ^ 32)) ms) h in
     (ltb-true m (2 ^ 32) parts.0, all_below ms parts.1)
 
--- if there are at most `most` maxima, each below 2^32, the same holds of the numbers; for maxima that are written out,
--- the test computes
+-- If each number is at most its maximum, and there are at most `most` maxima, each below 2^32, `AreNumbers` holds of
+-- the numbers. The maxima are compared by a test, which the prover evaluates for constant maxima.
 pub few_from_test : (most : ℕ) (ns ms : List ℕ) → AreAtMost ns ms → leb (length ms) most && list_all (λ m. ltb m (2 ^ 32)) ms ≡ true → AreNumbers most ns
 few_from_test most ns ms h test =
     let parts = and_parts (leb (length ms) most) (list_all (λ m. ltb m (2 ^ 32)) ms) test in

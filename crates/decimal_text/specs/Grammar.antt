@@ -1,9 +1,9 @@
--- The text that spells a word and its numbers, and the value that a text means.
+-- Definitions of texts that consist of a name and decimal numbers, and of the value that such a text means.
 use Rattle.std.specs.Prelude.{ℕ, ◌==◌, List, [], ◌∷◌, ◌++◌, Option, None, option_and_then}
 use Rattle.std.specs.List.{slice_split}
 use Rattle.decimal_text.specs.Numbers.{spelled_numbers, numbers_of_digits}
 
--- the text of a word and its numbers: the word, and then each number in decimal after one space
+-- a word and its numbers as text: the word, and then each number in decimal after one space
 abbrev pub spelled : List ℕ → List ℕ → List ℕ
 spelled word numbers = word ++ spelled_numbers numbers
 

@@ -5,7 +5,7 @@ use Rattle.std.specs.Fmt.{decimal}
 use Rattle.std.specs.Str.{bytes_eq}
 use Rattle.std.specs.Str.Parse.{digits_value}
 
--- a number's text does not begin with `+`, and begins with 0 only if it is `0`
+-- the text does not begin with `+`, and begins with 0 only if it is `0`
 abbrev pub IsPlain : List ℕ → Type 0
 IsPlain bytes = (slice_index bytes 0 ≢ 43) × (slice_index bytes 0 ≡ 48 → length bytes ≡ 1)
 

@@ -1,4 +1,5 @@
--- The value made from a word's numbers, if their count is right and each number is at most its maximum.
+-- The value made from a word's numbers, if there are as many numbers as the word takes, and each is at most its
+-- maximum.
 use Rattle.std.specs.Prelude.{ℕ, nat_le, ◌&&◌, List, [], ◌∷◌, length, if◌then◌else◌, Option, Some, None}
 use Rattle.std.specs.List.{list_all}
 use Rattle.arrayvec.specs.ArrayVec.{ArrayVec}

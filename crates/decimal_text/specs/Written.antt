@@ -1,4 +1,4 @@
--- A word with its numbers and the maximum of each, and the greatest numbers of 8, 16 and 32 bits.
+-- Definitions of a word with its numbers and their maxima, and of the greatest 8-bit, 16-bit and 32-bit numbers.
 use Rattle.std.specs.Prelude.{ℕ, List}
 
 -- a word and its numbers, with the maximum of each number

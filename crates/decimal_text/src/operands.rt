@@ -103,9 +103,9 @@ pub fn four_operands<A: Operand, B: Operand, C: Operand, D: Operand>(
     Some((first, second, third, fourth))
 }
 
-/// Turns an `Option` of operands into an `Option` of a value made from them. The value is a variant whose fields are
-/// the operands in sequence, or any expression. This is a macro for a `match`, since a closure for each would be one
-/// more function to prove.
+/// Converts an `Option` of operands to an `Option` of a value made from the operands. The value is a variant whose
+/// fields are the operands in sequence, or any expression. This is a macro for a `match`, since a closure for each
+/// would be one more function to prove.
 #[macro_export]
 macro_rules! made_of {
     ($found:expr => $type:ident::$kind:ident { $($field:ident),+ }) => {

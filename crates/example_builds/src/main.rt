@@ -1,6 +1,6 @@
-//! An example program that performs realm builds on a host in three ways. The first way is one build, with commands, a
-//! refusal that is matched on, an undo, an abort, and the history. The second way is two builds, each in its own
-//! thread. The third way applies a history from standard input to a host.
+//! An example program that performs one realm build, two builds in threads, and the builds of a recorded history. The
+//! one build has commands, a refusal that is matched on, an undo and an abort; its history is printed. The two builds
+//! have a thread each. The recorded history is read from standard input.
 #![tactic(auto)]
 
 mod history;

@@ -1,5 +1,5 @@
--- Proofs that the first failed check determines how the host refuses an `undo`, `mark` or `back` step, an abort's first
--- turn, or a command by its own checks.
+-- Proofs that the host refuses a step with the refusal of the first failed check among the host's own checks. The steps
+-- are `undo`, `mark`, `back`, an abort's first turn, and commands with refusals 1 to 6, 9, 10 or 12.
 use Rattle.std.proofs.Common.{◌≡◌, ℕ, Bool, true, false, cond, not, List, [], ◌∷◌, ◌++◌, map, Option, Some, None, Result, Ok, Err, refl, sym, ap, ◌∙◌}
 use Rattle.std.specs.Prelude.{◌-◌, nat_lt, nat_le, if◌then◌else◌, length}
 use Rattle.std.specs.List.{range_with_len, list_any}

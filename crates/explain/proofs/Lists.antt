@@ -1,4 +1,4 @@
--- Lemmas on lists with one more item, on successive appends, and on whether all or some numbers of a range pass a test.
+-- Lemmas on appending items to lists, and on conditions that all, some or no numbers of a range satisfy.
 use Rattle.std.specs.Prelude.{ℕ, ◌+◌, ◌<◌, ◌≤◌, Bool, true, false, ◌&&◌, ◌||◌, List, [], ◌∷◌, ◌++◌, length, map, Option, Some, None}
 use Rattle.std.proofs.Common.{◌≡◌, zero, suc, take, get_or, refl, sym, ap, ◌∙◌, subst, append_assoc, arith}
 use Rattle.std.specs.List.{filter_map, cons_option, list_all, list_any, range_with_len}
@@ -18,15 +18,15 @@ pub few_more : (old : List ℕ) (found : Option ℕ) (new : List ℕ) (n : ℕ) 
 few_more old None new n is few = let long = ap (λ xs. length xs) is in let both = length-append old [] in omega (arith, long, both, few)
 few_more old (Some g) new n is few = let long = ap (λ xs. length xs) is in let both = length-append old (g ∷ []) in omega (arith, long, both, few)
 
--- to append some elements and then others is to append both lists together
+-- appending `some` and then `rest` to a list is the same as appending `some ++ rest`
 pub before : {X : Type 0} (old some rest mid new : List X) → mid ≡ old ++ some → new ≡ mid ++ rest → new ≡ old ++ (some ++ rest)
 before old some rest mid new one two = two ∙ ap (λ xs. xs ++ rest) one ∙ append_assoc old some rest
 
--- if the appended elements equal the expected ones, the expected ones were appended
+-- appending a list that equals `meant` is the same as appending `meant`
 pub added : {X : Type 0} (old some meant new : List X) → new ≡ old ++ some → some ≡ meant → new ≡ old ++ meant
 added old some meant new is same = is ∙ ap (λ xs. old ++ xs) same
 
--- to append the value of the next element to those of the first i is to append the values of the first i + 1
+-- appending the first i values, and then the next value, is the same as appending the first i + 1 values
 pub mapped_more : {Y : Type 0} (f : ℕ → Y) (xs : List ℕ) (i d : ℕ) (old mid new : List Y) → i < length xs
     → mid ≡ old ++ map f (take i xs) → (y : Y) → y ≡ f (get_or xs i d) → new ≡ mid ++ y ∷ [] → new ≡ old ++ map f (take (i + 1) xs)
 mapped_more f xs i d old mid new inside so_far y is more =

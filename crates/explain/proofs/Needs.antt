@@ -1,4 +1,4 @@
--- A proof that appending the parts of `needs_checks` one after another appends the whole list.
+-- A proof that the host's own checks of a command, appended part by part, are `needs_checks`, the list of them all.
 use Rattle.std.proofs.Common.{◌≡◌, ℕ, List, [], ◌∷◌, ◌++◌, map, ap, ◌∙◌}
 use Rattle.host_ledger.specs.View.{HostView}
 use Rattle.host_commands.specs.declared.cmd.Cmd.{Cmd}

@@ -8,7 +8,7 @@ use Rattle.std.proofs.lemmas.List.{append-nil, flat_map_more, length-append}
 use Rattle.explain.specs.Words.{message_line, count_line, passed_line, earlier_checks, AppendsWords, AppendsPassed, AreReasonLines}
 use Rattle.explain.specs.declared.explained.Explanation.{Explanation}
 
--- the line of one more check that passed, after those of `count` checks, makes the lines of `count + 1` checks
+-- the lines of `count` passed checks, followed by the line of one more, are the lines of `count + 1` passed checks
 pub passed_more : (count : ℕ) (old mid new words : List ℕ) → AppendsPassed count old mid → new ≡ mid ++ passed_line words → AppendsPassed (count + 1) old new
 passed_more count old mid new words before this = record {
   sentences = before.sentences ++ words ∷ [];
@@ -16,14 +16,15 @@ passed_more count old mid new words before this = record {
   appended = this ∙ ap (λ (t : List ℕ). t ++ passed_line words) before.appended ∙ flat_map_more passed_line old before.sentences words;
 }
 
--- the words `ok:`, some words and a line feed, appended in sequence, are the line of a check that passed
+-- `ok:`, the words of a check and a line feed, appended in sequence, are the line of a passed check
 pub passed_by_parts : (old begun told new : List ℕ) → begun ≡ old ++ codes "        ok: " → (words : AppendsWords begun told) → new ≡ told ++ 10 ∷ []
     → new ≡ old ++ passed_line words.words
 passed_by_parts old begun told new first words last =
     last ∙ ap (λ (t : List ℕ). t ++ 10 ∷ []) words.appended ∙ append_assoc begun words.words (10 ∷ [])
     ∙ ap (λ (t : List ℕ). t ++ (words.words ++ 10 ∷ [])) first ∙ append_assoc old (codes "        ok: ") (words.words ++ 10 ∷ [])
 
--- if the lines of the checks that passed are asked for, they are appended
+-- if `all` is true, a text with the lines of `n` passed checks appended has the lines of passed checks that are asked
+-- for
 pub asked_for : (all : Bool) (n count : ℕ) (old new text : List ℕ) → all ≡ true → count ≡ n → text ≡ new → AppendsPassed count old new
     → AppendsPassed (if all then n else 0) old text
 asked_for all n count old new text is same_count same passed = record {
@@ -32,7 +33,7 @@ asked_for all n count old new text is same_count same passed = record {
   appended = same ∙ passed.appended;
 }
 
--- if the lines of the checks that passed are not asked for, none is appended
+-- if `all` is false, an unchanged text has the lines of passed checks that are asked for, which are none
 pub not_asked_for : (all : Bool) (n : ℕ) (old text : List ℕ) → all ≡ false → text ≡ old → AppendsPassed (if all then n else 0) old text
 not_asked_for all n old text is same = record {
   sentences = [];
@@ -40,7 +41,7 @@ not_asked_for all n old text is same = record {
   appended = same ∙ sym (append-nil old);
 }
 
--- the error line, the help line, the count line and the lines of passed checks, in sequence, are a reason's lines
+-- the error line, the help line, the count line and the lines of passed checks, in sequence, satisfy `AreReasonLines`
 pub reason_by_parts : (reason : Explanation) (all : Bool) (empty one two three new : List ℕ) → empty ≡ []
     → one ≡ empty ++ message_line (codes "error") (string_bytes reason.error)
     → two ≡ one ++ message_line (codes "help") (string_bytes reason.help)

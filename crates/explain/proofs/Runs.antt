@@ -1,4 +1,4 @@
--- A proof that an explained run followed by one more explained turn is an explained run of the longer schedule.
+-- A proof that the explained turns of a run, with one more explained turn at the end, are those of the longer schedule.
 use Rattle.std.proofs.Common.{◌≡◌, ℕ, ◌+◌, ◌<◌, ◌≤◌, List, [], ◌∷◌, ◌++◌, length, take, get_or, map, Some, None, refl, sym, ap, ◌∙◌, slice_set, subst}
 use Rattle.std.proofs.lemmas.List.{map-append, take_all, take_more}
 use Rattle.host_ledger.specs.View.{HostView}
@@ -39,7 +39,7 @@ step_turn plan from id build step host moved report is_id is_step made =
       reported = same.reported;
     }
 
--- an explained run and one more turn at its end are an explained run
+-- an explained run with one more turn of the plan appended is an explained run
 pub AreExplained-more :
     (plan : Plan) (order : List ℕ) (from : Position) (turns : List Explained) (at : Position) (build : ℕ) (turn : Turn) (to : Position)
     → AreExplained plan order from turns at
@@ -55,14 +55,15 @@ AreExplained-more plan (b ∷ order) from (t ∷ turns) at build turn to run of_
 
 -- ---- the front of an order
 
--- Explained turns of the builds in `order` lead from the start to the position `to`, and `reports` are their reports.
+-- Explained turns of the builds in `order` lead from the start to the position `to`, with the reports `reports`.
 pub record IsFront (plan : Plan) (from : HostView) (order : List ℕ) (to : Position) (reports : List TurnReport) : Type 0 where
   pub turns : List Explained
   pub is_run : AreExplained plan order (start from) turns to
   pub reported : reports ≡ map report_at turns
 
 module _ (plan : Plan) (from : HostView) (order : List ℕ) (i : ℕ) where
-  -- the first i turns and one more turn, of the next build in the order, are the first i + 1 turns
+  -- if `IsFront` holds of the first i builds of `order`, an explained turn of the next build makes `IsFront` hold of
+  -- the first i + 1
   pub front_more :
       (items : List ℕ) (build turn_build : ℕ) (at to : Position) (report : TurnReport) (between new : List TurnReport)
       → items ≡ order
@@ -84,7 +85,7 @@ module _ (plan : Plan) (from : HostView) (order : List ℕ) (i : ℕ) where
         reported = appended ∙ (λ k. front.reported k ++ turn.reported k ∷ []) ∙ sym (map-append report_at front.turns (e ∷ []));
       }
 
-  -- when all builds in the order have had their turn, the front is that of the whole order
+  -- if `order` has no more than i builds, explained turns of its first i builds are explained turns of all its builds
   pub front_whole : (items : List ℕ) (to : Position) (new : List TurnReport) → items ≡ order → length items ≤ i
       → IsFront plan from (take i order) to new → IsFront plan from order to new
   front_whole items to new same done =

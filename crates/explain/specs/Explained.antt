@@ -1,4 +1,4 @@
--- The reports of the turns of a plan's run: each turn's line, and the checks of a refused step up to the first failed
+-- The reports on a plan's run, turn by turn: each turn's line, and the checks of a refused step up to the first failed
 -- check.
 use Rattle.std.specs.Prelude.{◌≡◌, ℕ, Bool, List, [], ◌∷◌, cond, map, string_bytes, Option, Some, None, option_map}
 use Rattle.host_ledger.specs.View.{HostView}
@@ -21,8 +21,8 @@ use Rattle.explain.specs.declared.explained.Explanation.{Explanation}
 
 -- ---- what is reported of a turn
 
--- The report of a turn: its line, as a replay prints it, and the reason for a refusal. The reason is the step that the
--- build asked for, with its checks up to the first that fails.
+-- The report of a turn, with the line that a replay prints and the reason for a refusal. The reason is the step that
+-- the build asked for, with its checks up to the first that fails.
 pub record TurnReport : Type 0 where
   pub line : List ℕ
   pub reason : Option (Step × List Check)
@@ -76,7 +76,7 @@ pub record IsExplainedStep (gives_up : Bool) (host : HostView) (build : ℕ) (pl
   pub moved : after ≡ moved_on gives_up answer left
   pub reported : report ≡ record { line = turn_line build step answer; reason = reason_of_step host build place step answer }
 
--- A turn of the build leads from one position to the other, and this is its report.
+-- A turn of the build leads from the position `from` to `to`, and has this report.
 pub record IsExplainedTurn (plan : Plan) (from : Position) (build : ℕ) (to : Position) (report : TurnReport) : Type 0 where
   pub turn : Turn
   pub of_build : turn.build ≡ build

@@ -1,5 +1,5 @@
--- The statements that the first failed check determines how the host refuses an `undo`, `mark` or `back` step, an
--- abort's first turn, or a command by its own checks.
+-- The statements that the host refuses a step with the refusal of the first failed check among the host's own checks.
+-- The steps are `undo`, `mark`, `back`, an abort's first turn, and commands with refusals 1 to 6, 9, 10 or 12.
 use Rattle.std.specs.Prelude.{◌≡◌, ℕ, ◌+◌, nat_le, List, map, true, Option, Some, None}
 use Rattle.host_commands.specs.Checks.{Check as HostCheck, build_checks as host_build_checks, checks_of, first_that_holds}
 use Rattle.host_commands.specs.Needs.{tables_named}
@@ -19,7 +19,7 @@ use Rattle.explain.specs.Pages.{pages_named}
 use Rattle.explain.specs.Steps.{undo_checks, begin_checks, back_checks}
 use Rattle.explain.specs.declared.check.Check.{Check}
 
--- a check in the form that the host's definitions use: whether it fails, and its refusal
+-- a check as the pair that the host's definitions use: whether the check fails, and its refusal
 abbrev pub as_check : Check → HostCheck
 as_check check = (check.fails, check.refusal)
 

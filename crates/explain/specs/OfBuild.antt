@@ -44,7 +44,8 @@ checks_of_realm host build Either = []
 checks_of_realm host build NoneOf = record { fact = fact.Build (build_fact.NoRealm (rd_of build (world_of host))); fails = is_some (rd_of build (world_of host)); refusal = RealmThere } ∷ []
 checks_of_realm host build ARealm = record { fact = fact.Build (build_fact.Realm (rd_of build (world_of host))); fails = not (is_some (rd_of build (world_of host))); refusal = NoRealm } ∷ []
 
--- if the command has a reverse, the check that the build has fewer than 512 open operations; a failure gives refusal 9
+-- if the command's operation has a reverse, the check that the build has fewer than 512 open operations; a failure
+-- gives refusal 9
 abbrev pub checks_of_journal : HostView → ℕ → Bool → List Check
 checks_of_journal host build true = record { fact = fact.Room (room_fact.Journal (length (open_of host build))); fails = nat_le 512 (length (open_of host build)); refusal = JournalFull } ∷ []
 checks_of_journal host build false = []

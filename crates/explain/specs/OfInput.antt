@@ -1,5 +1,4 @@
--- The checks of pages, IPA granules, levels and counts that give RMI_ERROR_INPUT if they fail. RMM 1.0, RMI command
--- conditions.
+-- Checks that fail with RMI_ERROR_INPUT, on pages, IPA granules, levels and counts. RMM 1.0, RMI command conditions.
 use Rattle.std.specs.Prelude.{ℕ, ◌+◌, ◌-◌, ◌/◌, ◌%◌, ◌==◌, nat_le, Bool, true, false, not, ◌&&◌, ◌||◌, Option, Some, option_map, unwrap_or, if◌then◌else◌}
 use Rattle.granule_addr.specs.Ipa.{is_protected_at}
 use Rattle.realm_model.specs.Machine.{RealmRow, cell_at}
@@ -45,7 +44,7 @@ page_undelegated host build page =
 
 -- ---- IPAs
 
--- the IPA width of a build's realm; 0 if it has none
+-- the IPA width of a build's realm; 0 if the build has no realm
 abbrev pub width_of : HostView → ℕ → ℕ
 width_of host build = unwrap_or (option_map (λ (realm : RealmRow). realm.root.width) (row_of (world_of host) build)) 0
 
@@ -60,7 +59,7 @@ table_level level = input_check (fact.Input (input.Level level)) (not (level == 
 abbrev pub table_start : ℕ → ℕ → Check
 table_start ipa level = input_check (fact.Input (input.Start ipa level)) (not (ipa % (if level == 2 then 262144 else 512) == 0))
 
--- the check that the number of pages to make RAM is from 1 to 512
+-- the check that the number of IPA granules whose RIPAS is set to RAM is from 1 to 512
 abbrev pub run_count : ℕ → Check
 run_count count = input_check (fact.Input (input.Count count)) (not (nat_le 1 count && nat_le count 512))
 

@@ -68,7 +68,7 @@ width_check width = input_check (fact.Realm (realm_fact.Width width)) (not (is_w
 abbrev pub apart_check : ℕ → List ℕ → Check
 apart_check rd tables = input_check (fact.Realm realm_fact.Apart) (is_in rd tables)
 
--- the checks of the starting tables, except those of their granules' states
+-- the checks of the starting tables, except the checks of their granules' states
 abbrev pub start_checks : ℕ → List ℕ → List Check
 start_checks rd tables =
     input_check (fact.Realm realm_fact.Adjacent) (not (are_adjacent tables))

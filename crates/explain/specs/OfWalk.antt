@@ -19,7 +19,7 @@ rtt_check asks fails level = record { fact = fact.Walk asks; fails = fails; refu
 
 -- ---- the level, the state and the granule of the row at which a walk ends
 
--- the level of the row at which a walk ends; 0 without a row
+-- the level of the row at which a walk ends; 0 if there is no such row
 abbrev pub level_of : Option RowView → ℕ
 level_of row = unwrap_or (option_map (λ (r : RowView). r.level) row) 0
 
@@ -69,11 +69,11 @@ entry_leads host build ipa =
     let granule = granule_of_row (row_at (world_of host) build ipa 3) in
     input_check (fact.Walk (walk.Leads granule)) (is_none granule)
 
--- the walk of an IPA granule to level 3 ends at an UNASSIGNED entry
+-- the walk of an IPA granule towards level 3 ends at an UNASSIGNED entry
 abbrev pub is_free_entry : HostView → ℕ → ℕ → Bool
 is_free_entry host build ipa = is_unassigned_entry (state_of (row_at (world_of host) build ipa 3))
 
--- for each of `count` IPA granules, from `ipa` on, the walk to level 3 ends at an UNASSIGNED entry
+-- for each of `count` IPA granules, from `ipa` on, the walk towards level 3 ends at an UNASSIGNED entry
 abbrev pub are_free : HostView → ℕ → ℕ → ℕ → Bool
 are_free host build ipa count = list_all (is_free_entry host build) (range_with_len ipa count)
 

@@ -5,8 +5,8 @@ use Rattle.host_commands.specs.Needs.{operands, tables_named}
 use Rattle.host_commands.specs.declared.cmd.Cmd.{Cmd}
 use Rattle.host_commands.specs.declared.cmd.Cmd.TheVariants.{Realm}
 
--- the number of starting tables that a Realm command names, by its IPA width; 1 if the last page number would exceed 16
--- bits
+-- the number of starting tables that a Realm command names for an IPA width; 1 if the page number of the last table
+-- would exceed 16 bits
 abbrev pub tables_within : ℕ → ℕ → ℕ
 tables_within root width = if nat_le (root + tables_named width) 65536 then tables_named width else 1
 

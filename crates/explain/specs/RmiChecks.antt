@@ -1,4 +1,4 @@
--- A check of the RMM, made of a required fact, whether the check fails, and the RMI result for a failure.
+-- A check of the RMM, with the required fact, whether the check fails, and the RMI result of a failure.
 use Rattle.std.specs.Prelude.{Bool}
 use Rattle.host_commands.specs.declared.refusal.Refusal.TheVariants.{Rmi}
 use Rattle.realm_model.specs.declared.rmi.Rmi as answer

@@ -1,4 +1,5 @@
--- The checks of a step's turn, in ascending order of their refusal numbers.
+-- The checks that a step of a plan must pass in the next turn of its build, in ascending order of their refusal
+-- numbers.
 use Rattle.std.specs.Prelude.{ℕ, ◌==◌, nat_lt, List, [], ◌∷◌, ◌++◌, length, Bool, true, false, Option, Some, None, Result, Err, if◌then◌else◌}
 use Rattle.realm_model.specs.Running.{running_count}
 use Rattle.realm_model.specs.World.{realm_of}
@@ -19,7 +20,8 @@ use Rattle.explain.specs.declared.check.Check.{Check}
 
 -- ---- an undo
 
--- the checks of an undo: the build exists, it has an open operation, and the newest one did not create a RUNNING REC
+-- the checks of an undo: the build exists, it has an open operation, and the newest open operation did not create a REC
+-- that is RUNNING
 abbrev pub undo_checks : HostView → ℕ → List Check
 undo_checks host build =
     build_there host build
@@ -60,8 +62,8 @@ back_checks host build (Some mark) =
 
 -- ---- the turn of a step
 
--- The checks of a step's turn. The first turn of an abort or of a way back has checks of its own; each later turn
--- is an undo.
+-- The checks that a step of a plan must pass in the next turn of its build. The first turn of an abort or a `back` has
+-- checks of its own; each later turn is an undo.
 unfoldable pub step_checks : HostView → ℕ → PlanCursor → Step → List Check
 step_checks host build place (Ask cmd) = command_checks host build cmd
 step_checks host build place Undo = undo_checks host build

@@ -41,8 +41,8 @@ pub record AppendsPassed (count : ℕ) (old new : List ℕ) : Type 0 where
 abbrev pub earlier_checks : List Check → List Check
 earlier_checks checks = take (length checks - 1) checks
 
--- The text consists of the error line, the help line, and the line with the number of checks that passed. If `all`,
--- each of these checks has a line too.
+-- The text is the error line, the help line, the line that counts the passed checks and, if `all` is true, a line for
+-- each passed check.
 pub record AreReasonLines (reason : Explanation) (all : Bool) (text : List ℕ) : Type 0 where
   pub sentences : List (List ℕ)
   pub each : length sentences ≡ (if all then length (earlier_checks reason.checks.items) else 0)

@@ -20,8 +20,8 @@ pub enum Fact {
     Walk(WalkFact),
 }
 
-/// A check that a step of a plan must pass: the required fact, whether the check fails, and the refusal that a failure
-/// gives.
+/// A check that a step of a plan must pass, with the required fact, whether the check fails, and the refusal that a
+/// failure gives.
 #[derive(Clone, Copy)]
 pub struct Check {
     pub fact: Fact,

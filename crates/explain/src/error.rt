@@ -28,7 +28,7 @@ fn failure_name(step: &Step, check: &Check) -> Phrase {
     }
 }
 
-/// Appends the error message for a failed check: its words, then the name of the refusal in parentheses. For a `fill`
+/// Appends the error message for a failed check, which ends with the name of the refusal in parentheses. For a `fill`
 /// or `peek` of a page in another state, the hardware's fault takes the name's place.
 pub(crate) fn push_error(
     text: &mut String,

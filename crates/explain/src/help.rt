@@ -12,7 +12,7 @@ use page_arena::PageStore;
 use realm_host::{GranuleState, Host};
 use std::alloc::AllocError;
 
-/// The help message for a failed check of a step: words, the steps that it proposes, and words after these. Without
+/// The help message for a failed check of a step, with proposed steps, and words before and after the steps. Without
 /// steps and words there is no help.
 #[derive(Clone, Copy)]
 pub(crate) struct Help {

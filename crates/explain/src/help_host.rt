@@ -1,4 +1,4 @@
-//! The help for a step that the host or its page store refuses, without the RMM.
+//! The help for a step that the host or its page store refuses without asking the RMM.
 use crate::help::Help;
 use crate::host_facts::{BuildFact, RoomFact, UndoFact};
 use crate::of_block::has_block;

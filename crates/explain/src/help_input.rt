@@ -13,8 +13,8 @@ use realm_host::{GranuleState, Host};
 
 // ---- pages
 
-/// Proposes another page of the build: a DELEGATED page or, if there is none, a page to delegate first. Pages that the
-/// refused step names are left out. The phrase is empty if no page remains.
+/// Proposes another page of the build, either a DELEGATED page or, if there is none, a page to delegate first. Pages
+/// that the refused step names are left out. The phrase is empty if no page remains.
 pub(crate) fn other_page<S: PageStore>(host: &Host<S>, build: BuildId, step: &Step) -> Phrase {
     if let Some(page) = first_other(host, build, step, GranuleState::Delegated) {
         return one("use another page: page {} is DELEGATED", page as u64);

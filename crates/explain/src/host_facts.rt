@@ -1,13 +1,13 @@
-//! Facts that the host or its page store checks, without the RMM.
+//! Facts that the host or its page store checks without asking the RMM.
 use granule_addr::{Gran, Vmid};
 
-/// A required fact about a build or a block order; if it does not hold, the host gives one of refusals 1 to 6
+/// A required fact about a build or a block order. If the fact does not hold, the host gives one of refusals 1 to 6
 /// (`NoBuild` to `NoRealm`).
 #[derive(Clone, Copy)]
 pub enum BuildFact {
     /// Requires that the build exists. The value is the number of builds of the host.
     There(u8),
-    /// Requires that the build is not aborting.
+    /// Requires that the build is not in abort.
     NotAborting,
     /// Requires that the order of a block is at most 9. The value is the order.
     Order(u8),
@@ -25,12 +25,11 @@ pub enum BuildFact {
     NoRealm(Option<Gran>),
 }
 
-/// A required fact about free capacity, such as a free VMID; if it does not hold, the host gives one of refusals 9 to
-/// 12 (`JournalFull` to `NoVmid`).
+/// A required fact about free capacity, such as a free VMID. If the fact does not hold, the host gives one of refusals
+/// 9 to 12 (`JournalFull` to `NoVmid`).
 #[derive(Clone, Copy)]
 pub enum RoomFact {
-    /// Requires that the build has fewer than 512 open operations: reversible ones that are not undone yet. The value
-    /// is the number of open operations.
+    /// Requires that the build has fewer than 512 open operations. The value is the number of open operations.
     Journal(usize),
     /// Requires that the history has enough free entries for the build. The fields are the free and the needed number
     /// of entries.
@@ -48,12 +47,11 @@ pub enum RoomFact {
     },
 }
 
-/// A fact that an undo, an abort or a `back` step requires; if it does not hold, the host gives refusal 7
+/// A fact that an undo, an abort or a `back` step requires. If the fact does not hold, the host gives refusal 7
 /// (`NothingToUndo`) or 8 (`RecRunning`).
 #[derive(Clone, Copy)]
 pub enum UndoFact {
-    /// Requires that the build has a reversible operation that is not undone yet. The value is the number of open
-    /// operations.
+    /// Requires that the build has an open operation. The value is the number of open operations.
     Open(usize),
     /// Requires that the next operation to undo did not create a REC that is RUNNING.
     NewestIsNotRunning,

@@ -1,5 +1,5 @@
-//! Theorems that the first failed check determines how the host refuses an `undo`, `mark` or `back` step, an abort's
-//! first turn, or a command by its own checks.
+//! Theorems that the host refuses a step with the refusal of the first failed check among the host's own checks. The
+//! steps are `undo`, `mark`, `back`, an abort's first turn, and commands with refusals 1 to 6, 9, 10 or 12.
 ghost use Rattle.std.specs.Prelude.{ℕ, Option};
 ghost use Rattle.host_commands.specs.declared.cmd.Cmd.{Cmd};
 ghost use Rattle.host_ledger.specs.View.{HostView};
@@ -15,9 +15,9 @@ pub fn own_steps_decide()
     ensures back { (host : HostView) (build : ℕ) (mark : Option Mark) → ChecksDecideBack host build mark }
 {}
 
-/// Proves that the first of the host's own checks to fail determines the refusal of a command, for refusals 1 to 6, 9,
-/// 10 and 12. The host makes these checks before it calls the store or the RMM. The host gives none of these refusals
-/// if and only if no check fails. The page numbers of a `realm` command's starting tables have to be at most 65,535.
+/// Proves that the first failed check of a command decides which of refusals 1 to 6, 9, 10 and 12 the host gives. The
+/// checks are those that the host makes before it calls the store or the RMM. The host gives none of these refusals if
+/// and only if no check fails. The page numbers of a `realm` command's starting tables have to be at most 65,535.
 pub fn needs_decide()
     ensures { (host : HostView) (build : ℕ) (cmd : Cmd) → ChecksDecideNeeds host build cmd }
 {}

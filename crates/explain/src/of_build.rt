@@ -1,4 +1,4 @@
-//! Checks that a host performs before it calls the page store or the RMM; a failure gives one of refusals 1 to 6, 9, 10
+//! Checks that a host performs before it calls the page store or the RMM. A failure gives one of refusals 1 to 6, 9, 10
 //! and 12.
 ghost use Rattle.std.specs.Prelude.{◌≡◌, ◌++◌, [], OnOk, map};
 ghost use Rattle.std.specs.List.{cons_option};
@@ -25,7 +25,7 @@ pub(crate) fn build_there<S: PageStore>(host: &Host<S>, build: BuildId) -> Check
     }
 }
 
-/// Creates the check that the build is not aborting; a failure gives refusal 2 (`Aborting`).
+/// Creates the check that the build is not in abort; a failure gives refusal 2 (`Aborting`).
 pub(crate) fn not_aborting<S: PageStore>(host: &Host<S>, build: BuildId) -> Check
     ensures { result ≡ not_aborting host.now build }
 {
@@ -36,7 +36,7 @@ pub(crate) fn not_aborting<S: PageStore>(host: &Host<S>, build: BuildId) -> Chec
     }
 }
 
-/// Creates the checks that the build exists and that it is not aborting; their failures give refusals 1 and 2
+/// Creates the checks that the build exists and that it is not in abort; their failures give refusals 1 and 2
 /// (`NoBuild` and `Aborting`).
 pub(crate) fn checks_of_build<S: PageStore>(host: &Host<S>, build: BuildId) -> [Check; 2]
     ensures { result ≡ checks_of_build host.now build }

@@ -1,4 +1,4 @@
-//! The checks that a plan's step must pass in its next turn.
+//! The checks that a step of a plan must pass in the next turn of its build.
 ghost use Rattle.std.specs.Prelude.{◌≡◌, ◌∷◌, ◌++◌, [], OnOk, IfOk, Some};
 ghost use Rattle.explain.specs.Steps.{undo_checks, running_of, begin_checks, mark_checks, back_checks, step_checks};
 
@@ -123,8 +123,8 @@ fn add_step<S: PageStore>(
     }
 }
 
-/// Returns, in sequence, the checks that a plan's step must pass in its next turn. The cursor `place` has the number of
-/// undos that are left of the step, and the build's mark.
+/// Returns, in sequence, the checks that a step of a plan must pass in the next turn of its build. The cursor `place`
+/// has the number of undos that are left of the step, and the build's mark.
 pub fn step_checks<S: PageStore>(
     alloc: Global,
     host: &Host<S>,

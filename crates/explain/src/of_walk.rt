@@ -124,7 +124,7 @@ pub(crate) fn entry_leads<S: PageStore>(host: &Host<S>, build: BuildId, ipa: u32
     input_check(Fact::Walk(WalkFact::Leads(granule)), granule.is_none())
 }
 
-// Whether the walk of an IPA granule to level 3 ends at an UNASSIGNED entry.
+// Whether the walk of an IPA granule towards level 3 ends at an UNASSIGNED entry.
 fn is_free_entry<S: PageStore>(host: &Host<S>, build: BuildId, ipa: u32) -> bool
     ensures { result ≡ is_free_entry host.now build ipa }
 {
@@ -132,7 +132,7 @@ fn is_free_entry<S: PageStore>(host: &Host<S>, build: BuildId, ipa: u32) -> bool
     matches!(found, Some(EntryState::Unassigned))
 }
 
-// Whether, for each of the `count` IPA granules from `ipa` on, the walk to level 3 ends at an UNASSIGNED entry.
+// Whether, for each of the `count` IPA granules from `ipa` on, the walk towards level 3 ends at an UNASSIGNED entry.
 fn are_free<S: PageStore>(host: &Host<S>, build: BuildId, ipa: u32, count: u16) -> bool
     requires { ipa + count ≤ 4294967296 }
     ensures { result ≡ are_free host.now build ipa count }
@@ -145,7 +145,7 @@ fn are_free<S: PageStore>(host: &Host<S>, build: BuildId, ipa: u32, count: u16) 
     true
 }
 
-/// Creates the check that, for each of the `count` IPA granules from `ipa` on, the walk to level 3 ends at an
+/// Creates the check that, for each of the `count` IPA granules from `ipa` on, the walk towards level 3 ends at an
 /// UNASSIGNED entry.
 pub(crate) fn entries_free<S: PageStore>(
     host: &Host<S>,

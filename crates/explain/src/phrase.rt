@@ -1,4 +1,4 @@
-//! Phrases: message texts with a gap, such as `{}`, in place of each value.
+//! Phrases: message texts with gaps, and the values that fill the gaps.
 //!
 //! A function that chooses words returns a phrase, and `Phrase::push` writes it. So the choice is an expression over
 //! the numbers of a check, and cannot fail.
@@ -12,7 +12,7 @@ use page_arena::PageStore;
 use realm_host::{EntryState, GranuleState, Host, RealmState, RecState};
 use std::alloc::AllocError;
 
-/// A letter in place of a page that a build lacks.
+/// A letter that a message has in place of a page's number, if the message cannot give the number.
 #[derive(Clone, Copy)]
 pub(crate) enum Letter {
     P,
@@ -34,7 +34,7 @@ impl Letter {
 #[derive(Clone, Copy)]
 pub(crate) enum Value {
     Number(u64),
-    /// A letter in place of a page.
+    /// A placeholder letter for the number of a page.
     Letter(Letter),
     /// The state of a granule, or `None` if the granule is missing. The next three kinds of value are the same for the
     /// state of a realm, a REC and a table entry.

@@ -1,4 +1,4 @@
-//! Functions that read, from a host or a step, the values of a message that the failed check does not contain.
+//! Functions that read further values for a message, beside those of the failed check, from a host or a step.
 use crate::of_block::has_block;
 use crate::operands::pages_named;
 use arrayvec::ArrayVec;
@@ -195,7 +195,7 @@ pub(crate) fn next_rec<S: PageStore>(host: &Host<S>, build: BuildId) -> u16 {
     }
 }
 
-/// A choice of a realm's RECs: all of them, or only the RUNNING ones.
+/// A choice of a realm's RECs, either all of them or only the RUNNING ones.
 #[derive(Clone, Copy)]
 pub(crate) enum Recs {
     All,
@@ -219,8 +219,8 @@ pub(crate) fn has_rec<S: PageStore>(
     }
 }
 
-/// Counts the chosen RECs of a build's realm. Returns the count, and the highest number of such a REC. Both are 0 if
-/// there is none.
+/// Counts the RECs of a build's realm that the choice `recs` includes. Returns the count, and the highest number of
+/// such a REC. Both are 0 if there is none.
 pub(crate) fn count_of_recs<S: PageStore>(
     host: &Host<S>,
     build: BuildId,

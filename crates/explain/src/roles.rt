@@ -5,7 +5,7 @@ use realm_host::GranuleState;
 /// The role of a page that a step names.
 #[derive(Clone, Copy)]
 pub(crate) enum Role {
-    /// No role, as in a step that gives its pages none.
+    /// No role, as for the page of a `delegate` step.
     NoRole,
     Rd,
     StartingTable,

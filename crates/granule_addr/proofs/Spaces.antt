@@ -1,5 +1,4 @@
--- Proofs, for each IPA width, that the starting tables serve exactly the address space, and that half of it is
--- protected.
+-- Proofs that for each IPA width the starting tables cover exactly the address space, half of which is protected.
 use Rattle.std.proofs.Common.{◌≡◌, ◌+◌, ◌-◌, ◌*◌, ◌^◌, ◌≤◌, ℕ, true, sym, ap, ◌∙◌, arith}
 use Rattle.std.proofs.lemmas.Bool.{and_parts, leb-true}
 use Rattle.std.proofs.lemmas.Nat.{pow-add}

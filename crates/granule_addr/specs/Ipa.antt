@@ -1,7 +1,7 @@
 -- IPA widths, IPA granules, and the table entries that cover IPA granules. RMM 1.0, RTT and address space.
 use Rattle.std.specs.Prelude.{ℕ, ◌-◌, ◌*◌, ◌/◌, ◌%◌, ◌^◌, ◌==◌, ◌&&◌, Bool, nat_le, nat_lt, if◌then◌else◌}
 
--- a realm may have an IPA width of this number of bits; the range is this profile's own
+-- the number is an IPA width that a realm may have, in bits: 39 to 43 by this project's profile, and not by RMM 1.0
 abbrev pub is_width : ℕ → Bool
 is_width width = nat_le 39 width && nat_le width 43
 
@@ -26,7 +26,7 @@ is_protected_at ipa width = nat_lt ipa (2 ^ (width - 13))
 abbrev pub covered_count : ℕ → ℕ
 covered_count level = if level == 1 then 2 ^ 18 else (if level == 2 then 2 ^ 9 else 1)
 
--- the first IPA granule covered by the entry that covers the given IPA granule at the given level
+-- an IPA granule, rounded down to the first one that the same entry of the given level covers
 abbrev pub first_covered : ℕ → ℕ → ℕ
 first_covered level ipa = ipa / covered_count level * covered_count level
 

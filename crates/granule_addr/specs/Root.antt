@@ -8,15 +8,15 @@ use Rattle.granule_addr.specs.declared.width.Root.{Root}
 abbrev pub start_count : ℕ → ℕ
 start_count width = 2 ^ (width - 39)
 
--- the number of IPA granules that the starting tables of an address space serve
+-- the number of IPA granules that the starting tables cover, for an address space of the given width
 abbrev pub served_space : ℕ → ℕ
 served_space width = start_count width * served_count 1
 
--- for an IPA width that a realm may have, the starting tables serve all of the address space, and no more
+-- for an IPA width that a realm may have, the starting tables cover the whole address space, and no more
 abbrev pub ServesSpace : ℕ → Type 0
 ServesSpace width = is_width width ≡ true → served_space width ≡ space_of width
 
--- the granules of a realm's starting tables: adjacent ones, beginning with the root's first table
+-- the granules of a realm's starting tables: as many adjacent granules as the realm's IPA width needs
 unfoldable pub starting_tables : Root → List ℕ
 starting_tables root = range_with_len root.first (start_count root.width)
 

@@ -1,4 +1,4 @@
--- Sets of VMIDs: for each number, whether it is used. RMM 1.0, VMID.
+-- Sets of VMIDs as lists of flags, which say for each number whether it is used. RMM 1.0, VMID.
 use Rattle.std.specs.Prelude.{◌≡◌, ◌≢◌, ℕ, Bool, false, List, slice_index_or}
 
 -- whether a VMID is used; a number without a flag is not used

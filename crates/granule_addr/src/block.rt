@@ -1,4 +1,4 @@
-//! Blocks of granules, and their orders.
+//! Blocks of granules, with the order and the buddy of a block.
 ghost use Rattle.std.specs.Prelude.{◌≡◌, ◌*◌, ◌/◌, ◌^◌, ◌<◌, ◌≤◌, nat_le, Some, None, if◌then◌else◌, bit_xor};
 
 use crate::Gran;
@@ -53,8 +53,8 @@ pub fn align_down(number: u16, order: Order) -> u16
     number / size * size
 }
 
-/// Returns the number of the first granule of a block's buddy. The number differs from `first` in bit `order` alone. A
-/// machine may lack that granule.
+/// Returns the first granule number of a block's buddy, which is the other half of the aligned block of twice the size.
+/// The number differs from `first` in bit `order` alone. A machine may lack a granule with that number.
 pub fn buddy_of(first: Gran, order: Order) -> u16
     ensures { result ≡ bit_xor first (2 ^ order) }
 {

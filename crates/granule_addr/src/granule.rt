@@ -23,8 +23,8 @@ impl Model for Gran {
 }
 
 impl Gran {
-    /// Creates a granule number for a machine of `pages` granules. Returns `None` if the machine does not have granule
-    /// `number`.
+    /// Creates a granule number, if `number` is below 4,096 and a machine of `pages` granules has that granule. Returns
+    /// `None` otherwise.
     pub fn new(number: u16, pages: u16) -> Option<Gran>
         ensures { result ≡ (if nat_lt number 4096 && nat_lt number pages then Some number else None) }
     {

@@ -1,4 +1,4 @@
-//! The numbers of builds and RECs, and the VMIDs of realms.
+//! Types for the number of a build, the number of a REC, and the VMID of a realm.
 ghost use Rattle.std.specs.Prelude.{◌≡◌, ◌<◌, ◌≤◌, nat_lt, nat_le, Some, None, if◌then◌else◌};
 
 use std::marker::Model;

@@ -1,4 +1,5 @@
-//! IPA granules: whether they are protected, and which starting table and table entries cover them.
+//! IPA granule numbers, and functions that say whether an IPA granule is protected, and which starting table and
+//! entries cover it.
 ghost use Rattle.std.specs.Prelude.{◌≡◌, ◌↔◌, ◌<◌, ◌&&◌, IsTrue, Some, None, if◌then◌else◌};
 ghost use Rattle.granule_addr.specs.Ipa.{is_width, is_in_space, is_protected_at, entry_index, start_index, widest_space};
 
@@ -23,8 +24,8 @@ impl Model for IpaGran {
 }
 
 impl IpaGran {
-    /// Creates an IPA granule number for an address space. Returns `None` if realms have no address space of `width`
-    /// bits, or that space does not have IPA granule `number`.
+    /// Creates an IPA granule number, if an address space of `width` bits has IPA granule `number`. Returns `None` if
+    /// it does not, or if realms have no address space of `width` bits.
     pub fn new(number: u32, width: u8) -> Option<IpaGran>
         ensures { result ≡ (if is_width width && is_in_space number width then Some number else None) }
     {

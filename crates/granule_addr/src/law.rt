@@ -2,7 +2,7 @@
 ghost use Rattle.std.specs.Prelude.{ℕ};
 ghost use Rattle.granule_addr.specs.Root.{ServesSpace};
 
-/// A realm's starting tables cover exactly the IPA granules of its address space.
+/// Proves that a realm's starting tables cover exactly the IPA granules of its address space.
 pub fn starting_tables_serve_the_space()
     ensures { (width : ℕ) → ServesSpace width }
 {}

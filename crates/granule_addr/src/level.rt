@@ -37,7 +37,7 @@ impl Level {
         Level(1)
     }
 
-    /// Returns the level whose entries cover one page each.
+    /// Returns level 3, whose entries cover one IPA granule each.
     pub fn last() -> Level
         ensures { result ≡ 3 }
     {

@@ -1,5 +1,5 @@
-//! Range-checked number types for granules, the order of a block, IPA granules, IPA widths, RTT levels, page offsets,
-//! VMIDs, RECs and builds.
+//! Types for numbers in a checked range: those of granules, IPA granules, RECs and builds, the order of a block, IPA
+//! widths, RTT levels, page offsets and VMIDs.
 //!
 //! Each type keeps its range: each value of it is in range. Granules, IPA granules and pages are counted in units of 4
 //! KiB. In contracts, a value of a number type is its number.

@@ -1,4 +1,4 @@
-//! IPA widths of realms, and the starting tables that they need.
+//! IPA widths of realms, and the starting tables that each width needs.
 ghost use Rattle.std.specs.Prelude.{◌≡◌, ◌-◌, ◌^◌, ◌<◌, ◌≤◌, Some, None, if◌then◌else◌};
 ghost use Rattle.granule_addr.specs.Ipa.{is_width};
 ghost use Rattle.granule_addr.specs.Root.{start_count};

@@ -1,5 +1,5 @@
--- Proofs about the preparation of a command or an undo: it gives the refusal of the host's own checks if one fails.
--- Otherwise, it gives the actions, or a refusal that needs no RMM call.
+-- Proofs that `actions_asked` and `actions_back` give the refusal of the host's own checks if one of these checks
+-- fails. If none fails, the two functions give the actions, or a refusal that needs no RMM call.
 use Rattle.std.proofs.Common.{◌≡◌, ℕ, ◌<◌, Bool, true, false, List, Option, Some, None, Result, Ok, Err, sym, ap, ◌∙◌}
 use Rattle.std.specs.Prelude.{nat_lt, option_and_then}
 use Rattle.std.specs.List.{last_or}
@@ -29,7 +29,7 @@ module _ (place : Place) (host : HostView) (build run : ℕ) (cmd : Cmd) where
       → actions_asked place host build run cmd ≡ unless_refused refusal (actions_or_refusal place host build run cmd (act_before host build cmd))
   asked_by refusal e = ap (λ (o : Option Refusal). unless_refused o (actions_or_refusal place host build run cmd (act_before host build cmd))) e
 
-  -- if one of the host's own checks fails, the preparation of the command gives the refusal of the first that fails
+  -- if one of the host's own checks fails, `actions_asked` gives the refusal of the first check that fails
   pub asked_refused : (refusal : Refusal) → first_that_holds (checks_of (summary_of host) build cmd) ≡ Some refusal → Err refusal ≡ actions_asked place host build run cmd
   asked_refused refusal e = sym (asked_by (Some refusal) e)
 
@@ -37,7 +37,7 @@ module _ (place : Place) (host : HostView) (build run : ℕ) (cmd : Cmd) where
   act_found granules found =
       ap (λ (gs : List ℕ). act_of cmd gs (allocated_before host build)) (sym (named_are (λ page. granule_of_page host build page) (operands cmd) granules found))
 
-  -- if none of the host's own checks fails, the preparation gives the actions for the command's operation, or a refusal
+  -- if none of the host's own checks fails, `actions_asked` gives the actions for the command's operation, or a refusal
   -- that needs no RMM call
   pub asked_passed : (granules : List ℕ) (act : Option Act) (result : Result (ArrayVec HostAction) Refusal)
       → first_that_holds (checks_of (summary_of host) build cmd) ≡ None → AreFound (summary_of host) build cmd granules

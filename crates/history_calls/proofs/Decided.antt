@@ -1,5 +1,5 @@
--- Proofs that the host gives each refusal that is found before any RMM call, and accepts a command without RMM calls if
--- actions are prepared for it.
+-- Proofs that the host refuses what `actions_asked` refuses, with the same refusal, and accepts a Take, Fill, Peek or
+-- Exit for which `actions_asked` gives actions.
 use Rattle.std.proofs.Common.{◌≡◌, ℕ, Bool, true, false, cond, not, List, [], ◌∷◌, map, Option, Some, None, Result, Ok, Err, refl, sym, ap, ◌∙◌}
 use Rattle.std.specs.Prelude.{option_map, option_and_then}
 use Rattle.std.specs.List.{filter_map, cons_option}
@@ -39,12 +39,12 @@ use Rattle.realm_host.specs.Refusals.{last_checks, no_block, refused_by, refusal
 use Rattle.history_calls.specs.Prepared.{allocated_before, act_before, access_refusal, entry_refusal, exit_refusal, unless_refused, without_act}
 use Rattle.history_calls.specs.Prepared.{actions_of_act, actions_or_refusal, actions_asked, makes_no_call}
 
--- the refusal in a result
+-- the refusal if the result is one, or None if the result is a list of actions
 abbrev pub error_in : Result (ArrayVec HostAction) Refusal → Option Refusal
 error_in (Ok actions) = None
 error_in (Err refusal) = Some refusal
 
--- the refusal of an outcome
+-- the host's refusal if an outcome is an error, or None if the outcome is a success
 abbrev pub decision : Outcome → Option Refusal
 decision outcome = first_that_holds (refused_by outcome)
 
@@ -70,7 +70,7 @@ rec_in realm number =
 abbrev row_in : Option Seen → Option RealmRow
 row_in realm = option_and_then (λ (rd : Seen). rd.cell.descriptor) realm
 
--- the refusal of a REC exit that is found before any RMM call, if any, is that of the exit's outcome
+-- `exit_refusal` of a REC is the refusal of the REC's exit, or None if the exit succeeds
 rec_exit_decided : (rec : Option RecRow) (number : ℕ) (after : RecRow → List Update) (actions : ArrayVec HostAction)
     → error_in (unless_refused (exit_refusal (option_map (λ (rec : RecRow). (rec.granule, own_attributes number rec)) rec)) (Ok actions))
     ≡ decision (elim rec [ Some rec ↦ check (not (is_ready rec.state)) error_rec (Ok (after rec)) | None ↦ Err error_input ])
@@ -98,7 +98,7 @@ exit_decided (Some rd) number actions = at rd.cell.descriptor
     at None = refl
     at (Some realm) = rec_exit_decided (get realm.recs number) number (λ rec. put_rec rd realm number (record rec { state = Ready }) ∷ []) actions
 
--- a command on a REC that does not exist is an input error
+-- if `entry_refusal` gives a refusal for a REC, the outcome of each command on that REC is the same refusal
 entry_decided : (realm : Option Seen) (number : ℕ) (f : Seen → RealmRow → RecRow → Outcome) (actions : ArrayVec HostAction) (refusal : Refusal)
     → error_in (unless_refused (entry_refusal (rec_in (row_in realm) number)) (Ok actions)) ≡ Some refusal
     → decision (on_realm realm (λ rd. with_realm rd (λ row. with_rec row number (λ rec. f rd row rec)))) ≡ Some refusal
@@ -128,11 +128,12 @@ module _ (place : Place) (host : HostView) (build run : ℕ) where
   abbrev refusal_before : Cmd → Option Refusal
   refusal_before cmd = error_in (actions_or_refusal place host build run cmd (act_before host build cmd))
 
-  -- the refusal of the host's last checks
+  -- the refusal, if any, by the last check of a command: for lack of a block if the command is a Take, and by the RMM
+  -- otherwise
   abbrev last_refusal : Cmd → Option Refusal
   last_refusal cmd = first_that_holds (last_checks host build cmd)
 
-  -- the outcome of an operation on granules
+  -- the outcome of the given operation with the given granules, or an input error if there is no operation
   abbrev outcome : Option Act → List ℕ → Outcome
   outcome act granules =
       outcome_of_act host.limits (used_vmids (world_of host).machine) act (realm_of build (world_of host)) (map (seen (world_of host).machine) granules)
@@ -180,7 +181,7 @@ module _ (place : Place) (host : HostView) (build run : ℕ) where
       at true e = entry_decided (realm_of build (world_of host)) number _ _ refusal e
       at false e = sym (entry_or_input (rec_in (row_in (realm_of build (world_of host))) number)) ∙ e
 
-  -- if a command other than a Take is refused because it has no operation, its outcome is the same refusal
+  -- if `actions_of_act` refuses a command other than a Take, the outcome of the command is the same refusal
   others_decided : (cmd : Cmd) (act : Option Act) (granules : List ℕ) → without_act cmd ≡ Err (Rmi error_input) → (refusal : Refusal)
       → error_in (actions_of_act place host build run cmd act) ≡ Some refusal → decision (outcome act granules) ≡ Some refusal
   others_decided cmd (Some act) granules is refusal e = cc
@@ -197,7 +198,7 @@ module _ (place : Place) (host : HostView) (build run : ℕ) where
   decided cmd refusal e = others_decided cmd (act_before host build cmd) (granules_named host build cmd) refl refusal e
 
   module _ (cmd : Cmd) where
-    -- the refusal of a prepared command, if any, given the refusal by the host's own checks, if any
+    -- the refusal, if any, that `actions_asked` gives if `first` is the result of the host's own checks
     prepared_by : Option Refusal → Option Refusal
     prepared_by first = error_in (unless_refused first (actions_or_refusal place host build run cmd (act_before host build cmd)))
 
@@ -211,8 +212,8 @@ module _ (place : Place) (host : HostView) (build run : ℕ) where
         at None is =
             first_passes (checks_of (summary_of host) build cmd) (last_checks host build cmd) is ∙ decided cmd refusal (sym (ap prepared_by is) ∙ ap error_in e)
 
-    -- if the refusal found before any RMM call is that of the host's last checks, the prepared command is refused
-    -- exactly as the host refuses it
+    -- if `refusal_before` and `last_refusal` agree on a command, `actions_asked` refuses the command exactly as the
+    -- host does
     alike : refusal_before cmd ≡ last_refusal cmd → error_in (actions_asked place host build run cmd) ≡ refusal_of host build (Ask cmd)
     unfolding refusal_of prepared_by
     alike last = at (first_that_holds (checks_of (summary_of host) build cmd)) refl

@@ -1,5 +1,5 @@
--- Proofs that a search of the leases decides whether a block is free, and that the check for a free block fails if and
--- only if the search finds none.
+-- Proofs that a search of the leases decides whether a block is free, and that the check `no_block` refuses a Take
+-- exactly if no block of its order is free.
 use Rattle.std.proofs.Common.{◌≡◌, ℕ, zero, suc, ◌+◌, ◌<◌, ◌≤◌, Bool, true, false, not, ◌&&◌, ◌||◌, List, [], ◌∷◌, length, Option, Some, None, refl, ap, ◌∙◌, subst, arith}
 use Rattle.std.specs.Prelude.{is_none, is_some, unwrap_or, slice_index_or}
 use Rattle.std.specs.List.{list_all, list_any, range_with_len}
@@ -53,7 +53,7 @@ none_past leases g past = ap (λ o. option_eq same_lease o (Some None)) (slice_g
 
 -- ---- the refusal of a take
 
--- whether a block of the order is free
+-- whether some block of the given order is free
 abbrev pub has_block : HostView → ℕ → Bool
 has_block host order = list_any (is_free_block (world_of host) order) (range_with_len 0 (length (world_of host).leases))
 

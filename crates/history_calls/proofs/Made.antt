@@ -14,7 +14,7 @@ use Rattle.realm_model.proofs.RealmOf.{IsAt, IsAt-realm_of}
 use Rattle.realm_model.proofs.StepSays.{step_is}
 use Rattle.history_calls.specs.Made.{machine_if_done, machine_after_calls, machine_after_events, LeadsToItsMachine}
 
--- if a realm's RD is in the machine, looking up its number there gives that RD again
+-- if a realm's RD is in the machine, looking up the RD's granule number there finds this RD
 seen_at_rd : (machine : Machine) (realm : Option Seen) → IsAt machine realm → option_map (seen machine) (option_map (λ (rd : Seen). rd.number) realm) ≡ realm
 seen_at_rd machine None there = refl
 seen_at_rd machine (Some rd) there = λ i. Some (record { number = rd.number; cell = there i })

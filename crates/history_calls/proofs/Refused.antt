@@ -81,7 +81,7 @@ in_space ipa width is =
     let less : 2 ^ (width - 13) ≤ 2 ^ (width - 12) = pow_mono {i = width - 13} {j = width - 12} (omega arith) in
     lt-ltb ipa (2 ^ (width - 12)) (omega arith)
 
--- the end of a walk in a realm
+-- the row where the walk of an IPA granule in a realm ends, even if the realm does not have the IPA granule
 abbrev ends : RealmRow → ℕ → ℕ → Option RowView
 ends row ipa level = option_map (row_view ipa) (walk row.rows ipa level)
 
@@ -110,8 +110,8 @@ module _ (rows : Rows) (ipa : ℕ) where
       at None = refl
       at (Some end) = by end (end.level == above) refl (not (is_table end.row))
 
-  -- `run_refusal` is the refusal of an outcome that tests the entry where a walk ends at level 3, if `free` is the
-  -- result of that test
+  -- if `free` is the result of `test` for a walk's entry of level 3, `run_refusal` gives the model's refusal of a
+  -- command that requires `test` of that entry
   run : (free : Bool) (test : Row → Bool) (f : Row → List Update)
       → ((end : Walk) → walk rows ipa 3 ≡ Some end → (end.level == 3) ≡ true → free ≡ test end.row)
       → run_refusal free (option_map (row_view ipa) (walk rows ipa 3)) ≡ refusal_in (with_row rows ipa 3 (λ row. check (test row) (error_rtt 3) (Ok (f row))))
@@ -192,8 +192,8 @@ all_of test (y ∷ xs) x = ap (λ t. test y && t) (all_of test xs x) ∙ swapped
     swapped false true c = refl
     swapped false false c = refl
 
--- if a test agrees with `passes` at each IPA granule of a run, it holds for all of them exactly if each has an
--- UNASSIGNED entry of level 3
+-- if `test` says of each IPA granule of a range whether its entry of level 3 is UNASSIGNED, `list_all test` and
+-- `all_rows is_unassigned` agree on that range
 runs : (rows : Rows) (test : ℕ → Bool) (ipa n : ℕ) → ((k : ℕ) → k < n → test (ipa + k) ≡ passes rows ipa (get rows (3, ipa + k)))
     → list_all test (range_with_len ipa n) ≡ all_rows is_unassigned rows 3 ipa n
 unfolding all_rows
@@ -205,7 +205,8 @@ runs rows test ipa (suc n) each =
     ∙ all_of test (range_with_len ipa n) (ipa + n)
     ∙ (λ i. (each n (omega arith) ∙ ap (λ k. passes rows ipa (get rows (3, ipa + k))) (sym (mul-one n))) i && runs rows test ipa n (λ k less. each k (omega arith)) i)
 
--- each IPA granule of a page run that begins in the protected half is in the address space
+-- if consecutive IPA granules of one table begin in the protected half, and the IPA width is valid, each of them is in
+-- the address space
 run_inside : (ipa count width k : ℕ) → is_width width ≡ true → (is_page_run ipa count && is_protected_at ipa width) ≡ true → k < count → is_in_space (ipa + k) width ≡ true
 run_inside ipa count width k wide is less =
     let both = and_parts (is_page_run ipa count) _ is in
@@ -436,7 +437,7 @@ module _ (host : HostView) (build : ℕ) where
   abbrev realm : Option Seen
   realm = realm_of build (world_of host)
 
-  -- the outcome of a command, by its operation and its granules
+  -- the outcome of the given operation with the given granules, or an input error if there is no operation
   abbrev outcome : Option Act → List ℕ → Outcome
   outcome act granules = outcome_of_act host.limits (used_vmids machine) act realm (map (seen machine) granules)
 
@@ -545,7 +546,7 @@ module _ (host : HostView) (build : ℕ) where
           none None = refl
           none (Some rec) = refl
 
-  -- in a legal history each realm has a width that realms may have
+  -- if the host's history is legal, the build's realm has a valid IPA width
   wide_rows : IsLegal host.limits host.history → (row : RealmRow) → row_in realm ≡ Some row → is_width row.root.width ≡ true
   wide_rows legal row there = at (realm_of build (world_of host)) refl
     where

@@ -37,8 +37,8 @@ plain_call call = host.Call call None
 abbrev pub with_x1 : Call → ℕ → HostAction
 with_x1 call x1 = host.Call call (Some x1)
 
--- The actions of the host and the guest for an event about a REC that runs or is to run. For a Poke, the REC is
--- interrupted and entered again, and then the guest writes the byte.
+-- The actions of the host and a guest for an event in which a REC is entered, exits or writes a byte; none for any
+-- other event. For a Poke, the REC is interrupted and entered again, and then the guest writes the byte.
 abbrev pub on_rec : ℕ → ℕ → Act → List HostAction
 on_rec rec run (Enter number) = host.Spin rec ∷ host.Enter rec run ∷ []
 on_rec rec run (Exit number) = host.Interrupt rec ∷ []

@@ -1,7 +1,7 @@
 -- The physical addresses of the granules of a history's machine, and of the host's own granules after them.
 use Rattle.std.specs.Prelude.{ℕ, ◌<◌, ◌≤◌, ◌+◌, ◌*◌, ◌^◌}
 
--- the location of a history's machine in memory: the address of its granule 0, and its number of granules
+-- the physical address range of a history's machine: the address of granule 0, and the number of granules
 pub record Place : Type 0 where
   pub base : ℕ
   pub pages : ℕ

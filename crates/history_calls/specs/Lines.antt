@@ -1,5 +1,5 @@
--- The lines of a trace for a host's actions: each has a question, then ` = ` and the answer. TRACES.md has their
--- grammar.
+-- The lines of a trace for a host's actions, each with the text of an action, then ` = ` and the answer. TRACES.md has
+-- their grammar.
 use Rattle.std.specs.Prelude.{ℕ, ◌+◌, ◌*◌, ◌==◌, nat_lt, Bool, true, false, if◌then◌else◌, List, [], ◌∷◌, ◌++◌, codes, Option, Some, None}
 use Rattle.std.specs.List.{flat_map}
 use Rattle.std.specs.Fmt.{decimal, digits}
@@ -115,7 +115,7 @@ question_text (host.Write rec ipa value) = codes "guest" ++ (then_hex rec ++ (co
 question_text (host.Spin rec) = codes "guest" ++ (then_hex rec ++ codes " spin")
 question_text (host.Saw rec) = codes "saw" ++ then_hex rec
 
--- the answer to an action that is done. A word that is loaded has the same byte eight times
+-- the answer to an action that is not refused. A word that is loaded has the same byte eight times
 abbrev pub done_text : HostAction → List ℕ
 done_text (host.Fill address granules value) = codes " = done"
 done_text (host.Load address byte) = codes " =" ++ then_hex (byte * 0x0101010101010101)
@@ -134,23 +134,23 @@ is_call (host.Call call x1) = true
 is_call (host.Enter rec run) = true
 is_call _ = false
 
--- the answer to an action: the refusal if there is one and the action is a call, otherwise the answer for an action
--- that is done
+-- the answer to an action: the refusal if there is one and the action is a call, otherwise the text that `done_text`
+-- gives
 abbrev pub answer_to : HostAction → Option Rmi → List ℕ
 answer_to action None = done_text action
 answer_to action (Some rmi) = if is_call action then refused_text rmi else done_text action
 
--- whether an action gets no line: it is the `spin` step of a guest whose REC is refused entry
+-- whether an action is the `spin` of a guest whose REC's entry is refused; such a `spin` gets no line
 abbrev pub is_step_left_out : HostAction → Option Rmi → Bool
 is_step_left_out (host.Spin rec) (Some rmi) = true
 is_step_left_out _ _ = false
 
--- the line for an action, given the refusal if there is one; empty for a guest's step that is left out
+-- the line for an action, given the refusal if there is one; empty for a guest's `spin` that is left out
 abbrev pub action_line : HostAction → Option Rmi → List ℕ
 action_line action refusal = if is_step_left_out action refusal then [] else question_text action ++ (answer_to action refusal ++ 10 ∷ [])
 
--- the `platform` line of a trace: the base address, the number of granules including the host's 66, and the number of
--- auxiliary granules of each REC
+-- the `platform` line of a trace: the base address, the number of granules, including 66 of the host's own, and the
+-- number of auxiliary granules of each REC
 abbrev pub platform_line : Place → ℕ → List ℕ
 platform_line place auxiliaries =
     codes "platform"
@@ -158,18 +158,19 @@ platform_line place auxiliaries =
 
 -- ---- parts of lines, as the code writes them
 
--- the text of a number after a space, in decimal or hexadecimal; empty if the number is absent
+-- a number in decimal or hexadecimal, with a space before it; empty if the number is absent
 abbrev pub number_text : Number → List ℕ
 number_text Absent = []
 number_text (Decimal n) = then_decimal n
 number_text (Hexadecimal n) = then_hex n
 
--- how an operand's value is written, by its place: not at all after the last operand, in decimal at the given place,
--- otherwise in hexadecimal
+-- operand `place` of a call as it is written: in decimal if `place` is `in_decimal`, otherwise in hexadecimal; absent
+-- if the command has fewer operands
 abbrev pub operand_number : ℕ → ℕ → ℕ → ℕ → Number
 operand_number count in_decimal place n = if nat_lt count place then Absent else if place == in_decimal then Decimal n else Hexadecimal n
 
--- the text of a call in registers, given its command's name, the count of its operands, and which operand is in decimal
+-- the text of a call whose operands are in registers, given the command's name, the number of operands, and which
+-- operand is in decimal
 abbrev pub form_text : List ℕ → ℕ → ℕ → Registers → List ℕ
 form_text name count in_decimal r =
     name ++ number_text (operand_number count in_decimal 1 r.x1) ++ number_text (operand_number count in_decimal 2 r.x2)

@@ -12,14 +12,15 @@ use Rattle.realm_model.specs.Step.{step, used_vmids}
 use Rattle.realm_model.specs.Update.{Outcome, machine_after_all}
 use Rattle.realm_model.specs.World.{World, opening, realm_of}
 
--- the RD of a build's realm, and the granule of the REC in it that an operation names
+-- the realm and the REC of an operation: the RD of the build's realm, and the granule of the REC that the operation
+-- names, if they exist
 abbrev pub subject_in : World → ℕ → Act → RealmAndRec
 subject_in world build act = record {
   realm = rd_of build world;
   rec = option_and_then (rec_granule (realm_of build world)) (rec_named act);
 }
 
--- the machine after a command, by its outcome; `None` if the command is refused
+-- the machine after a command with the given outcome; `None` if the outcome is a refusal
 abbrev pub machine_if_done : Outcome → Machine → Option Machine
 machine_if_done (Ok updates) machine = Some (machine_after_all updates machine)
 machine_if_done (Err rmi) machine = None

@@ -34,7 +34,8 @@ use Rattle.rmi_monitor.specs.Attributes.{RecAttributes}
 
 -- ---- an operation of a build
 
--- the realm of a build, and the REC in it that an operation names
+-- the realm and the REC of an operation: the RD of the build's realm, and the granule of the REC that the operation
+-- names, if they exist
 abbrev pub subject_of : HostView → ℕ → Act → RealmAndRec
 subject_of host build act = subject_in (world_of host) build act
 
@@ -62,7 +63,7 @@ abbrev pub is_peek : Cmd → Bool
 is_peek (Peek page offset) = true
 is_peek _ = false
 
--- Unless the command is a Peek, the prepared operation is the one that the host would perform.
+-- Unless the command is a Peek, the operation computed beforehand is the one that the host would perform.
 abbrev pub IsPreparedAsAsked : HostView → ℕ → Cmd → Type 0
 IsPreparedAsAsked host build cmd = is_peek cmd ≡ false → act_before host build cmd ≡ act_asked host build cmd
 
@@ -92,8 +93,8 @@ exit_refusal None = Some (Rmi error_input)
 abbrev pub state_of_leased : HostView → ℕ → ℕ → Option GranuleState
 state_of_leased host build page = option_map (λ g. (cell_at (world_of host).machine g).state) (granule_of_page host build page)
 
--- The refusal, if any, that is found without a call of the RMM, for a command that has passed the host's first checks.
--- A command refused in this way makes no call, or it names a REC that the realm does not have.
+-- The refusal, if any, that is found without a call of the RMM, for a command that has passed the host's own checks. A
+-- command refused in this way makes no call, or it names a REC that the realm does not have.
 abbrev pub refused_before : HostView → ℕ → Cmd → Option Refusal
 refused_before host build (Take order) = first_that_holds (no_block host order ∷ [])
 refused_before host build (Fill page value) = access_refusal (state_of_leased host build page)
@@ -138,7 +139,7 @@ makes_no_call (Peek page offset) = true
 makes_no_call (Exit number) = true
 makes_no_call _ = false
 
--- If actions are prepared for a command that makes no call of the RMM, the host does not refuse the command.
+-- If `actions_asked` gives actions for a command that makes no call of the RMM, the host does not refuse the command.
 abbrev pub IsDecidedBefore : Place → HostView → ℕ → ℕ → Cmd → Type 0
 IsDecidedBefore place host build run cmd =
     makes_no_call cmd ≡ true → (actions : ArrayVec HostAction) → actions_asked place host build run cmd ≡ Ok actions
@@ -146,7 +147,7 @@ IsDecidedBefore place host build run cmd =
 
 -- ---- an undo
 
--- the reverse of the newest operation that a build has open, if it has any
+-- the reverse of a build's newest open operation; None if the build has no open operation
 abbrev pub newest_back : HostView → ℕ → Option Act
 newest_back host build = option_and_then reverse_of (last_or None (open_of host build))
 
@@ -158,8 +159,9 @@ actions_of_back place host build None = Err NothingToUndo
 abbrev pub actions_back : Place → HostView → ℕ → Result (ArrayVec HostAction) Refusal
 actions_back place host build = unless_refused (refusal_of host build Undo) (actions_of_back place host build (newest_back host build))
 
--- A prepared undo agrees with the host's: it has the same refusal, or the actions for the operation that the host
--- records. If actions are prepared, the host does not refuse the undo.
+-- An undo computed beforehand agrees with the undo that the host performs. Both have the same refusal, or the actions
+-- computed are those for the operation that the host records. If `actions_back` gives actions, the host does not refuse
+-- the undo.
 pub record IsUndoPrepared (place : Place) (host : HostView) (build : ℕ) : Type 0 where
   pub refused : (refusal : Refusal) → refusal_of host build Undo ≡ Some refusal → actions_back place host build ≡ Err refusal
   pub performed : (act : Act) → refusal_of host build Undo ≡ None → IsActOf host build Undo act → actions_back place host build ≡ Ok (actions_for place host build 0 act)

@@ -80,7 +80,7 @@ rec_refusal host realm (rec ∷ auxiliaries) =
 abbrev pub end_in : Option RealmRow → ℕ → ℕ → Option RowView
 end_in row ipa level = option_map (row_view ipa) (option_and_then (λ (realm : RealmRow). walk_of realm ipa level) row)
 
--- the refusal of a new table, unless the walk ends one level above it, at an entry that is not a TABLE entry
+-- the refusal of a new table, if the walk does not end one level above the table, or ends at a TABLE entry
 abbrev pub new_table_refusal : ℕ → Option RowView → Option Rmi
 new_table_refusal above (Some row) = unless (row.level == above && not (is_table row.entry)) (error_rtt row.level) None
 new_table_refusal above None = Some (error_rtt 0)
@@ -94,7 +94,8 @@ is_free_row None = false
 abbrev pub are_free_rows : Option RealmRow → ℕ → ℕ → Bool
 are_free_rows row ipa count = list_all (λ page. is_free_row (end_in row page 3)) (range_with_len ipa count)
 
--- the refusal of a command that needs free entries, unless the walk ends at level 3 and the entries are free
+-- the refusal, if any, of a command that needs UNASSIGNED entries of level 3, given whether they are UNASSIGNED and
+-- where the walk ends
 abbrev pub run_refusal : Bool → Option RowView → Option Rmi
 run_refusal free (Some row) = unless (row.level == 3 && free) (error_rtt row.level) None
 run_refusal free None = Some (error_rtt 0)
@@ -137,7 +138,7 @@ refusal_in_memory world row ready realm (acts.Unknown granule ipa) =
     (run_refusal (are_free_rows row ipa 1) (end_in row ipa 3))
 refusal_in_memory world row ready realm _ = None
 
--- the refusal, if any, of a command on a realm, given its operation and the granules that it names
+-- the refusal, if any, of a command on a realm, given the command's operation and the granules that the operation names
 abbrev pub refusal_in_realm : HostView → Option RealmRow → List ℕ → Bool → RealmAttributes → Act → Option Rmi
 refusal_in_realm host row granules ready realm (acts.Rec granule auxiliaries number) = rec_refusal host realm granules
 refusal_in_realm host row granules ready realm acts.Activate = state_refusal realm

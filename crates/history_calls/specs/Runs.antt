@@ -8,12 +8,13 @@ use Rattle.realm_model.specs.declared.act.Act.TheVariants.{Enter, Exit}
 abbrev pub is_same : Option ℕ → Option ℕ → Bool
 is_same rec it = option_eq nat_eq it rec
 
--- the number of the run page that a REC uses, or of the lowest free page for `None`; 63, the last page, if there is no
--- such page
+-- the number of the run page that the REC `rec` uses, or of the lowest free page if `rec` is None; 63 if no such page
+-- is found
 abbrev pub run_page_of : Option ℕ → List (Option ℕ) → ℕ
 run_page_of rec pages = min 63 (unwrap_or (position_from (is_same rec) 0 pages) 63)
 
--- The run page for an event about a REC: the lowest free one for an entry, and the REC's own for any other event.
+-- The run page for an event about a REC: the lowest free page if the REC is entered, and for any other event the page
+-- that the REC uses.
 abbrev pub run_page_for : Option ℕ → Act → List (Option ℕ) → ℕ
 run_page_for rec (Enter number) pages = run_page_of None pages
 run_page_for rec _ pages = run_page_of rec pages

@@ -55,7 +55,7 @@ pub enum HostAction {
     Spin {
         rec: u64,
     },
-    /// A reading of the result of a guest's last write. It finds that the write is done.
+    /// A `saw` line of a trace, which reads the result of a guest's last write. The result is that the write is done.
     Saw {
         rec: u64,
     },

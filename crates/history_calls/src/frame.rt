@@ -5,7 +5,7 @@ ghost use Rattle.history_calls.specs.Frame as frames;
 use granule_addr::Gran;
 use std::marker::Model;
 
-/// The number of the host's run pages, which RMI_REC_ENTER uses for running RECs. At most that many running RECs have a
+/// The count of the host's run pages, which RMI_REC_ENTER uses for running RECs. At most that many running RECs have a
 /// page of their own.
 pub const RUN_PAGE_COUNT: u16 = 64;
 
@@ -34,7 +34,7 @@ impl Model for Frame {
 }
 
 impl Frame {
-    /// Creates the address range of a machine with `pages` pages at physical address `base`. Granule 0 is at the
+    /// Creates the address range of a machine with `pages` granules at physical address `base`. Granule 0 is at the
     /// address `base`.
     pub fn new(base: u64, pages: u16) -> Frame
         requires granule { base % 4096 ≡ 0 }
@@ -52,7 +52,7 @@ impl Frame {
         self.base
     }
 
-    /// Returns the machine's number of granules plus `HOST_GRANULES`, the number of the host's own.
+    /// Returns the number of granules of the machine plus the host's own `HOST_GRANULES`.
     pub fn granules(self) -> u16
         ensures { result ≡ self.pages + 66 }
     {

@@ -1,4 +1,4 @@
-//! Free blocks: blocks of granules that no build leases.
+//! Functions that find out whether a block is free, which means that no build leases a granule of it.
 ghost use Rattle.std.specs.Prelude.{◌≡◌, ◌∷◌, [], ◌+◌, ◌<◌, ◌≤◌, None, length};
 ghost use Rattle.std.specs.List.{list_all, list_any, range_with_len};
 ghost use Rattle.realm_model.specs.World.{is_leased_to};

@@ -1,4 +1,4 @@
-//! Computes, in advance, the RMM calls and other actions for a command or an undo.
+//! Functions that compute, in advance, the RMM calls and other actions for a command or an undo.
 ghost use Rattle.std.specs.Prelude.{◌≡◌, ◌<◌, None};
 ghost use Rattle.realm_model.specs.Act.{reverse_of};
 ghost use Rattle.realm_model.specs.Running.{next_number};

@@ -1,5 +1,5 @@
-//! Computes the refusal, if any, that a host would give to a command. The model's checks find it, and the command is
-//! not performed.
+//! Functions that compute the refusal, if any, that a host would give to a command. The model's checks find it, and the
+//! command is not performed.
 ghost use Rattle.std.specs.Prelude.{◌≡◌, ◌+◌, ◌≤◌, None};
 ghost use Rattle.std.specs.List.{list_all};
 ghost use Rattle.realm_model.specs.Command.Check.{error_rtt, are_distinct};

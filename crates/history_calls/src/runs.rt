@@ -1,4 +1,4 @@
-//! Assigns to each running REC a run page, which RMI_REC_ENTER uses.
+//! Functions that give each running REC a run page for RMI_REC_ENTER.
 ghost use Rattle.std.specs.Prelude.{◌≡◌, ◌<◌, replicate, None};
 ghost use Rattle.std.specs.List.{position_from};
 ghost use Rattle.history_calls.specs.Runs as runs;

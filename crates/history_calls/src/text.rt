@@ -1,4 +1,4 @@
-//! Writes host actions, such as RMM calls, and their answers as lines of a trace.
+//! Functions that write host actions, such as RMM calls, and their answers as lines of a trace.
 ghost use Rattle.std.specs.Prelude.{◌≡◌, ◌++◌, Some, OnOk, string_bytes};
 ghost use Rattle.rmi_abi.specs.Call.{registers_of};
 ghost use Rattle.history_calls.specs.declared.action.HostAction.TheVariants.{RealmParams, RecParams};

@@ -1,5 +1,5 @@
--- Proofs that an operation whose numbers are in range is parsed back from its own word and numbers, and that it has at
--- most 18 numbers. Its word is ASCII and has no space.
+-- Proofs that parsing the word and the numbers of an operation gives that operation, if the numbers are in range. The
+-- word is ASCII and has no space, and there are at most 18 numbers.
 use Rattle.std.proofs.Common.{◌≡◌, ℕ, ◌≤◌, [], ◌∷◌, replicate, true, eqb, ltb, not, Some, refl}
 use Rattle.std.specs.List.{list_all}
 use Rattle.std.proofs.lemmas.Bool.{le-leb}

@@ -11,7 +11,7 @@ use Rattle.history_text.specs.Written.{act_text}
 use Rattle.history_text.specs.Events.{event_text, IsEventText}
 use Rattle.history_text.proofs.ActTexts.{text_from_act, act_from_text}
 
--- the number of a build, which is below 8, is one digit in decimal
+-- if a build's number is below 8, the decimal text of the number is one digit
 pub digit_first : (build : ℕ) → build < 8 → decimal build ≡ (48 + build) ∷ []
 digit_first build below = decimal_digit build (omega arith)
 
@@ -29,7 +29,7 @@ space_next digit rest event is =
     let same : digit ∷ rest ≡ (48 + event.build) ∷ 32 ∷ act_text event.act = is.is_written ∙ event_text-digit event is.build in
     cc
 
--- `digit` is the number of an event's build in decimal, and `act` is the text of its operation
+-- the event's build is written as the one character `digit`, and `act` is the text of the event's operation
 pub record Parts (digit : ℕ) (act : List ℕ) (event : Event) : Type 0 where
   pub begins : decimal event.build ≡ digit ∷ []
   pub act_is : act ≡ act_text event.act

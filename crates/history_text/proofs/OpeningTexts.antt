@@ -23,12 +23,13 @@ same_rest text rest o parts is = append_cancel_left (codes "history 1") rest (sp
 pub is_opening : (text rest : List ℕ) (o : Opening) → text ≡ codes "history 1" ++ rest → rest ≡ spelled_numbers (opening_numbers o) → IsSize o → IsOpeningText text o
 is_opening text rest o parts spelled size = record { is_written = parts ∙ ap (λ t. codes "history 1" ++ t) spelled; size = size }
 
--- the numbers spelled after `history 1` in the text of an opening are those of the opening
+-- if the text of an `Opening` spells up to five numbers below 2^32 after `history 1`, they are the numbers of the
+-- `Opening`
 pub same_numbers : (text rest ns : List ℕ) (o : Opening) → AreNumbers 5 ns → text ≡ codes "history 1" ++ rest → rest ≡ spelled_numbers ns → IsOpeningText text o → ns ≡ opening_numbers o
 same_numbers text rest ns o are parts spelled is =
     spelled_injective ns (opening_numbers o) are.1 (five_numbers o is.size.at_most).1 (sym spelled ∙ same_rest text rest o parts is)
 
--- two openings with the same numbers are equal
+-- two values of `Opening` with equal numbers are equal
 pub same_opening : (a b : Opening) → opening_numbers a ≡ opening_numbers b → a ≡ b
 same_opening a b same =
     let pages : a.pages ≡ b.pages = cc in
@@ -40,7 +41,8 @@ same_opening a b same =
     rw (pages, vmids, aux, history, builds) refl in
     whole
 
--- an opening whose numbers are those of an opening's text has no number below its minimum
+-- if the text of an `Opening` spells the numbers of `found`, all below 2^32, each number of `found` is at least its
+-- minimum
 pub enough_from_text : (text rest ns : List ℕ) (found o : Opening) → AreNumbers 5 ns → text ≡ codes "history 1" ++ rest → rest ≡ spelled_numbers ns → opening_numbers found ≡ ns
     → IsOpeningText text o → HasEnough found
 enough_from_text text rest ns found o are parts spelled numbers is =

@@ -1,5 +1,5 @@
--- Proofs that the parser makes an operation only from the right count of numbers in range. It always does so for one to
--- four numbers that have a maximum each and no other limit.
+-- Proofs that the parser makes an operation only from as many numbers as the operation's word requires, all of them in
+-- range. One to four numbers whose only limits are maxima always make the operation if none is above its maximum.
 use Rattle.std.proofs.Common.{◌≡◌, ℕ, ◌≤◌, List, [], ◌∷◌, length, replicate, Bool, true, false, get_or, cond, leb, ◌&&◌, Option, Some, None, option_map, refl, subst}
 use Rattle.std.specs.Option.{option_zip}
 use Rattle.std.proofs.lemmas.Bool.{le-leb, leb-true, and_parts}
@@ -14,7 +14,7 @@ use Rattle.decimal_text.proofs.UpTo.{up_to-some}
 use Rattle.history_text.specs.Acts.{realm_row, table_row, rec_row}
 use Rattle.history_text.specs.Written.{granule, ipa, width, level}
 
--- if two nested tests yield a value, both tests hold, and the value is the given one
+-- if `cond s (cond t (Some made) None) None` is `Some value`, then `s` and `t` are true, and `made` is `value`
 both_tests : {A : Type 0} (s t : Bool) (made value : A) → cond s (cond t (Some made) None) None ≡ Some value → (s ≡ true) × (t ≡ true) × (made ≡ value)
 both_tests true t made value e = let found = test_from_some t made value e in (refl, found.0, found.1)
 both_tests false t made value e = absurd (cc)

@@ -15,21 +15,21 @@ use Rattle.history_text.specs.Written.{order, granule, offset, ipa, width, level
 -- ---- rows with more than maxima
 
 module _ {A : Type 0} where
-  -- the value that `make` gives for the numbers of a realm, if they are in range: its RD, first starting table, IPA
-  -- width and VMID
+  -- the value of `make` for the four numbers in a list, if in range: an RD, a first starting table, an IPA width and a
+  -- VMID
   abbrev pub realm_row : (ℕ → Root → ℕ → A) → List ℕ → Option A
   realm_row make (rd ∷ first ∷ w ∷ vmid ∷ []) =
       if nat_le rd granule && nat_le first granule && nat_le w width && nat_le vmid u8
       then (if nat_le 39 w && nat_le 1 vmid then Some (make rd (record { first = first; width = w }) vmid) else None) else None
   realm_row make _ = None
 
-  -- the value that `make` gives for the numbers of a table, if they are in range: its granule, IPA granule and level
+  -- the value of `make` for the three numbers in a list, if in range: a table's granule, an IPA granule and a level
   abbrev pub table_row : (ℕ → ℕ → ℕ → A) → List ℕ → Option A
   table_row make (g ∷ i ∷ l ∷ []) =
       if nat_le g granule && nat_le i ipa && nat_le l level then (if nat_le 1 l then Some (make g i l) else None) else None
   table_row make _ = None
 
-  -- the value that `make` gives for the numbers of a REC, if they are in range: its granule, its number, and up to 16
+  -- the value of `make` for the numbers in a list, if in range: a REC's granule, the REC's number, and up to 16
   -- auxiliary granules
   abbrev pub rec_row : (ℕ → ArrayVec ℕ → ℕ → A) → List ℕ → Option A
   rec_row make (g ∷ number ∷ more) =

@@ -8,7 +8,7 @@ use Rattle.history_text.specs.Written.{act_text, IsActInRange}
 abbrev pub event_text : Event → List ℕ
 event_text event = decimal event.build ++ (32 ∷ act_text event.act)
 
--- the event has this text, and its numbers are in their ranges
+-- `text` is the text of `event`, and the numbers of the event are in their ranges
 pub record IsEventText (text : List ℕ) (event : Event) : Type 0 where
   pub is_written : text ≡ event_text event
   pub build : event.build < 8

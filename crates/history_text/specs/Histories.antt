@@ -8,8 +8,8 @@ use Rattle.realm_model.specs.History.{erase}
 use Rattle.history_text.specs.declared.opening.Opening.{Opening}
 use Rattle.history_text.specs.Events.{event_text}
 
--- the numbers in the first line: how many pages, VMIDs, auxiliary granules for each REC, events in each build's room,
--- and builds there are
+-- the numbers in the first line of a history: of pages, of VMIDs, of auxiliary granules for each REC, of events in each
+-- build's room, and of builds
 abbrev pub opening_numbers : Opening → List ℕ
 opening_numbers o = o.pages ∷ o.vmids ∷ o.aux ∷ o.history ∷ o.builds ∷ []
 
@@ -20,14 +20,14 @@ opening_maxima = 4096 ∷ 255 ∷ 16 ∷ 16384 ∷ 8 ∷ []
 abbrev pub opening_text : Opening → List ℕ
 opening_text o = spelled (codes "history 1") (opening_numbers o)
 
--- each number of an opening is at least its minimum
+-- each number in the first line of a history is at least its minimum
 pub record HasEnough (o : Opening) : Type 0 where
   pub pages : 1 ≤ o.pages
   pub vmids : 1 ≤ o.vmids
   pub history : 16 ≤ o.history
   pub builds : 1 ≤ o.builds
 
--- each number of the opening is in its range
+-- each number in the first line of a history is in its range
 pub record IsSize (o : Opening) : Type 0 where
   pub at_most : AreAtMost (opening_numbers o) opening_maxima
   pub enough : HasEnough o
@@ -43,7 +43,7 @@ events_text events = flat_map (λ event. event_text event ++ 10 ∷ []) events
 abbrev pub history_text : Opening → List Event → List ℕ
 history_text o events = opening_text o ++ (10 ∷ events_text events)
 
--- the events that the text of a history shows: all, or all but those of one build
+-- the events of a history, without the given build's events if a build is given
 abbrev pub shown : Option ℕ → List Event → List Event
 shown None events = events
 shown (Some build) events = erase build events

@@ -14,7 +14,7 @@ use Rattle.realm_model.specs.declared.act.Act.TheVariants.{UnRtt, Ripas, Data, U
 abbrev pub order : ℕ
 order = 9
 
--- the greatest number of a granule, in the largest machine
+-- the greatest granule number of the largest machine
 abbrev pub granule : ℕ
 granule = 4095
 
@@ -22,7 +22,7 @@ granule = 4095
 abbrev pub offset : ℕ
 offset = 4095
 
--- the greatest number of an IPA granule, in the widest address space
+-- the greatest IPA granule number of the widest address space
 abbrev pub ipa : ℕ
 ipa = 2147483647
 
@@ -56,8 +56,9 @@ written_act (Enter number) = written (codes "enter") (number ∷ []) (u16 ∷ []
 written_act (Exit number) = written (codes "exit") (number ∷ []) (u16 ∷ [])
 written_act (Poke number i o value) = written (codes "poke") (number ∷ i ∷ o ∷ value ∷ []) (u16 ∷ ipa ∷ offset ∷ u8 ∷ [])
 
--- In the operation, any IPA width is at least 39, any VMID and any table's level is at least 1, and there are at most
--- 16 auxiliary granules.
+-- The operation's IPA width, VMID, table level and number of auxiliary granules are within bounds, as far as the
+-- operation has them. An IPA width is at least 39, a VMID and a level are at least 1, and the auxiliary granules are at
+-- most 16.
 abbrev pub HasBounds : Act → Type 0
 HasBounds (Realm rd root vmid) = (39 ≤ root.width) × (1 ≤ vmid)
 HasBounds (UnRealm rd root vmid) = (39 ≤ root.width) × (1 ≤ vmid)

@@ -1,4 +1,5 @@
-//! The largest granule and IPA granule numbers in a history's text, and the conversion of numbers to granules.
+//! The greatest granule number and the greatest IPA granule number in a history's text, and functions that convert
+//! numbers to granules.
 ghost use Rattle.std.specs.Prelude.{◌≡◌, ◌≤◌};
 ghost use Rattle.decimal_text.specs.Rows.{up_to};
 ghost use Rattle.history_text.specs.Written.{granule, ipa};
@@ -6,10 +7,10 @@ ghost use Rattle.history_text.specs.Written.{granule, ipa};
 use arrayvec::ArrayVec;
 use granule_addr::{Gran, IpaGran};
 
-/// The largest granule number.
+/// The greatest granule number, which is that of the last granule of the largest machine.
 pub const GRANULE: u32 = 4095;
 
-/// The largest IPA granule number.
+/// The greatest IPA granule number, which is that of the last IPA granule of the widest address space.
 pub const IPA: u32 = 2_147_483_647;
 
 /// The maximum number of auxiliary granules of a REC.
@@ -32,7 +33,8 @@ pub fn ipa_of(number: u32) -> IpaGran
     IpaGran::new(number, WIDEST).unwrap()
 }
 
-/// Converts numbers to granules. Returns `None` if there are more than 16 numbers, or if a number is out of range.
+/// Converts up to 16 granule numbers to granules. Returns `None` if there are more than 16 numbers, or if a number is
+/// out of range.
 pub fn granules_of(numbers: &[u32]) -> Option<ArrayVec<Gran, MOST_AUXILIARIES>>
     ensures { result ≡ up_to 16 granule numbers.now }
 {

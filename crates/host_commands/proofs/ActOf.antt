@@ -1,4 +1,4 @@
--- Proofs that the operation of each command is an RMM command on the granules of the pages that the command names.
+-- Proofs that the operation of each command names the granules of the command's pages, and is not a reverse.
 use Rattle.std.proofs.Common.{◌≡◌, ℕ, ◌≤◌, true, false, Bool, cond, List, [], ◌∷◌, length, Option, Some, None, refl, sym, ap, ◌∙◌, subst, arith}
 use Rattle.std.specs.Prelude.{◌&&◌, option_map, slice_get}
 use Rattle.std.specs.Str.{bytes_eq}
@@ -30,7 +30,7 @@ pub none_left : (gs : List ℕ) → length gs ≡ 0 → gs ≡ []
 none_left [] e = refl
 none_left (g ∷ gs) e = absurd (omega arith)
 
--- if a test yields a root, the test holds, and the root is the given one
+-- if `cond t (Some root) None` is `Some r`, the test `t` holds, and `r` is `root`
 pub root_at : (t : Bool) (root r : Root) → cond t (Some root) None ≡ Some r → (t ≡ true) × (root ≡ r)
 root_at true root r e = (refl, same_Some root r e)
 root_at false root r e = cc

@@ -23,7 +23,7 @@ module _ (view : BuildsSummary) (build : ℕ) where
       ∙ first_passes (page_checks view build before) (page_checks view build (page ∷ [])) (all_there view build before old had)
       ∙ one_missing view build page [] none
 
-  -- the lookup of some pages, and then of others, is the lookup of both lists
+  -- if looking up `ps` succeeds, and looking up `qs` after that has a result, looking up `ps ++ qs` has the same result
   pub next_after : (ps qs a b c d : List ℕ) (result : Result (Unit {0}) Refusal) → AreFoundNext view build ps a (Ok tt) b → AreFoundNext view build qs b result c
       → c ≡ d → AreFoundNext view build (ps ++ qs) a result d
   next_after ps qs a b c d (Ok done) one two same = (
@@ -42,8 +42,8 @@ module _ (view : BuildsSummary) (build : ℕ) where
       ∙ checks_append (before ++ ps) qs
       ∙ first_stops (page_checks view build (before ++ ps)) (page_checks view build qs) refusal (one before had)
 
-  -- if the lookup finds the pages before an index and is refused at the page there, the lookup of the whole list is
-  -- refused likewise
+  -- if the lookup finds the pages before index `i`, and refuses the page at that index, the lookup of the whole list
+  -- gets the same refusal
   pub missing_at : (pages : List ℕ) (i page d : ℕ) (refusal : Refusal) (a b c : List ℕ) → i < length pages → page ≡ get_or pages i d
       → AreFoundNext view build (take i pages) a (Ok tt) b → AreFoundNext view build (page ∷ []) b (Err refusal) c → AreFoundNext view build pages a (Err refusal) c
   missing_at pages i page d refusal a b c within at one two =

@@ -44,11 +44,11 @@ first_append (x ∷ xs) ys = elim x.0 as (λ t. cond t (Some x.1) (first_that_ho
   | false ↦ first_append xs ys
 ]
 
--- if no check of the first list holds, the second list decides
+-- if the first of two lists of checks gives no refusal, the two in sequence give what the second list gives
 pub first_passes : (xs ys : List Check) → first_that_holds xs ≡ None → first_that_holds (xs ++ ys) ≡ first_that_holds ys
 first_passes xs ys none = first_append xs ys ∙ ap (λ o. else o (first_that_holds ys)) none
 
--- if a check of the first list holds, the first list decides
+-- if the first of two lists of checks gives a refusal, the two in sequence give that refusal
 pub first_stops : (xs ys : List Check) (refusal : Refusal) → first_that_holds xs ≡ Some refusal → first_that_holds (xs ++ ys) ≡ Some refusal
 first_stops xs ys refusal some = first_append xs ys ∙ ap (λ o. else o (first_that_holds ys)) some
 

@@ -12,7 +12,7 @@ use Rattle.granule_addr.specs.Root.{start_count, starting_tables}
 use Rattle.granule_addr.specs.declared.width.Root.{Root}
 use Rattle.host_commands.specs.Acts.{root_of}
 
--- the test `t` of a width is true, and `w` is that width
+-- `t` is true, and `w` is equal to `width`
 pub record IsWide (t : Bool) (width w : ℕ) : Type 0 where
   pub yes : t ≡ true
   pub same : w ≡ width

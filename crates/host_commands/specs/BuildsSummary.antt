@@ -1,9 +1,9 @@
--- The view of a host's builds that the checks of a command need.
+-- The view of a host's builds, with the data that the checks of a command need.
 use Rattle.std.specs.Prelude.{◌≡◌, ℕ, List, map, Bool, Option, Some, slice_get}
 
--- The data of a host that the checks of a command need. It has the number of builds, and whether a VMID is free. For
--- each build it has: whether the build is in abort, its pages, whether it has a realm, the number of its open
--- operations, and its room left.
+-- The data that the checks of a command need from a host. For the host: the number of builds, and whether a VMID is
+-- free. For each build: whether it is in abort, its pages, whether it has a realm, the number of its open operations,
+-- and its room left.
 pub record BuildsSummary : Type 0 where
   pub builds : ℕ
   pub aborting : ℕ → Bool

@@ -1,5 +1,5 @@
--- The checks that the host makes of a command before it asks the page store or the RMM. One list serves all commands,
--- by their needs.
+-- The checks that the host makes of a command before asking the page store or the RMM. One list serves all commands, by
+-- their needs.
 use Rattle.std.specs.Prelude.{ℕ, nat_lt, nat_le, List, [], ◌∷◌, ◌++◌, map, Bool, true, false, not, cond, Option, Some, None, is_none, Result, Ok, Err}
 use Rattle.host_commands.specs.declared.cmd.Cmd.{Cmd}
 use Rattle.host_commands.specs.declared.cmd.Cmd.TheVariants.{Take}
@@ -11,7 +11,7 @@ use Rattle.host_commands.specs.declared.refusal.Refusal.TheVariants.{NoBuild, Ab
 use Rattle.host_commands.specs.BuildsSummary.{BuildsSummary, granule_of_page, AreGranulesOf}
 use Rattle.host_commands.specs.Needs.{operands, needs_of}
 
--- a check: whether the condition of a refusal holds, and the refusal
+-- a `Bool` that says whether the condition of a refusal holds, with the refusal
 abbrev pub Check : Type 0
 Check = Bool × Refusal
 

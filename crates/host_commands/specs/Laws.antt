@@ -1,5 +1,5 @@
--- The statements of the theorems about a command's operation: its granules, its agreement with the machine, its outcome
--- and its input errors.
+-- The statements of the theorems about the operation that a command asks for, and about the RMM's answer to the
+-- command.
 use Rattle.std.specs.Prelude.{◌≡◌, ◌==◌, ℕ, List, length, slice_index, true, false, Option, Some, None, Err}
 use Rattle.std.specs.List.{All}
 use Rattle.granule_addr.specs.Ipa.{is_width}
@@ -19,8 +19,8 @@ use Rattle.host_commands.specs.declared.reply.Allocated.{Allocated}
 use Rattle.host_commands.specs.Needs.{operands, needs_of}
 use Rattle.host_commands.specs.Acts.{act_of}
 
--- The operation is a command of the RMM, and not a reverse. It names the granules, has a reverse if the table of
--- commands says so, and takes the room that the table says.
+-- The operation names the given granules, and is not a reverse. The table of commands says whether the operation has a
+-- reverse, and how much room the operation takes. The operation neither leases a block nor gives one back.
 pub record IsOfCommand (cmd : Cmd) (granules : List ℕ) (act : Act) : Type 0 where
   pub command : is_command act ≡ true
   pub forward : is_reverse act ≡ false
@@ -28,8 +28,8 @@ pub record IsOfCommand (cmd : Cmd) (granules : List ℕ) (act : Act) : Type 0 wh
   pub paired : is_paired act ≡ (needs_of cmd).paired
   pub room : room_taken act ≡ (needs_of cmd).room
 
--- if there are as many granules as operands, the operation that the command asks for has the properties of
--- `IsOfCommand`
+-- if there are as many granules as pages that the command names, `IsOfCommand` holds for the operation that the command
+-- asks for
 abbrev pub ActIsOfCommand : Cmd → List ℕ → Allocated → Act → Type 0
 ActIsOfCommand cmd granules allocated act = length granules ≡ length (operands cmd) → act_of cmd granules allocated ≡ Some act → IsOfCommand cmd granules act
 
@@ -49,8 +49,8 @@ ActFits cmd granules allocated act realm cells = act_of cmd granules allocated �
 
 -- ---- the outcome of a command
 
--- The outcome of the RMM command that a build's command asks for: the outcome of its operation, or an input error if it
--- has no operation.
+-- The outcome of a build's command at the RMM: that of the command's operation, or an input error if the command has no
+-- operation.
 abbrev pub outcome_of_act : Limits → List ℕ → Option Act → Option Seen → List Seen → Outcome
 outcome_of_act limits used None realm cells = Err error_input
 outcome_of_act limits used (Some act) realm cells = outcome_of limits.vmids limits.aux used act realm cells
@@ -76,8 +76,8 @@ IsInputError (Unknown page ipa) rd cells = on_one cells (λ g. data_create_unkno
 IsInputError (Poke number ipa offset value) rd cells = guest_write rd number ipa offset value ≡ Err error_input
 IsInputError _ rd cells = Unit {0}
 
--- If the realm's IPA width is valid, the RMM answers RMI_ERROR_INPUT to a command with an IPA granule or level that no
--- operation can have, whatever else is wrong.
+-- If no operation of the model has the operands of a command with an IPA granule, the RMM answers RMI_ERROR_INPUT,
+-- whatever else is wrong. The realm's IPA width is required to be valid.
 abbrev pub NoActIsInputError : Cmd → List ℕ → Allocated → Seen → List Seen → Type 0
 NoActIsInputError cmd granules allocated rd cells =
     length granules ≡ length (operands cmd) → act_of cmd granules allocated ≡ None → HasWidth rd → IsInputError cmd rd cells

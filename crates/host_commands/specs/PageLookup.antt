@@ -5,7 +5,8 @@ use Rattle.host_commands.specs.declared.refusal.Refusal.{Refusal}
 use Rattle.host_commands.specs.BuildsSummary.{BuildsSummary, AreGranulesOf}
 use Rattle.host_commands.specs.Checks.{page_checks, first_that_holds}
 
--- The granules of these pages follow those of earlier pages, or the first page that the build lacks is refused.
+-- The lookup appends the granules of the given pages to the granules found before, or refuses the first of the given
+-- pages that the build lacks.
 abbrev pub AreFoundNext : BuildsSummary → ℕ → List ℕ → List ℕ → Result (Unit {0}) Refusal → List ℕ → Type 0
 AreFoundNext view build pages old (Ok done) new =
     (length new ≡ length old + length pages) × ((before : List ℕ) → AreGranulesOf view build before old → AreGranulesOf view build (before ++ pages) new)

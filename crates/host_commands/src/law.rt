@@ -6,9 +6,9 @@ ghost use Rattle.host_commands.specs.declared.cmd.Cmd.{Cmd};
 ghost use Rattle.host_commands.specs.declared.reply.Allocated.{Allocated};
 ghost use Rattle.host_commands.specs.Laws.{ActIsOfCommand, ActFits, OutcomeIsOfAnyAllocation, NoActIsInputError};
 
-/// Proves that the operation of a command names the granules of the command's pages. The operation is a command of the
-/// RMM, and not the reverse of another operation. It is paired if the table of commands says so, and takes the room
-/// that the table says.
+/// Proves that the operation of a command names the granules of the command's pages. The operation is not the reverse
+/// of another operation, and neither leases a block nor gives one back. It is paired if the table of commands says so,
+/// and takes the room that the table says.
 pub fn act_is_that_of_its_command()
     ensures { (cmd : Cmd) (granules : List ℕ) (allocated : Allocated) (act : Act) → ActIsOfCommand cmd granules allocated act }
 {}

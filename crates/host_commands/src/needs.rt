@@ -5,7 +5,8 @@ ghost use Rattle.host_commands.specs.Needs.{needs_of, needs_but_vmid, tables_nam
 use crate::Cmd;
 use granule_addr::IpaWidth;
 
-/// What a command requires of its build: that it has a realm, that it has none, or neither of these.
+/// The requirement of a command on the realm of its build: the build must have a realm, must have none, or may have
+/// one.
 #[derive(Clone, Copy)]
 pub enum RealmRequirement {
     Either,

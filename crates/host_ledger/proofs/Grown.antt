@@ -48,8 +48,7 @@ use Rattle.host_ledger.proofs.Totals.{length-le_rooms}
 use Rattle.host_ledger.proofs.VmidsFollow.{can_follow_vmids, vmids_are_after, same_range}
 use Rattle.host_ledger.proofs.Worlds.{world_is, world_of-replay}
 
--- after an operation, a stack of at most 512 open operations still has at most 512, if it had fewer in case the
--- operation has a reverse
+-- if at most 512 operations are open, and fewer than 512 if `act` has a reverse, then at most 512 are open after `act`
 entries_fit_after : (stack : List Act) (act : Act) → length stack ≤ 512 → (is_paired act ≡ true → length stack < 512) → length (pushed stack act) ≤ 512
 unfolding pushed
 entries_fit_after stack act few room = at (is_paired act) room (is_reverse act)
@@ -63,7 +62,7 @@ rec_paired : (granule : ℕ) (aux : _) (number : ℕ) → is_paired (Rec granule
 unfolding reverse_of
 rec_paired granule aux number = refl
 
--- an operation keeps the used room within the capacity, if it does so whenever it takes room
+-- if `used ≤ capacity`, it suffices to prove `used + taken ≤ capacity` in the case that some room is taken
 room_fits : (used taken capacity : ℕ) → used ≤ capacity → (0 < taken → used + taken ≤ capacity) → used + taken ≤ capacity
 room_fits used zero capacity fits room = omega arith
 room_fits used (suc taken) capacity fits room = room (omega arith)

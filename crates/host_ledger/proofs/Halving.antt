@@ -5,14 +5,14 @@ use Rattle.std.proofs.lemmas.Bool.{eq-eqb, ne_eqb}
 use Rattle.realm_model.specs.RecsOpen.{granule_in, number_at, IsRising}
 use Rattle.realm_model.proofs.RecLists.{not_found}
 
--- each REC before place `low` has a lower number than the given one, and each from place `high` on has a higher one
+-- each REC before index `low` has a number below `number`, and each REC from index `high` on has a number above it
 pub record IsBetween (recs : List (ℕ × ℕ)) (number low high : ℕ) : Type 0 where
   pub order : low ≤ high
   pub inside : high ≤ length recs
   pub above : (i : ℕ) → i < low → number_at recs i < number
   pub below : (i : ℕ) → high ≤ i → i < length recs → number < number_at recs i
 
--- the index `i` is before a place, at it, or after it
+-- the index `i` is less than `place`, equal to `place`, or greater than `place`
 data Side (i place : ℕ) : Type 0 where
   Less : i < place → Side i place
   Same : i ≡ place → Side i place
@@ -28,7 +28,7 @@ side (suc i) (suc place) = elim (side i place) [
   | More more ↦ More (omega arith)
 ]
 
--- if no place is left between `low` and `high`, no REC has the number
+-- once the search has no index left between `low` and `high`, the list has no REC with the number `number`
 pub none_between : (recs : List (ℕ × ℕ)) (number low high : ℕ) → IsBetween recs number low high → high ≤ low → granule_in recs number ≡ None
 none_between recs number low high between met = not_found recs number (λ i inside same. elim (side i low) [
   | Less less ↦ let under = between.above i less in absurd (omega (arith, under, same))
@@ -36,13 +36,13 @@ none_between recs number low high between met = not_found recs number (λ i insi
   | More more ↦ let over = between.below i (omega arith) inside in absurd (omega (arith, over, same))
 ])
 
--- the element at an index of a list does not depend on the default
+-- the element at an index inside a list does not depend on the default value of the lookup
 defaults : (recs : List (ℕ × ℕ)) (place : ℕ) (d e : ℕ × ℕ) → place < length recs → get_or recs place d ≡ get_or recs place e
 defaults [] place d e inside = absurd (omega arith)
 defaults (r ∷ recs) zero d e inside = refl
 defaults (r ∷ recs) (suc place) d e inside = defaults recs place d e (omega arith)
 
--- in a list of RECs with rising numbers, the number of a REC leads to its granule
+-- in a list of RECs with rising numbers, a search for a REC's number finds that REC's granule
 pub found_there : (recs : List (ℕ × ℕ)) (place : ℕ) (rec d : ℕ × ℕ) → IsRising recs → place < length recs → rec ≡ get_or recs place d → granule_in recs rec.0 ≡ Some rec.1
 found_there [] place rec d rising inside is = absurd (omega arith)
 found_there (r ∷ recs) zero rec d rising inside is =
@@ -54,7 +54,7 @@ found_there (r ∷ recs) (suc place) rec d rising inside is =
     ap (λ t. cond t (Some r.1) (granule_in recs rec.0)) (ne_eqb r.0 rec.0 (λ e. absurd (omega (arith, less, at, e))))
     ∙ found_there recs place rec d (λ i j lt in_j. rising (suc i) (suc j) (omega arith) (omega arith)) within is
 
--- if the REC at a place has a lower number than the one sought, the search goes on in the half above that place
+-- if the REC at index `place` has a number below `number`, `IsBetween` still holds once `low` is `place + 1`
 module _ (recs : List (ℕ × ℕ)) (number low high place : ℕ) (rec d : ℕ × ℕ) (rising : IsRising recs) (between : IsBetween recs number low high)
     (from : low ≤ place) (to : place < high) (is : rec ≡ get_or recs place d) where
   at_place : number_at recs place ≡ rec.0

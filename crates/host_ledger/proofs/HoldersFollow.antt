@@ -1,5 +1,4 @@
--- Proofs that the ledger's update of the holders of granules gives the world's leases after one more operation of a
--- build.
+-- Proofs that the ledger's record of who leases each granule still agrees with the world after one more operation.
 use Rattle.std.proofs.Common.{◌≡◌, ℕ, ◌+◌, ◌-◌, ◌^◌, ◌<◌, ◌≤◌, List, length, Option, Some, None, sym, ap, ◌∙◌, subst, arith}
 use Rattle.std.specs.Prelude.{slice_get}
 use Rattle.std.specs.List.{All}
@@ -19,7 +18,7 @@ use Rattle.host_ledger.specs.Kept.{CanFollowHolders}
 
 -- ---- in a step
 
--- a block whose granules are leased alike lies inside the machine
+-- if the list of leases has the same entry for each granule of a block, the block is inside the machine
 block_inside : (lease : Option ℕ) (leases : List (Option ℕ)) (order first : ℕ) → All (λ granule. slice_get leases granule ≡ Some lease) (block order first)
     → first + 2 ^ order ≤ length leases
 block_inside lease leases order first all =
@@ -36,13 +35,14 @@ granules_inside build (UnTake order first) leases all = block_inside (Some build
 granules_inside build act leases all = tt
 
 module _ (limits : Limits) (world next : World) (build : ℕ) (act : Act) (stepped : step limits world (by build act) ≡ Some next) where
-  -- what is taken or given back lies inside the machine
+  -- the block, if any, that an accepted operation takes or gives back is inside the machine
   pub can_follow_holders : (holders : List (Option ℕ)) → holders ≡ world.leases → CanFollowHolders holders act
   can_follow_holders holders same =
       subst (λ (leases : List (Option ℕ)). CanFollowHolders leases act) (sym same)
       (granules_inside build act world.leases (step_is limits world next (by build act) stepped).granules)
 
-  -- if the ledger's holders are the leases before the operation, their update gives the leases after the operation
+  -- if the ledger's list of each granule's holder agrees with the leases before an accepted operation, the updated list
+  -- agrees with the leases after the operation
   pub leases_follow : (holders : List (Option ℕ)) → holders ≡ world.leases → leases_after build act holders ≡ next.leases
   leases_follow holders same =
       ap (leases_after build act) same

@@ -12,7 +12,7 @@ use Rattle.realm_model.specs.Undoing.{by}
 use Rattle.realm_model.proofs.Growth.{open_entries-own, takes_away}
 use Rattle.realm_model.proofs.Stack.{pushed_paired, pushed_other, kind, paired, back, other}
 
--- the items that a build's open operations made, if the reverse of an operation removes what the operation made
+-- a build's list of made items grows and shrinks at its end, if each reverse removes what its operation made
 module _ {X : Type 0} (made removed : Act → List X) (same_made : (newest act : Act) → reverse_of newest ≡ Some act → made newest ≡ removed act) where
   abbrev pub made_open : ℕ → List Event → List X
   made_open build history = flat_map made (open_entries build history)

@@ -40,7 +40,7 @@ block_below order first most all =
     let last = of_all_range (λ page. page < most) first (2 ^ order) all (first + 2 ^ order - 1) (omega arith) (omega arith) in
     omega arith
 
--- if all pages of two joined lists are below a number, so are those of the second list
+-- if all pages of two joined lists are below a number, all pages of the second list are below that number
 later_pages : (most : ℕ) (xs ys : List ℕ) → All (λ page. page < most) (xs ++ ys) → All (λ page. page < most) ys
 later_pages most [] ys all = all
 later_pages most (x ∷ xs) ys all = later_pages most xs ys (All-tail (λ page. page < most) x (xs ++ ys) all)

@@ -36,11 +36,11 @@ module _ (builds : List Build) (leases : Stacks) (holders : List (Option ℕ)) (
   mark_there : build < length host.marks
   mark_there = subst (λ n. build < n) (sym (length-map builds (λ (b : Build). b.mark))) there
 
-  -- after an abort begins, the flag of its build is set exactly if the build has anything open
+  -- after the abort of a build begins, the build's abort flag is set exactly if the build has anything open
   pub flag_begun : is_aborting (begun now build) build ≡ nat_lt 0 (length (open_of now build))
   flag_begun = get_or-set_same now.aborting build (nat_lt 0 (length (open_of now build))) false (subst (λ (h : HostView). build < length h.aborting) view_is abort_there)
 
-  -- a mark that is kept for the build is the one that is read back
+  -- after a mark is set for a build, the build has that mark
   pub mark_told : (mark : Mark) → mark_of (with_mark now build mark) build ≡ Some mark
   mark_told mark = get_or-set_same now.marks build (Some mark) None (subst (λ (h : HostView). build < length h.marks) view_is mark_there)
 
@@ -81,7 +81,7 @@ module _ (builds : List Build) (leases : Stacks) (holders : List (Option ℕ)) (
             ap length (kept.builds_are build old stands).journal ∙ ap (λ (h : HostView). length (open_of h build)) view_is in
             absurd (omega (arith, none, some, same))
 
-    -- the build's mark is kept, since no fewer operations are open than at the mark
+    -- `mark_while` keeps the build's mark, if there is one, as no fewer operations are open than at the mark
     pub low : mark_while (length old.journal) (mark_of now build) ≡ mark_of now build
     low = at (mark_of now build) refl
       where

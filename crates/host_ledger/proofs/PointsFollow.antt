@@ -17,12 +17,13 @@ use Rattle.host_ledger.specs.Kept.{PointsHold}
 
 -- ---- what is open, at any time
 
--- at most 512 operations are open now
+-- if a build has at most 512 operations open at each point of a history, the build has at most 512 open at the end
 pub few_now : (build : ℕ) (history : List Event) → ((n : ℕ) → length (open_entries build (take n history)) ≤ 512) → length (open_entries build history) ≤ 512
 few_now build history few =
     subst (λ (es : List Event). length (open_entries build es) ≤ 512) (take_all (length history) history (omega arith)) (few (length history))
 
--- if at most 512 operations were open at any time, and after one more event, that holds at any time up to that event
+-- if a build has at most 512 operations open at each point of a history and after one more event, the same is true of
+-- the longer history
 pub few_later : (build : ℕ) (history : List Event) (event : Event) → ((n : ℕ) → length (open_entries build (take n history)) ≤ 512)
     → length (open_entries build (history ++ event ∷ [])) ≤ 512 → (n : ℕ) → length (open_entries build (take n (history ++ event ∷ []))) ≤ 512
 few_later build history event few last n = at (nat_lt (length history) n) refl
@@ -99,7 +100,8 @@ module _ (host : HostView) (build : ℕ) (act : Act) (abort_there : build < leng
         };
   }
 
-  -- the conditions on the abort and the mark of a build still hold after an event
+  -- an event keeps `PointsHold` true for each build: a build in abort has something open, and the mark of a build is
+  -- valid
   pub points_follow : (number : ℕ) → PointsHold host number → PointsHold new number
   points_follow number hold = ⊎_elim
       (λ same. subst (PointsHold new) (sym same) (own_points (subst (PointsHold host) same hold)))

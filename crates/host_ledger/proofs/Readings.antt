@@ -34,7 +34,7 @@ pub none_open : (build : ℕ) (history : List Event) → acts_of build history �
 unfolding open_entries
 none_open build history none = ap unmatched none
 
--- a build that does not exist is in no abort and has no mark
+-- if there are as many abort flags as builds, a build that does not exist is not in abort
 pub no_abort : (host : HostView) (build : ℕ) → length host.aborting ≡ host.limits.builds → host.limits.builds ≤ build → is_aborting host build ≡ false
 no_abort host build aborts past = get_or_past host.aborting build false (omega arith)
 
@@ -63,7 +63,7 @@ module _ (host : HostView) (builds : List Build) (leases : Stacks) (holders : Li
   realm_past build past =
       no_realm host.limits host.history world kept.legal (world_is host kept.legal) build (none_open build host.history (no_acts build past))
 
-  -- `HasRoom` holds for each build number, also for that of a build that does not exist
+  -- `HasRoom` holds for any build number, even if the host has no such build
   pub has_room : (build : ℕ) → HasRoom host build
   has_room build = at (nat_lt build host.limits.builds) refl
     where
@@ -82,7 +82,8 @@ module _ (host : HostView) (builds : List Build) (leases : Stacks) (holders : Li
                 (All-take (λ (e : Event). e.build < host.limits.builds) n host.history kept.of_builds) past)) in omega (arith, early);
           }
 
-  -- `PointsHold` holds for each build number, also for that of a build that does not exist
+  -- if the host has one abort flag and one optional mark for each build, `PointsHold` holds for any build number, even
+  -- if the host has no such build
   pub points_hold : (build : ℕ) → length host.aborting ≡ host.limits.builds → length host.marks ≡ host.limits.builds → PointsHold host build
   points_hold build aborts marks = at (nat_lt build host.limits.builds) refl
     where
@@ -125,7 +126,7 @@ module _ (host : HostView) (builds : List Build) (leases : Stacks) (holders : Li
         subst (λ (h : HostView). IfSome told (λ granule. granule < h.limits.pages)) view_is
         (subst (λ (o : Option ℕ). IfSome o (λ granule. granule < host.limits.pages)) (sym (is ∙ ap (λ (pages : List ℕ). slice_get pages page) (kept.stacks_are build there))) (page_inside build page))
 
-    -- no build has more pages than the largest machine
+    -- the number of each page that a build has is below 4,096
     pub few_told : (page : ℕ) (told : Option ℕ) → told ≡ slice_get (stack_of leases build) page → IsSome told → page < 4096
     few_told page told is some =
         let pages = pages_are_leased host.limits build host.history world kept.legal (world_is host kept.legal) in

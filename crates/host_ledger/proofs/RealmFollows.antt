@@ -1,4 +1,4 @@
--- Proofs that the ledger's update of the RD of a build's realm gives the RD after one more operation of the build.
+-- Proofs that the ledger's record of a realm's RD still agrees with the world after one more operation of the build.
 use Rattle.std.proofs.Common.{◌≡◌, ℕ, true, List, [], ◌∷◌, ◌++◌, Option, Some, None, refl, sym, ap, ◌∙◌}
 use Rattle.std.specs.Prelude.{filter, option_map, is_some}
 use Rattle.std.specs.List.{flat_map}

@@ -1,5 +1,5 @@
--- Proofs that the ledger's update of a build's RECs gives the RECs after one more operation, and that their numbers
--- rise.
+-- Proofs that the ledger's update of a build's RECs gives the RECs after one more operation. Numbers that rise along
+-- the list still rise with one more REC at its end, exactly if the number of that REC is above all others.
 use Rattle.std.proofs.Common.{◌≡◌, ℕ, ◌+◌, ◌-◌, ◌<◌, ◌≤◌, ⊎_elim, List, [], ◌∷◌, ◌++◌, length, take, refl, sym, ap, ◌∙◌, subst, arith}
 use Rattle.std.specs.List.{flat_map}
 use Rattle.std.proofs.lemmas.Bool.{cases_lt}
@@ -54,13 +54,13 @@ module _ (recs : List (ℕ × ℕ)) (number granule : ℕ) where
   last : (i : ℕ) → i ≡ length recs + 0 → number_at more i ≡ number
   last i place = ap (number_at more) place ∙ ap (λ (r : ℕ × ℕ). r.0) (get_or-append-add recs ((number, granule) ∷ []) 0 (0, 0))
 
-  -- if the numbers of the longer list rise, that of the added REC is above all others
+  -- if the numbers rise in a list with one more REC at its end, the number of that REC is above all numbers before it
   pub above_others : IsRising more → IsAbove recs number
   above_others rising i inside =
       let less = rising i (length recs) inside (let more = long in omega (arith, more)) in
       omega (arith, less, before i inside, last (length recs) (omega arith))
 
-  -- if the numbers of a list rise, and that of the added REC is above them, the numbers of the longer list rise
+  -- if the numbers of a list rise, they still do after a REC with a number above all of them is added at the end
   pub rising_with : IsRising recs → IsAbove recs number → IsRising more
   rising_with rising above i j less inside =
       ⊎_elim

@@ -1,5 +1,5 @@
--- Proofs that an operation adds the room that it takes to its build's used room, and that only an enter or an exit
--- changes the number of running RECs.
+-- Proofs that an operation of a build raises the build's used room by the room that the operation takes. Only an enter
+-- or an exit changes the number of running RECs.
 use Rattle.std.proofs.Common.{◌≡◌, ℕ, ◌+◌, Bool, true, false, cond, List, [], ◌∷◌, ◌++◌, length, Some, refl, ap, ◌∙◌, arith}
 use Rattle.std.proofs.lemmas.List.{length-append}
 use Rattle.realm_model.specs.declared.act.Act.{Act}
@@ -18,7 +18,7 @@ use Rattle.realm_model.proofs.Room.{room_taken_legal}
 use Rattle.realm_model.proofs.Stack.{pushed_paired, pushed_other, kind, paired, back, other}
 use Rattle.host_ledger.specs.Kept.{running_after}
 
--- an act that is neither enter nor exit
+-- the operation is neither an enter nor an exit of a REC
 abbrev is_plain : Act → Bool
 is_plain (Enter number) = false
 is_plain (Exit number) = false

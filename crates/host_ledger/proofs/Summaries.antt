@@ -9,19 +9,19 @@ use Rattle.build_journal.specs.Vmids.{Vmids, is_free, IsLowestFree}
 use Rattle.host_ledger.specs.View.{HostView, world_of}
 use Rattle.host_ledger.specs.Vmids.{is_vmid_free, lowest_vmid}
 
--- the mapped list has, at an index, the function's value for the element there
+-- if `x` is the element of `xs` at index `place`, then `f x` is the element at that index of `map f xs`
 pub get_or-of : {X Y : Type 0} (f : X → Y) (xs : List X) (place : ℕ) (x : X) (d : Y) → place < length xs → x ≡ get_or xs place x → f x ≡ get_or (map f xs) place d
 get_or-of f [] place x d inside is = absurd (omega arith)
 get_or-of f (y ∷ ys) zero x d inside is = ap f is
 get_or-of f (y ∷ ys) (suc place) x d inside is = get_or-of f ys place x d (omega arith) is
 
--- if a lookup finds an element at an index, the mapped list has the function's value for that element there
+-- if a lookup in `xs` at index `place` finds `x`, then `f x` is the element at that index of `map f xs`
 pub said_of : {X Y : Type 0} (f : X → Y) (xs : List X) (place : ℕ) (x : X) (d : Y) → slice_get xs place ≡ Some x → f x ≡ get_or (map f xs) place d
 said_of f xs place x d there = get_or-of f xs place x d (slice_get_within xs place x there) (sym (get_or_from_slice_get xs place x x there))
 
 -- ---- VMIDs
 
--- a search of a range finds a number of the range that passes the test, if no lower number passes it
+-- if `k` is the lowest number that passes a test, a search of a range that contains `k` finds `k`
 find_lowest : (test : ℕ → Bool) (first count k : ℕ) → first ≤ k → k < first + count → test k ≡ true → ((other : ℕ) → other < k → test other ≡ false)
     → find test (range_with_len first count) ≡ Some k
 find_lowest test first zero k low high is lower = absurd (omega arith)
@@ -58,7 +58,7 @@ module _ (host : HostView) (vmids : Vmids) (range : vmids.vmids ≡ host.limits.
   pub none_is : ((vmid : ℕ) → is_free vmids vmid ≡ false) → None ≡ lowest_vmid host
   none_is none = sym (find_none (is_vmid_free host) 1 host.limits.vmids (λ vmid. sym (same_free vmid) ∙ none vmid))
 
-  -- the pool returns the lowest VMID that no realm has, or none if there is none
+  -- the pool's answer is the lowest VMID that no realm has, or `None` if each VMID is in use
   pub told_is : (told : Option ℕ) → IfSome told (IsLowestFree vmids) → IfNone told ((vmid : ℕ) → is_free vmids vmid ≡ false) → told ≡ lowest_vmid host
   told_is None lowest none = none_is none
   told_is (Some vmid) lowest none = lowest_is vmid lowest

@@ -50,7 +50,7 @@ unfolding total
 total_none zero = refl
 total_none (suc n) = ap (λ m. m + 0) (total_none n)
 
--- all events of a history are events of its builds
+-- if all events are of builds below `n`, the length of the history is the sum of these builds' event counts
 length-total : (n : ℕ) (history : List Event) → All (λ event. event.build < n) history → length history ≡ total n history
 length-total n [] all = sym (total_none n)
 length-total n (e ∷ es) all =
@@ -66,11 +66,11 @@ total_bound (suc n) most history each =
     let here = each n (omega arith) in
     grind arith
 
--- if no build has more events than its room, the history is no longer than all rooms together
+-- if no build has more events than its room, the history has at most as many events as the rooms of all builds together
 pub length-le_rooms : (n most : ℕ) (history : List Event) → All (λ event. event.build < n) history → ((build : ℕ) → build < n → length (acts_of build history) ≤ most) → length history ≤ n * most
 length-le_rooms n most history all each = subst (λ k. k ≤ n * most) (sym (length-total n history all)) (total_bound n most history each)
 
--- a build past the last one has no events
+-- if all events are of builds below `n`, a build with the number `n` or above has no events
 pub acts_of-past : (n build : ℕ) (history : List Event) → All (λ event. event.build < n) history → n ≤ build → acts_of build history ≡ []
 acts_of-past n build [] all past = refl
 acts_of-past n build (e ∷ es) all past =

@@ -36,7 +36,7 @@ last_three a b c d e f g all =
     let low = and_parts (a && b && c && d) e high.0 in
     and_from (e && f) g (and_from e f low.1 high.1) last.1
 
--- the VMID of a realm that is made is in range, and no realm has it
+-- if a realm can be created with a VMID, the VMID is in range, and no realm has it yet
 free_for : (limits : Limits) (w : World) (build rd : ℕ) (root : Root) (vmid : ℕ) (us : List Update) → outcome_in limits w (by build (Realm rd root vmid)) ≡ Ok us
     → (nat_le 1 vmid && nat_le vmid limits.vmids && not (is_vmid_used w.machine vmid)) ≡ true
 unfolding outcome_of named
@@ -68,7 +68,7 @@ module _ (limits : Limits) (w : World) (vmids : Vmids) (range : vmids.vmids ≡ 
       (cases_eq vmid used)
   vmids_are_after act new machine after follow vmid = ap (λ (v : Vmids). is_used v.used vmid) after ∙ are vmid ∙ sym (follow vmid)
 
--- there are as many VMIDs as before
+-- an operation does not change the number of all VMIDs in the pool, free or in use
 pub same_range : (act : Act) (old new : Vmids) → IsVmidsAfter act old new → new.vmids ≡ old.vmids
 same_range (Realm rd root used) old new after = after.range
 same_range (UnRealm rd root used) old new after = after.range

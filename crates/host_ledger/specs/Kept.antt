@@ -1,5 +1,5 @@
--- The records that a host keeps in addition to its history: how an operation changes them, when it can be recorded, and
--- the invariant that ties them to the history.
+-- The records that a host keeps in addition to its history, the operations that can be recorded, and the invariant that
+-- ties the records to the history.
 use Rattle.std.specs.Prelude.{◌≡◌, ℕ, nat_lt, ◌+◌, ◌-◌, ◌*◌, ◌^◌, ◌<◌, ◌≤◌, true, false, ◌&&◌, List, [], ◌∷◌, ◌++◌, map, take, Option, Some, None, length, slice_get, vec_capacity}
 use Rattle.std.specs.List.{All}
 use Rattle.std.specs.Global.{Vec}
@@ -33,34 +33,34 @@ new_build = record { journal = []; events = 0; realm = None; recs = []; running 
 
 -- ---- after an operation of the build
 
--- the RD that the build's realm has after an operation, if there is a realm then
+-- the RD of the build's realm after an operation, or `None` if the build has no realm after the operation
 abbrev pub rd_after : Option ℕ → Act → Option ℕ
 rd_after rd (Realm d root vmid) = Some d
 rd_after rd (UnRealm d root vmid) = None
 rd_after rd _ = rd
 
--- the list of the build's RECs after an operation: a created REC is added at the end, and a destroyed one is removed
--- there
+-- the list of the build's RECs after an operation: a created REC is appended, and a destroyed REC is removed from the
+-- end
 abbrev pub recs_after : List (ℕ × ℕ) → Act → List (ℕ × ℕ)
 recs_after recs (Rec granule auxiliaries number) = recs ++ (number, granule) ∷ []
 recs_after recs (UnRec granule auxiliaries number) = take (length recs - 1) recs
 recs_after recs _ = recs
 
--- the number of the build's RECs that run after an operation
+-- how many of the build's RECs run after an operation
 abbrev pub running_after : ℕ → Act → ℕ
 running_after running (Enter number) = running + 1
 running_after running (Exit number) = running - 1
 running_after running _ = running
 
--- the build's pages after an operation: a taken block adds its pages at the end, and a returned block removes as many
--- there
+-- the build's pages after an operation: a taken block appends its pages, and a returned block removes as many pages
+-- from the end
 abbrev pub pages_after : List ℕ → Act → List ℕ
 pages_after pages (Take order first) = pages ++ block order first
 pages_after pages (UnTake order first) = take (length pages - 2 ^ order) pages
 pages_after pages _ = pages
 
--- the record of a build, out of abort if nothing is open, and without its mark if fewer operations are open than at the
--- mark
+-- The record of a build, with its abort flag and its mark adjusted to the operations that are still open. The flag is
+-- cleared if nothing is open. The mark is dropped if fewer operations are open than at the mark.
 abbrev pub points_after : Build → Build
 points_after build = record build {
   aborting = build.aborting && nat_lt 0 (length build.journal);
@@ -78,22 +78,23 @@ build_after build act = points_after (record build {
 
 -- ---- the operations that can be followed
 
--- if the operation creates a REC, the build has fewer than 512, all with lower numbers; if it is an exit, some REC runs
+-- if the operation creates a REC, the build has fewer than 512 RECs, all with lower numbers; if the operation is an
+-- exit, some REC runs
 abbrev pub CanFollowRec : Build → Act → Type 0
 CanFollowRec build (Rec granule auxiliaries number) = (length build.recs < 512) × IsAbove build.recs number
 CanFollowRec build (Exit number) = 1 ≤ build.running
 CanFollowRec build _ = Unit {0}
 
--- the journal has at most 512 entries after the operation, the build's counts stay in bounds, and its RECs allow the
--- operation
+-- the build's record can be updated: after the operation at most 512 operations are open, the counts are within bounds,
+-- and `CanFollowRec` holds
 pub record CanFollow (build : Build) (act : Act) : Type 0 where
   pub entries : length (pushed build.journal act) ≤ 512
   pub events : build.events < 16384
   pub running : build.running ≤ 16384
   pub rec : CanFollowRec build act
 
--- a block to take fits the build's stack of pages and has granules below 4096; a block to give back is no larger than
--- the stack
+-- A taken block leaves the build with at most `leases.room` pages, and the block's granules are below 4096. A returned
+-- block has no more pages than the build.
 abbrev pub CanFollowPages : Stacks → ℕ → Act → Type 0
 CanFollowPages leases build (Take order first) = (length (stack_of leases build) + 2 ^ order ≤ leases.room) × (first + 2 ^ order ≤ 4096)
 CanFollowPages leases build (UnTake order first) = 2 ^ order ≤ length (stack_of leases build)
@@ -141,13 +142,13 @@ pub record HasRoom (host : HostView) (build : ℕ) : Type 0 where
   pub used : used host build ≤ host.capacity
   pub few_open : (n : ℕ) → length (open_entries build (take n host.history)) ≤ 512
 
--- A mark belongs to the given build, and since it was set the build has never had fewer operations open than it had
--- then.
+-- A mark belongs to the given build, and is valid in the host's history. Since the mark was set, the build has never
+-- had fewer operations open than at the mark.
 pub record IsMarkOf (host : HostView) (build : ℕ) (mark : Mark) : Type 0 where
   pub of_build : mark.build ≡ build
   pub stands : IsValidMark (point_of mark) host.history
 
--- There is an abort flag for each build, and a place for its mark.
+-- The host has one abort flag and one optional mark for each build.
 pub record AreOfEach (host : HostView) : Type 0 where
   pub aborts : length host.aborting ≡ host.limits.builds
   pub marks : length host.marks ≡ host.limits.builds

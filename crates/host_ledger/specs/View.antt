@@ -10,7 +10,7 @@ use Rattle.realm_model.specs.History.{replay, open_entries, pages_of}
 use Rattle.realm_model.specs.Room.{used_room}
 use Rattle.realm_model.specs.Undoing.{by}
 
--- What contracts see of a host: its limits, each build's room, the history, and each build's abort flag and mark.
+-- A host as contracts describe it: its limits, each build's room, the history, and each build's abort flag and mark.
 pub record HostView : Type 0 where
   pub limits : Limits
   pub capacity : ℕ
@@ -26,7 +26,7 @@ world_of host = unwrap_or (replay host.limits host.history) (opening host.limits
 abbrev pub open_of : HostView → ℕ → List Act
 open_of host build = open_entries build host.history
 
--- the pages of a build
+-- the granules of a build's pages, the granule of page 0 first
 abbrev pub pages_of_build : HostView → ℕ → List ℕ
 pages_of_build host build = pages_of build host.history
 
@@ -63,8 +63,8 @@ with_mark host build mark = record host { marks = slice_set host.marks build (So
 
 -- ---- events
 
--- The host with one more event. Its build leaves abort if it then has nothing open, and its mark is dropped if it then
--- has fewer operations open than at the mark.
+-- The host after one more event, an operation of the given build. The build leaves abort if it then has nothing open,
+-- and its mark is dropped if it then has fewer operations open than at the mark.
 abbrev pub with_event : HostView → ℕ → Act → HostView
 with_event host build act =
     let history = host.history ++ by build act ∷ [] in

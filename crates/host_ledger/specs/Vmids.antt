@@ -1,4 +1,4 @@
--- The free VMIDs of a host, the lowest of them, and the change that an operation makes to those in use.
+-- The free VMIDs of a host, the lowest free VMID, and the VMIDs in use after an operation.
 use Rattle.std.specs.Prelude.{◌≡◌, ℕ, Bool, true, false, Option, not, ◌&&◌, nat_le}
 use Rattle.std.specs.List.{find, range_with_len}
 use Rattle.build_journal.specs.Vmids.{Vmids, is_free, IsClaimed}

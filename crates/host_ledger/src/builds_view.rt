@@ -1,4 +1,4 @@
-//! The implementation of `BuildsView` for the ledger of a host.
+//! Functions by which the checks of a command read the ledger of a host, as the trait `BuildsView` requires.
 ghost use Rattle.host_ledger.specs.Summary.{summary_of};
 
 use crate::HostLedger;

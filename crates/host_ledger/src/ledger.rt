@@ -1,4 +1,4 @@
-//! The ledger of a host: its history, and records derived from the history.
+//! The ledger of a host, which has the history and records derived from the history.
 ghost use Rattle.std.specs.Prelude.{◌≡◌, ℕ, ◌<◌, ◌≤◌, [], length, drop, replicate, true, false, nat_lt, Some, None, IfOk, IfSome, option_map, slice_index_or};
 ghost use Rattle.std.specs.Bool.{OnFalse};
 ghost use Rattle.std.specs.List.{last_or};
@@ -258,8 +258,8 @@ impl HostLedger {
         kept.recs.granule(number)
     }
 
-    /// Returns the RD of the build's realm, if it has one, and the granule of the REC that an operation uses or
-    /// destroys, if that REC exists.
+    /// Returns the RD of the build's realm, and the granule of the REC that `act` uses or destroys. Either is `None` if
+    /// there is no such realm or REC.
     pub fn place(&self, build: BuildId, act: &Act) -> RealmAndRec
         requires { build < self.now.limits.builds }
         ensures { IsPlaceOf (world_of self.now) build act.now result }
@@ -316,7 +316,7 @@ impl HostLedger {
         self.holders.is_held_by(granule, build)
     }
 
-    /// Returns the build that leases the granule. The result is `None` if no build does, or if the machine does not
+    /// Returns the build that leases the granule, if there is one. The result is `None` also if the machine does not
     /// have the granule.
     pub fn holder(&self, granule: Gran) -> Option<BuildId>
         ensures { result ≡ slice_index_or (world_of self.now).leases granule None }
@@ -357,7 +357,7 @@ impl HostLedger {
         self.builds[build.number() as usize].mark = Some(*mark);
     }
 
-    /// Records an operation of a build as the last event. No memory is taken.
+    /// Appends an operation of a build to the history, and updates the ledger's records. No memory is taken.
     pub fn record(&mut self, build: BuildId, act: Act)
         requires there { build < self.old.limits.builds }
         requires can { CanRecord self.old build act }

@@ -1,4 +1,4 @@
-//! The ledger of a host: its history, and values derived from the history.
+//! The ledger in which a host keeps its history, and values derived from the history.
 //!
 //! Contracts see a ledger as they see a host: by its limits, room, history, abort flags and marks. All other values are
 //! functions of these. For each build they are its open operations, its pages, its realm's RD, its RECs by number, and

@@ -1,4 +1,4 @@
-//! The RECs of a build's realm, by number.
+//! The list of the RECs of a build's realm, in which a REC is found by its number.
 ghost use Rattle.std.specs.Prelude.{◌≡◌, ◌+◌, ◌-◌, ◌<◌, [], ◌∷◌, ◌++◌, take, length, IfOk};
 ghost use Rattle.realm_model.specs.RecsOpen.{granule_in};
 ghost use Rattle.host_ledger.specs.Recs.{IsAbove};

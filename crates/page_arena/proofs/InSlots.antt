@@ -1,5 +1,4 @@
--- Proofs about pages in slots: a write to a page changes that page alone, whether the page has a slot of its own or
--- gets a new one.
+-- Proofs that a write to a page changes that page alone, whether the page has a slot of its own or gets a new one.
 use Rattle.std.proofs.Common.{◌≡◌, ◌≢◌, ℕ, zero, suc, ◌+◌, ◌-◌, ◌<◌, ◌≤◌, List, [], ◌∷◌, ◌++◌, length, replicate, set, get_or, refl, sym, ap, ◌∙◌, ⊎_elim, arith, length-set}
 use Rattle.std.proofs.lemmas.Bool.{cases_eq}
 use Rattle.std.proofs.lemmas.List.{length-replicate, length-map, get_or-map, get_or-replicate, get_or_append_left, get_or_at, get_or-set_same, get_or-set_other, set-get_or, ext_get_or}
@@ -101,7 +100,7 @@ module _ (items : List (List ℕ)) (slots : List ℕ) where
   unfolding pages_in
   page_in i d lt = get_or-map _ slots i 0 d lt
 
--- lists of pages are equal if each page is
+-- `pages_in` gives the list `pages` if both lists have the same length and the same page at each index
 same_pages : (items : List (List ℕ)) (slots : List ℕ) (pages : List (List ℕ)) → length slots ≡ length pages
     → ((i : ℕ) → i < length slots → get_or items (get_or slots i 0) zero_page ≡ get_or pages i zero_page) → pages_in items slots ≡ pages
 same_pages items slots pages long each =
@@ -165,7 +164,7 @@ page_shared items slots i zeros lt none =
     let it : get_or (pages_in items slots) i zero_page ≡ zero_page = page_in items slots i zero_page lt ∙ ap (λ (k : ℕ). get_or items k zero_page) none ∙ zeros in
     ap (set (pages_in items slots) i) (sym it) ∙ set-get_or (pages_in items slots) i zero_page
 
--- clearing the page after a run of cleared pages makes the run longer by one page
+-- clearing the page that follows a run of cleared pages makes the run longer by one page
 pub run_more : (pages : List (List ℕ)) (first i : ℕ) → first ≤ i → i < length pages
     → set (with_run pages first (i - first) zero_page) i zero_page ≡ with_run pages first (i + 1 - first) zero_page
 run_more pages first i low lt =

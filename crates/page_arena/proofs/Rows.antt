@@ -46,7 +46,7 @@ use Rattle.page_arena.specs.contracts.row.Start as start
 use Rattle.page_arena.proofs.row.Start.TheLaws as start_laws
 use Rattle.page_arena.proofs.row.Row.TheLaws as row_laws
 
--- the item at an index, with the fact that a lookup there finds it, whatever the default of the lookup is
+-- a list has an item at each index below its length, and a lookup there gives the item whatever the default is
 pub found : {X : Type 0} (xs : List X) (i : ℕ) → i < length xs → (x : X) × ((d : X) → get_or xs i d ≡ x)
 found [] i lt = absurd (omega arith)
 found (x ∷ xs) zero lt = (x, λ d. refl)
@@ -71,14 +71,14 @@ module _ (E : El) where
   abbrev pub owner_val : Owner.Denot → List Val
   owner_val r = owner_lowers.lowered r ∷ []
 
-  -- what the row's data field owns
+  -- the ownership of `mark`, the only field of a `Row` that is not ghost
   abbrev pub Mark : Owner.Denot → List Val → Fml
   Mark r = (Struct (shape (row.the_type (R E) (P E) E.al.g))).own_val (to (row.the_type (R E) (P E) E.al.g) r)
 
   abbrev pub right : E.al.row.Denot → Ty → Ptr → Fml
   right = token E.al
 
-  -- if the items end below 2^63, the offset at which one begins fits 64 bits
+  -- if the items of an array take fewer than 2^63 bytes, the size of an item and the offset of each item fit in 64 bits
   pub begins_below : (count index : ℕ) → index < count → Reaches (R E) count → (sz E < 2 ^ 64) × (index * sz E < 2 ^ 64)
   begins_below count index lt reaches =
       let one = one_below count (sz E) (2 ^ 63) (omega arith) reaches.0 in
@@ -104,7 +104,7 @@ module _ (E : El) {M : Type 1} {𝓤 : Ura M} (𝓛 : Logic 𝓤) where
       use1 𝓛 (‵ (shared_of (R E) (get_or xs i d) b (i * sz E + (o + sz E)) κ)) (shows_one κ b xs (o + sz E) i d (omega arith)) $
       rewrite ! 0 (λ (k : ℕ). ‵ (shared_of (R E) (get_or xs i d) b k κ)) {x = suc i * sz E + o} (omega (arith, suc-mul i (sz E))) refl $ done !
 
--- the machine value of a row
+-- the machine value of a `Row`, the owner of an array
 abbrev pub mark : Val
 mark = vstruct (vcons (vstruct vnil) vnil)
 
@@ -116,13 +116,15 @@ module _ (E : El) {M : Type 1} {𝓤 : Ura M} (𝓛 : Logic 𝓤) where
   start_made s = makes_shadow 𝓛 ((Starts E).own_val s (start_val E s)) (λ vss. (tt, (tt, tt))) ((ptr_val s.first ∷ [], tt), (refl, (refl, tt)))
 
 module _ (E : El) {M : Type 1} {𝓤 : Ura M} (𝓛 : Logic 𝓤) (t : Ty → Ptr → Fml) (b o room : ℕ) where
-  -- the items, and the unused memory after them with the right to free all of it
+  -- the ownership of the items at the start of the memory
   abbrev pub Items : List (el_x E) → Fml
   Items xs = part_at (Array (R E) (length xs)) full_share xs b o
 
+  -- the unused memory after the first `n` items, with the right to free the whole memory
   abbrev pub Behind : ℕ → Fml
   Behind n = fsep (room_for (array_of (R E) (room - n)) (block_ptr b o +ₚ n * sz E)) (t (array_of (R E) room) (block_ptr b o))
 
+  -- the items, and the unused memory after them with the right to free the whole memory
   abbrev pub All : List (el_x E) → Fml
   All xs = fsep (Items xs) (Behind (length xs))
 
@@ -132,7 +134,8 @@ module _ (E : El) {M : Type 1} {𝓤 : Ura M} (𝓛 : Logic 𝓤) (t : Ty → Pt
   abbrev pub one : ℕ → el_x E → Fml
   one i x = part_at (R E) full_share x b (at i)
 
-  -- the ownership of as many other items, and of the unused memory after them, is that of a row with those items
+  -- if `ys` and `xs` have equal lengths, the items `ys` and the unused memory after `xs` are together an array of the
+  -- items `ys`
   same_many : (xs ys : List (el_x E)) → length ys ≡ length xs → ent 𝓤 (sep 𝓤 (sem 𝓛 (part_at (Array (R E) (length xs)) full_share ys b o)) (sem 𝓛 (Behind (length xs)))) (sem 𝓛 (All ys))
   same_many xs ys e =
       qed 𝓛 (‵ (part_at (Array (R E) (length xs)) full_share ys b o) ∷ ‵ (Behind (length xs)) ∷ []) ∵
@@ -154,14 +157,14 @@ module _ (E : El) {M : Type 1} {𝓤 : Ura M} (𝓛 : Logic 𝓤) (t : Ty → Pt
         use2 𝓛 (‵ (part_at (Array (R E) (length xs)) full_share (set xs i y) b o)) (put_in E 𝓛 (length xs) xs i y b o lt refl) $
         by ! (same_many xs (set xs i y) (length-set xs i y))
 
-  -- Two items of a row, one to read and one to write. The fields are what is owned besides them, and the proofs that
-  -- both can be taken out of the row, and put back with the second replaced.
+  -- Two items of an array, one to read and one to write. The fields are what is owned besides the two, and the proofs
+  -- that both can be taken out of the array, and put back with the second replaced.
   pub record Pair (xs : List (el_x E)) (i j : ℕ) : Type 1 where
     pub besides : Fml
     pub out : (d : el_x E) → ent 𝓤 (sem 𝓛 (All xs)) (sep 𝓤 (sem 𝓛 (one i (get_or xs i d))) (sep 𝓤 (sem 𝓛 (one j (get_or xs j d))) (sem 𝓛 besides)))
     pub back : (d w : el_x E) → ent 𝓤 (sep 𝓤 (sem 𝓛 (one i (get_or xs i d))) (sep 𝓤 (sem 𝓛 (one j w)) (sem 𝓛 besides))) (sem 𝓛 (All (set xs j w)))
 
-  -- the two items are taken out, the one of the lower index first, and two others are put back
+  -- if `i` is below `j`, the items at `i` and `j` can be taken out of an array, and two items put back in their places
   module _ (xs : List (el_x E)) (i j : ℕ) (lt : i < j) (j_in : j < length xs) where
     abbrev Apart : Fml
     Apart = fsep (Beside E 𝓛 b o xs i j) (Behind (length xs))
@@ -202,8 +205,8 @@ module _ (E : El) {M : Type 1} {𝓤 : Ura M} (𝓛 : Logic 𝓤) (t : Ty → Pt
   pub pair : (xs : List (el_x E)) (i j : ℕ) → i < length xs → j < length xs → i ≢ j → Pair xs i j
   pair xs i j i_in j_in other = elim (cases_lt i j) [ inl lt ↦ reads_first xs i j lt j_in | inr le ↦ reads_second xs i j (omega (arith, le, other)) i_in ]
 
-  -- An index of a row that can be written. The fields are what is owned besides the memory there, and the proofs that
-  -- this memory can be taken out, and put back with an item in it.
+  -- An index of an array at which an item can be written. The fields are what is owned besides the memory there, and
+  -- the proofs that this memory can be taken out, and put back with an item in it.
   pub record Place (xs : List (el_x E)) (i : ℕ) : Type 1 where
     pub besides : Fml
     pub out : ent 𝓤 (sem 𝓛 (All xs)) (sep 𝓤 (sem 𝓛 (froom (elτ E) b (at i))) (sem 𝓛 besides))
@@ -238,7 +241,7 @@ module _ (E : El) {M : Type 1} {𝓤 : Ura M} (𝓛 : Logic 𝓤) (t : Ty → Pt
   pub place : (xs : List (el_x E)) (i : ℕ) → i ≤ length xs → i < room → Place xs i
   place xs i le lt = elim (cases_lt i (length xs)) [ inl inner ↦ inside xs i inner | inr end ↦ behind xs i (omega (arith, le, end)) lt ]
 
-  -- a new row has no item
+  -- newly allocated memory, with the right to free it, is an array without items
   pub fresh : ent 𝓤 (sep 𝓤 (sem 𝓛 (froom (array_of (R E) room) b o)) (sem 𝓛 (t (array_of (R E) room) (block_ptr b o)))) (sem 𝓛 (All []))
   fresh =
       let none : o ≡ o + 0 * sz E = omega (arith, zero-mul (sz E)) in let whole : room ≡ room - 0 = omega arith in
@@ -246,13 +249,14 @@ module _ (E : El) {M : Type 1} {𝓤 : Ura M} (𝓛 : Logic 𝓤) (t : Ty → Pt
       rewrite ! 0 (λ (k : ℕ). ‵ (froom (array_of (R E) room) b k)) none refl $ rewrite ! 0 (λ (k : ℕ). ‵ (froom (array_of (R E) k) b (o + 0 * sz E))) whole refl $ fjoin ! $
       use0 𝓛 (‵ (Items [])) (empty E 𝓛 [] b o refl) $ fjoin ! $ done !
 
-  -- the ownership of a row becomes that of its whole memory without the items, with the right to free it
+  -- if an array has at most `room` items, giving up the items leaves the whole memory unused, with the right to free
+  -- the memory
   pub all_room : (xs : List (el_x E)) → length xs ≤ room → ent 𝓤 (sem 𝓛 (All xs)) (sep 𝓤 (sem 𝓛 (froom (ty_array (elτ E) room) b o)) (sem 𝓛 (t (array_of (R E) room) (block_ptr b o))))
   all_room xs le =
       qed 𝓛 (‵ (All xs) ∷ []) ∵ fsplit ! $ move ! (1 ∷ []) $ fsplit ! $ as_written ! (ty_array (elτ E) (room - length xs)) b (o + length xs * sz E) $ move ! (2 ∷ 0 ∷ []) $
       use2 𝓛 (‵ (froom (ty_array (elτ E) room) b o)) (arr_room E 𝓛 b o (length xs) room xs le) $ done !
 
--- a row borrowed by a `&mut`, after other items are put into it
+-- replacing items of a `Row` that is borrowed by a `&mut` gives a `Row` with the new items
 module _ (E : El) {M : Type 1} {𝓤 : Ura M} (𝓛 : Logic 𝓤) (row : (Owner E).Denot) (rb ro : ℕ) (us : List Val) (b o : ℕ) (e : row.at ≡ block_ptr b o) where
   pub closed : (xs : List (el_x E))
       → ent 𝓤 (sep 𝓤 (sem 𝓛 (All E 𝓛 (right E row.alloc) b o row.room xs)) (sem 𝓛 (fsep (Mark E row us) (cell_at full_share (Owner E).mir us rb ro))))
@@ -264,7 +268,7 @@ module _ (E : El) {M : Type 1} {𝓤 : Ura M} (𝓛 : Logic 𝓤) (row : (Owner 
       rewrite ! 0 (λ (p : Ptr). ‵ (row_owns (right E row.alloc) (R E) p row.room xs)) (sym e) refl $ move ! (1 ∷ []) $ fsplit ! $ move ! (0 ∷ 2 ∷ []) $ fjoin ! $ move ! (1 ∷ 0 ∷ []) $ fjoin ! $
       fpack ! (List Val) (λ vs. fsep (cell_at full_share (Owner E).mir vs rb ro) ((Owner E).own_val new vs)) us $ done !
 
-  -- all of the row but one item
+  -- the ownership of the `Row` with all of its array but one item
   abbrev pub Rest : (i : ℕ) → i < length row.items → Fml
   Rest i lt = fsep (Besides E 𝓛 (right E row.alloc) b o row.room row.items i lt) (fsep (Mark E row us) (cell_at full_share (Owner E).mir us rb ro))
 
@@ -278,7 +282,7 @@ module _ (E : El) {M : Type 1} {𝓤 : Ura M} (𝓛 : Logic 𝓤) (row : (Owner 
       qed 𝓛 (‵ (part_at (R E) full_share w b (i * sz E + o)) ∷ ‵ (Rest i lt) ∷ []) ∵ move ! (1 ∷ []) $ fsplit ! $ move ! (2 ∷ 0 ∷ []) $
       use2 𝓛 (‵ (All E 𝓛 (right E row.alloc) b o row.room (set row.items i w))) (item_in E 𝓛 (right E row.alloc) b o row.room row.items i lt w) $ by ! (closed (set row.items i w))
 
-  -- all of the row but two items, of which the first is borrowed unchanged
+  -- the ownership of the `Row` with all of its array but the two items of a `Pair`
   abbrev pub PairRest : (i j : ℕ) → Pair E 𝓛 (right E row.alloc) b o row.room row.items i j → Fml
   PairRest i j two = fsep two.besides (fsep (Mark E row us) (cell_at full_share (Owner E).mir us rb ro))
 
@@ -292,6 +296,6 @@ module _ (E : El) {M : Type 1} {𝓤 : Ura M} (𝓛 : Logic 𝓤) (row : (Owner 
       move ! (1 ∷ []) $ fsplit ! $ move ! (1 ∷ []) $ drop ! $ move ! (2 ∷ []) $ fsplit ! $ move ! (2 ∷ 3 ∷ 0 ∷ []) $
       use3 𝓛 (‵ (All E 𝓛 (right E row.alloc) b o row.room (set row.items j w))) (two.back d w) $ by ! (closed (set row.items j w))
 
--- the tokens of the two parameters' lifetimes
+-- the tokens of the lifetimes of the two type parameters
 abbrev pub Others : {M : Type 1} {𝓤 : Ura M} (𝓛 : Logic 𝓤) → Lfts 3 → Shares 3 → Item 𝓤
 Others 𝓛 κs qs = ‵ (flft κs.1.0 qs.1.0) ⊛ ‵ (flft κs.1.1.0 qs.1.1.0) ⊛ ‵ ftrue

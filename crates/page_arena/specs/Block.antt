@@ -1,4 +1,4 @@
--- Free and taken blocks: a block has 2^order adjacent granules, and begins at a multiple of 2^order.
+-- Free and taken blocks, each of 2^order adjacent granules, the first a multiple of 2^order.
 use Rattle.std.specs.Prelude.{◌≡◌, ℕ, ◌+◌, ◌%◌, ◌^◌, ◌<◌, ◌≤◌, Bool, true, false, List, ◌++◌, length, take, drop, replicate}
 use Rattle.page_arena.specs.Page.{is_free}
 
@@ -19,7 +19,7 @@ IsFreeBlock flags order first = IsBlock true flags order first
 abbrev pub IsTakenBlock : List Bool → ℕ → ℕ → Type 0
 IsTakenBlock flags order first = IsBlock false flags order first
 
--- the list after each of the `count` items from index `first` on is replaced by `x`
+-- the list with each of the `count` items from index `first` on replaced by `x`
 unfoldable pub with_run : {X : Type 0} → List X → ℕ → ℕ → X → List X
 with_run xs first count x = take first xs ++ replicate count x ++ drop (first + count) xs
 

@@ -7,7 +7,7 @@ use Rattle.page_arena.specs.declared.row.Row.{Row}
 use Rattle.page_arena.specs.declared.row.Start.{Start}
 use Rattle.page_arena.specs.contracts.row.Row.{the_row}
 
--- The row begins at this start, has an item at the index, and has fewer than 2^63 items and fewer than 2^63 bytes.
+-- The array begins at `start`, has an item at `index`, and has fewer than 2^63 items and fewer than 2^63 bytes.
 abbrev pub HasItem : (R : RattleType) {A : Type 0} → Start R.Denot → Row R.Denot A → ℕ → Type 0
 HasItem R start row index = (start.first ≡ row.at) × (index < length row.items) × Reaches R (length row.items)
 

@@ -1,10 +1,10 @@
--- The block that the simple page store takes: the lowest free block of the requested order.
+-- The block that the simple page store takes, which is the lowest free block of the requested order.
 use Rattle.std.specs.Prelude.{ℕ, ◌+◌, ◌%◌, ◌^◌, ◌==◌, ◌&&◌, Bool, nat_le, List, length, Option}
 use Rattle.std.specs.List.{find, list_all, range_with_len}
 use Rattle.page_arena.specs.Page.{is_free}
 
--- whether a free block of the given order begins at the given granule: it is aligned and inside the machine, and each
--- of its granules is free
+-- whether a free block of the given order begins at the given granule: aligned, inside the machine, and with each
+-- granule free
 unfoldable pub begins_free_block : List Bool → ℕ → ℕ → Bool
 begins_free_block flags order first =
     first % 2 ^ order == 0 && (nat_le (first + 2 ^ order) (length flags) && list_all (is_free flags) (range_with_len first (2 ^ order)))

@@ -21,6 +21,6 @@ row_lends R at items = lent_at (Array R (length items)) at items
 abbrev pub Reaches : RattleType → ℕ → Type 0
 Reaches R count = (count * type_size R < 2 ^ 63) × (count < 2 ^ 63)
 
--- the list after `item` is put at an index: in place of the item there, or after the last one
+-- the list with `item` put at an index, in place of the item there or after the last item
 abbrev pub put_at : {X : Type 0} → List X → ℕ → X → List X
 put_at items index item = take index items ++ item ∷ drop (index + 1) items

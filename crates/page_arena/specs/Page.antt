@@ -1,7 +1,7 @@
 -- The pages of a machine, with a flag for each page that says whether the page is free. RMM 1.0, Granule.
 use Rattle.std.specs.Prelude.{◌≡◌, ℕ, ◌≤◌, Bool, false, List, [], length, slice_index_or, slice_set, All}
 
--- the bytes of a granule's page; a granule outside the machine has none
+-- the bytes of a granule; a granule outside the machine has none
 abbrev pub page_at : List (List ℕ) → ℕ → List ℕ
 page_at pages granule = slice_index_or pages granule []
 
@@ -9,7 +9,7 @@ page_at pages granule = slice_index_or pages granule []
 abbrev pub is_free : List Bool → ℕ → Bool
 is_free flags granule = slice_index_or flags granule false
 
--- the pages after one byte of a page is set to a value
+-- all pages, with one byte of one of them set to a value
 abbrev pub with_byte : List (List ℕ) → ℕ → ℕ → ℕ → List (List ℕ)
 with_byte pages granule offset value = slice_set pages granule (slice_set (page_at pages granule) offset value)
 

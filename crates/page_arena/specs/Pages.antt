@@ -42,7 +42,7 @@ module _ (pages : List (List ℕ)) (flags : List Bool) (sized : IsSized pages fl
         flagged = omega arith;
       }
 
-  -- `IsSized` still holds after flags are set
+  -- `IsSized` still holds after the flags of a run of pages are all set to `flag`
   pub IsSized-flags : (first count : ℕ) (flag : Bool) → first + count ≤ length flags → IsSized pages (with_run flags first count flag)
   IsSized-flags first count flag fits =
       record {
@@ -52,7 +52,7 @@ module _ (pages : List (List ℕ)) (flags : List Bool) (sized : IsSized pages fl
         flagged = length-with_run flags first count flag fits ∙ sized.flagged;
       }
 
-  -- `IsSized` still holds after a run of pages is cleared and its flags are set
+  -- `IsSized` still holds after a run of pages is cleared, and the flags of the run are all set to `flag`
   pub IsSized-with_run : (first count : ℕ) (flag : Bool) → first + count ≤ length flags → IsSized (with_run pages first count zero_page) (with_run flags first count flag)
   IsSized-with_run first count flag fits =
       let flagged = sized.flagged in

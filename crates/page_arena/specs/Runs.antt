@@ -19,7 +19,7 @@ with_run_none xs first x =
     let same : first + 0 ≡ first = omega arith in
     rw (same, append-nil) (take-append-drop first xs)
 
--- setting the item after a run to the run's value makes the run longer by one
+-- setting the item that follows a run to the run's value makes the run longer by one
 pub with_run_more : {X : Type 0} (xs : List X) (first count : ℕ) (x : X) → first + count < length xs → set (with_run xs first count x) (first + count) x ≡ with_run xs first (count + 1) x
 unfolding with_run
 with_run_more xs first count x within =
@@ -46,7 +46,7 @@ module _ {X : Type 0} (xs : List X) (first count : ℕ) (x : X) (fits : first + 
       length-append (take first xs ++ replicate count x) (drop (first + count) xs)
       ∙ (let a = fronts in let b = length-drop (first + count) xs in omega arith)
 
-  -- inside the run each item is `x`
+  -- after a run is overwritten with `x`, each item inside the run is `x`
   pub get_or-with_run_inside : (i : ℕ) (d : X) → first ≤ i → i < first + count → get_or (with_run xs first count x) i d ≡ x
   unfolding with_run
   get_or-with_run_inside i d low high =
@@ -54,7 +54,7 @@ module _ {X : Type 0} (xs : List X) (first count : ℕ) (x : X) (fits : first + 
       ∙ get_or-append_right (take first xs) (replicate count x) first i d front low
       ∙ get_or-replicate count (i - first) x d (omega arith)
 
-  -- outside the run each item is as before
+  -- after a run is overwritten, each item outside the run is unchanged
   pub get_or-with_run_outside : (i : ℕ) (d : X) → (i < first) ⊎ (first + count ≤ i) → get_or (with_run xs first count x) i d ≡ get_or xs i d
   unfolding with_run
   get_or-with_run_outside i d (inl below) =
@@ -67,7 +67,7 @@ module _ {X : Type 0} (xs : List X) (first count : ℕ) (x : X) (fits : first + 
       ∙ get_or-drop (first + count) xs (i - (first + count)) d
       ∙ ap (λ (n : ℕ). get_or xs n d) same
 
-  -- overwriting items that are `x` already leaves the list as it is
+  -- if each item of a run is `x` already, overwriting the run with `x` leaves the list as it is
   pub with_run_same : (d : X) → ((i : ℕ) → first ≤ i → i < first + count → get_or xs i d ≡ x) → with_run xs first count x ≡ xs
   with_run_same d there = ext_get_or d _ _ length-with_run (λ i lt.
       ⊎_elim
@@ -75,7 +75,7 @@ module _ {X : Type 0} (xs : List X) (first count : ℕ) (x : X) (fits : first + 
       (λ h. get_or-with_run_outside i d h)
       (inside_or_outside first count i))
 
--- if a run is overwritten twice, only the second value counts
+-- overwriting a run with `y` and then with `x` is the same as overwriting it with `x` alone
 pub with_run-with_run : {X : Type 0} (xs : List X) (first count : ℕ) (x y : X) → first + count ≤ length xs → with_run (with_run xs first count y) first count x ≡ with_run xs first count x
 with_run-with_run {X} xs first count x y fits =
     let ys : List X = with_run xs first count y in

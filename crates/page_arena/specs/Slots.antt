@@ -12,8 +12,7 @@ owners [] = 0
 owners (zero ∷ slots) = owners slots
 owners (suc _ ∷ slots) = suc (owners slots)
 
--- The first `used` slots are in use: slot 0, which all pages without a slot of their own share, and one slot for each
--- other page.
+-- The pages use the slots below `used`, each page a slot of its own or the shared slot 0.
 pub record IsSlots (slots : List ℕ) (used : ℕ) : Type 0 where
   pub below : (page : ℕ) → page < length slots → get_or slots page 0 < used
   pub apart : (page other : ℕ) → page < length slots → other < length slots → page ≢ other → get_or slots page 0 ≡ get_or slots other 0 → get_or slots page 0 ≡ 0

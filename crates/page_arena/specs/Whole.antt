@@ -3,8 +3,8 @@ use Rattle.std.specs.Prelude.{◌≡◌, ℕ, ◌+◌, ◌≤◌, List, length, 
 use Rattle.granule_addr.specs.Page.{zero_page}
 use denote.RawPtr.{Ptr}
 
--- The row begins at `first`, was allocated by `alloc`, has capacity for one slot more than there are pages, and holds
--- the used slots. The first of them has zeros. There are 1 to 4,096 pages.
+-- The array of slots begins at `first`, was allocated by `alloc`, has capacity for one slot more than there are pages,
+-- and holds the used slots. The first slot has zeros. There are 1 to 4,096 pages.
 pub record IsWhole {A : Type 0} (first at : Ptr) (slots : List ℕ) (used room : ℕ) (items : List (List ℕ)) (alloc from : A) : Type 0 where
   pub place : at ≡ first
   pub owner : from ≡ alloc

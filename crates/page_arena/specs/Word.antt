@@ -3,23 +3,23 @@ use Rattle.std.specs.Prelude.{ℕ, zero, suc, ◌+◌, ◌*◌, ◌%◌, ◌^◌
 use Rattle.std.specs.Int.{from_le_bytes, to_le_bytes, w64}
 use Rattle.page_arena.specs.Page.{page_at}
 
--- the page after `bytes` are written into it, from the offset `at` on
+-- a page with `bytes` written into it, from the offset `at` on
 unfoldable pub with_bytes : List ℕ → ℕ → List ℕ → List ℕ
 with_bytes page at bytes = take at page ++ bytes ++ drop (at + length bytes) page
 
--- word i of a page
+-- the 64-bit word at index `i` of a page, little-endian
 unfoldable pub word_of_page : List ℕ → ℕ → ℕ
 word_of_page page i = from_le_bytes w64 (slice_range page (8 * i) (8 * i + 8))
 
--- the page after its word i is overwritten
+-- a page with its word i overwritten
 unfoldable pub page_with_word : List ℕ → ℕ → ℕ → List ℕ
 page_with_word page i word = with_bytes page (8 * i) (to_le_bytes w64 word)
 
--- word i of a granule's page
+-- word i of a granule
 abbrev pub word_at : List (List ℕ) → ℕ → ℕ → ℕ
 word_at pages granule i = word_of_page (page_at pages granule) i
 
--- the pages after word i of a granule's page is overwritten
+-- the bytes of all granules, with word i of one granule overwritten
 abbrev pub with_word : List (List ℕ) → ℕ → ℕ → ℕ → List (List ℕ)
 with_word pages granule i word = slice_set pages granule (page_with_word (page_at pages granule) i word)
 

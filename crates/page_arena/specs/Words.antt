@@ -1,5 +1,5 @@
--- Theorems about the 64-bit words of a page after one of them is written, and about those of a page of zeros. With
--- these theorems, a proof about words need not speak of their bytes.
+-- Theorems about the 64-bit words of a page after one of them is written, and of a page of zeros. With these theorems,
+-- a proof about words need not speak of their bytes.
 use Rattle.std.specs.Prelude.{◌≡◌, ◌≢◌, ℕ, ◌+◌, ◌-◌, ◌*◌, ◌^◌, ◌<◌, ◌≤◌, ◌⊎◌, List, [], ◌++◌, length, take, drop, replicate, get_or, slice_range}
 use Rattle.std.specs.Int.{from_le_bytes, to_le_bytes, w64}
 use Rattle.std.proofs.Common.{refl, sym, ap, ◌∙◌, inl, inr, ⊎_elim, arith, length-append, append_assoc}
@@ -69,7 +69,7 @@ module _ (page : List ℕ) (i word : ℕ) (whole : length page ≡ 4096) (index 
   word_of_page-page_with_word_same fits =
       ap (from_le_bytes w64) (range_written page (to_le_bytes w64 word) (8 * i) refl (omega arith)) ∙ from_le_bytes-to_le_bytes_8 word fits
 
-  -- every other word of the page is as before
+  -- after a word is written into a page, every other word of the page is unchanged
   pub word_of_page-page_with_word_other : (j : ℕ) → j ≢ i → j < 512 → word_of_page (page_with_word page i word) j ≡ word_of_page page j
   unfolding word_of_page page_with_word
   word_of_page-page_with_word_other j other lt =
@@ -92,12 +92,13 @@ module _ (pages : List (List ℕ)) (granule i word : ℕ) (inside : granule < le
   new_page : page_at (with_word pages granule i word) granule ≡ page_with_word (page_at pages granule) i word
   new_page = get_or-set_same pages granule _ [] inside
 
-  -- after a word is written into a granule's page, the word at its index is the one that was written
+  -- after a word is written into a granule, the word at its index is the one that was written
   pub word_at-with_word_same : word < 2 ^ 64 → word_at (with_word pages granule i word) granule i ≡ word
   word_at-with_word_same fits =
       ap (λ page. word_of_page page i) new_page ∙ word_of_page-page_with_word_same (page_at pages granule) i word whole index fits
 
-  -- every other word, of this page or of another one, is as before
+  -- after a word is written into a granule, every other word of that granule, and every word of any other granule, is
+  -- unchanged
   pub word_at-with_word_other : (other j : ℕ) → (other ≢ granule) ⊎ (j ≢ i) → j < 512 → word_at (with_word pages granule i word) other j ≡ word_at pages other j
   word_at-with_word_other other j (inl ne) lt = ap (λ page. word_of_page page j) (get_or-set_other pages granule other _ [] ne)
   word_at-with_word_other other j (inr ne) lt =
@@ -110,7 +111,7 @@ module _ (pages : List (List ℕ)) (granule i word : ℕ) (inside : granule < le
       (λ beside. ap (λ page. word_of_page page j) (get_or-set_other pages granule other _ [] beside))
       (cases_eq other granule)
 
--- writing a word into a page leaves every other page as it is
+-- writing a word into a granule leaves the bytes of every other granule as they are
 pub page_at-with_word_other : (pages : List (List ℕ)) (granule i word other : ℕ) → other ≢ granule → page_at (with_word pages granule i word) other ≡ page_at pages other
 page_at-with_word_other pages granule i word other ne = get_or-set_other pages granule other _ [] ne
 

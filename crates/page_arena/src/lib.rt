@@ -1,4 +1,4 @@
-//! Stores of pages: the memory of granules, and the set of free granules.
+//! Stores of pages, which keep the memory of granules and the set of free granules.
 //!
 //! Any store is seen as a list of pages of 4,096 bytes and a flag for each page. A block of pages is taken, written and
 //! read, and given back cleared. No call but `build` takes memory. The crates that use a store are proved once, for any

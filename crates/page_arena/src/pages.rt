@@ -1,4 +1,4 @@
-//! The pages of a machine in one allocation.
+//! A type that keeps all pages of a machine in one allocation.
 ghost use Rattle.std.specs.Prelude.{◌≡◌, ◌≢◌, ◌+◌, ◌<◌, ◌≤◌, ◌↔◌, ◌⊎◌, length, replicate, get_or, slice_set, IfOk, IsErrOf};
 ghost use Rattle.std.specs.Borrow.{sem};
 ghost use Rattle.granule_addr.specs.Page.{page_of, zero_page};

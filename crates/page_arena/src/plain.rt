@@ -24,8 +24,8 @@ pub struct PlainStore {
 }
 
 impl PlainStore {
-    /// Creates a store of `pages` pages, all free and zero. The error is `BadSize` exactly if `pages` is not 1 to
-    /// 4,096; the only other error is `Memory`.
+    /// Creates a store of `pages` pages, all free and filled with zeros. The error is `BadSize` exactly if `pages` is
+    /// not 1 to 4,096; the only other error is `Memory`.
     pub fn build(alloc: Global, pages: u16) -> Result<PlainStore, BuildError>
         ensures bad_size { IsErrOf result BuildError.BadSize ↔ ((pages < 1) ⊎ (4096 < pages)) }
         ensures zero { IfOk result (λ store.

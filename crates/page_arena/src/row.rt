@@ -1,5 +1,5 @@
-//! Rows: arrays of values of one type, each in one allocation. Only six functions of the crate use raw pointers, and
-//! all six are in this file.
+//! Rows, which are arrays of values of one type, each in one allocation. Only six functions of the crate use raw
+//! pointers, and all six are in this file.
 ghost use Rattle.std.specs.Prelude.{◌≡◌, ◌≢◌, ◌<◌, ◌≤◌, ℕ, List, [], length, get_or, IfOk, ⊤};
 ghost use Rattle.std.specs.Borrow.{sem};
 ghost use denote.RawPtr.{Ptr};

@@ -1,4 +1,4 @@
-//! Slots: the places in memory that hold the bytes of pages.
+//! Slots, which are the parts of memory that hold the bytes of pages.
 ghost use Rattle.std.specs.Prelude.{◌≡◌, ◌+◌, ◌<◌, ◌≤◌, length, replicate, get_or, set, IfOk};
 ghost use Rattle.page_arena.specs.Slots.{IsSlots};
 

@@ -15,7 +15,7 @@ use thiserror::Error;
 ///
 /// A block of order k is 2^k pages from a multiple of 2^k on. No call takes memory, and none fails.
 pub trait PageStore {
-    /// The model of the store's contents: the bytes of each page.
+    /// The bytes of each page, which are the model of the store's contents.
     ghost page_bytes: { Self → List (List ℕ) };
 
     /// One flag for each page, which is `true` if the page is free.
@@ -97,7 +97,7 @@ pub trait PageStore {
         requires index { index < 512 }
         ensures { result ≡ word_at (page_bytes self.now) granule index };
 
-    /// Writes word `index` of a page, little-endian.
+    /// Writes the 64-bit word at `index` in a page, little-endian.
     fn set_word(&mut self, granule: Gran, index: u16, word: u64)
         requires inside { granule < length (page_bytes self.old) }
         requires taken { is_free (free_flags self.old) granule ≡ false }
@@ -127,7 +127,7 @@ pub trait PageStore {
             ≡ slice_set (page_bytes self.old) granule (bytes_of_words 512 (rising_word kind first step)) }
         ensures flags { free_flags self.new ≡ free_flags self.old };
 
-    /// The fact that a store has 1 to 4,096 pages. Each page has 4,096 bytes and a flag.
+    /// The fact that a store has 1 to 4,096 pages, each with 4,096 bytes and a flag.
     ghost sized: { (store : Self) → IsSized (page_bytes store) (free_flags store) };
 }
 

@@ -14,7 +14,7 @@ pub fn word_in(page: &[u8], index: usize) -> u64
     u64::from_le_bytes(bytes)
 }
 
-/// Writes word `index` of a page, little-endian.
+/// Writes the 64-bit word at `index` in a page, little-endian.
 #[tactic(auto, unfolding(crate::specs::Word::page_with_word, crate::specs::Word::with_bytes))]
 pub fn set_word_in(page: &mut [u8], index: usize, word: u64)
     requires page { length page.old ≡ 4096 }

@@ -1,7 +1,7 @@
 -- Proofs that an excerpt written part by part is a line of text, followed by a line of spaces and carets.
 use Rattle.std.proofs.Common.{◌≡◌, ℕ, List, [], ◌∷◌, ◌++◌, ap, ◌∙◌, append_assoc}
 
--- an excerpt written in three parts is the front of a line, the rest of the line with a line feed, and a line of carets
+-- an excerpt written in three parts is the beginning of a line, the rest of it with a line feed, and the carets
 pub excerpt_by_parts : (one two new front back carets : List ℕ)
     → one ≡ front → two ≡ one ++ (back ++ 10 ∷ []) → new ≡ two ++ carets
     → new ≡ front ++ (back ++ 10 ∷ carets)

@@ -1,5 +1,6 @@
--- Lemmas about lists of findings. Sorted errors are still errors, and sorted warnings still warnings, with spans inside
--- the text. Errors to which an error is added are still errors.
+-- Proofs that findings keep their properties when they are sorted, or when one more finding is added. Sorted errors are
+-- still errors, and sorted warnings still warnings, with spans inside the text. Errors to which an error is added are
+-- still errors.
 use Rattle.std.proofs.Common.{List, [], ◌∷◌, ◌++◌, ◌≡◌, ℕ, length, ap, sym, ◌∙◌, subst}
 use Rattle.std.specs.Prelude.{All, Any, Ok, Err, Some, None, Result}
 use Rattle.std.specs.List.Sorted.{IsPermutation, IsNonDecreasingBy}
@@ -36,7 +37,7 @@ errors_pushed fault xs ys f pushed errors is =
     let one = Any-push (λ (x : Finding). IsErrorOf fault x.severity) xs f is in
     subst (λ (zs : List Finding). AreErrors fault zs) (sym pushed) (record { errors = all; told = one })
 
--- if a finding with its span inside the text is added to findings that have theirs there, all have their spans there
+-- a list whose findings have spans inside the text keeps that property when a finding with such a span is added
 pub inside_pushed : (end : ℕ) (xs ys : List Finding) (f : Finding) → ys ≡ xs ++ f ∷ [] → AreInside end xs → IsStretchIn end f → AreInside end ys
 inside_pushed end xs ys f pushed are is = subst (λ (zs : List Finding). AreInside end zs) (sym pushed) (All-push (IsStretchIn end) xs f are is)
 

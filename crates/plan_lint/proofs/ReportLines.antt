@@ -51,7 +51,8 @@ finding_by_parts source f line column excerpt old one two new is_excerpt first s
           ∙ ap (λ (t : List ℕ). t ++ (excerpt ++ notes)) first ∙ append_assoc old head (excerpt ++ notes);
     }
 
--- `IsReport` holds of a report that has the texts of all findings, then the text of the size, and the right `is_plan`
+-- `IsReport` holds if the report's text has the judged findings and then the size, if any, and `is_plan` says whether
+-- there is a size
 pub report_by_parts : (source bytes : List ℕ) (report : LintReport) (judged : Judged) (empty between : List ℕ)
     → IsJudged bytes judged
     → report.is_plan ≡ is_some judged.size

@@ -13,7 +13,7 @@ abbrev pub IsError : Severity → Type 0
 IsError (Error fault also) = Unit {0}
 IsError Warning = ⊥
 
--- an error whose first or second fault is the given fault
+-- the severity is that of an error, and `fault` is the error's first fault or its second fault
 abbrev pub IsErrorOf : PlanFault → Severity → Type 0
 IsErrorOf fault (Error first also) = (first ≡ fault) ⊎ (also ≡ Some fault)
 IsErrorOf fault Warning = ⊥
@@ -45,7 +45,7 @@ pub record AreFindings (bytes : List ℕ) (findings : List Finding) : Type 0 whe
   pub inside : AreInside (length bytes) findings
   pub in_order : IsNonDecreasingBy (λ f. f.span.start) findings
 
--- the size of a plan: its numbers of builds, of steps in all builds, and of turns
+-- the number of a plan's builds, the number of steps in all builds, and the number of turns
 abbrev pub size_of : Plan → Size
 size_of plan = record { builds = length plan.builds; steps = sum_by length plan.builds; turns = length plan.order }
 

@@ -1,4 +1,4 @@
--- The lines of a report: each finding with its source, position and excerpt, and the size of the plan. The source is
+-- Definitions of the lines that show a finding in a report, and of the line that shows a plan's size. The source is
 -- given as plain text.
 use Rattle.std.specs.Prelude.{◌≡◌, ℕ, ◌==◌, List, [], ◌∷◌, ◌++◌, codes, string_bytes, Option, Some, None, if◌then◌else◌}
 use Rattle.std.specs.Fmt.{decimal}
@@ -16,12 +16,13 @@ abbrev pub severity_word : Severity → List ℕ
 severity_word (Error fault also) = codes "error"
 severity_word Warning = codes "warning"
 
--- the first line of a finding: the source, the line and the column, the word for its severity, and the message
+-- the first line of a finding: the source, the numbers of the line and the column, the word for the severity, and the
+-- message
 abbrev pub head_line : List ℕ → ℕ → ℕ → Finding → List ℕ
 head_line source line column f =
     source ++ (58 ∷ decimal line ++ (58 ∷ decimal column ++ (codes ": " ++ (severity_word f.severity ++ (codes ": " ++ plain_line (string_bytes f.words))))))
 
--- The text of a finding: a first line with a position, an excerpt, and a line for each note.
+-- The text shows the finding: a first line with a position, an excerpt, and a line for each note.
 pub record IsFindingText (source : List ℕ) (f : Finding) (text : List ℕ) : Type 0 where
   pub line : ℕ
   pub column : ℕ
@@ -29,7 +30,7 @@ pub record IsFindingText (source : List ℕ) (f : Finding) (text : List ℕ) : T
   pub is_excerpt : IsExcerpt excerpt
   pub whole : text ≡ head_line source line column f ++ (excerpt ++ flat_map (λ note. plain_line (string_bytes note)) f.notes.items)
 
--- the texts of the findings, one after the other
+-- the text consists of the texts of the findings, one after the other
 abbrev pub AreFindingTexts : List ℕ → List Finding → List ℕ → Type 0
 AreFindingTexts source [] text = text ≡ []
 AreFindingTexts source (f ∷ findings) text =

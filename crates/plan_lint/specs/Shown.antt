@@ -1,9 +1,9 @@
--- The form in which arbitrary bytes are shown as one line of text, and the form of an excerpt. The line has no ASCII
+-- Definitions of the line of text that shows arbitrary bytes, and of an excerpt with carets. The line has no ASCII
 -- control characters and no invalid UTF-8.
 use Rattle.std.specs.Prelude.{◌≡◌, ℕ, ◌==◌, ◌||◌, nat_lt, max, List, [], ◌∷◌, ◌++◌, map, replicate, if◌then◌else◌}
 use Rattle.std.specs.Str.Lossy.{utf8_lossy}
 
--- the byte as it is shown: a space in place of an ASCII control character
+-- a space for an ASCII control character, and any other byte as it is
 abbrev pub shown_byte : ℕ → ℕ
 shown_byte byte = if nat_lt byte 32 || byte == 127 then 32 else byte
 
@@ -20,8 +20,8 @@ plain_line bytes = plain_text bytes ++ 10 ∷ []
 abbrev pub caret_line : ℕ → ℕ → List ℕ
 caret_line before count = replicate before 32 ++ (replicate count 94 ++ 10 ∷ [])
 
--- An excerpt: some bytes as one line of text, and below it a caret for each marked character, or one caret if none is
--- marked. No definition says which bytes these are, or which characters are marked.
+-- The text is a line of some bytes, and below it a caret for each marked character, or one caret if none is marked. No
+-- definition says which bytes these are, or which characters are marked.
 pub record IsExcerpt (text : List ℕ) : Type 0 where
   pub front : List ℕ
   pub back : List ℕ

@@ -7,8 +7,9 @@ use Rattle.plan_lint.specs.Shown.{plain_text}
 use Rattle.plan_lint.specs.declared.finding.Finding.{Finding}
 use Rattle.plan_lint.specs.declared.report.LintReport.{LintReport}
 
--- The report states correctly whether the bytes are a plan; its text has findings on them, followed by the plan's size
--- if they are a plan. Beyond `AreFindings`, the choice of the findings is only tested, and so are their positions.
+-- The report states correctly whether the bytes are a plan; the text shows findings on the bytes, and then the plan's
+-- size if the bytes are a plan. Beyond `AreFindings`, the choice of the findings is only tested, and so are their
+-- positions.
 pub record IsReport (source bytes : List ℕ) (report : LintReport) : Type 0 where
   pub is_plan : report.is_plan ≡ is_ok (plan_of bytes)
   pub findings : List Finding

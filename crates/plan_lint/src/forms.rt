@@ -16,7 +16,7 @@ pub enum OperandKind {
 }
 
 impl OperandKind {
-    /// Returns what messages call an operand of this kind, and the greatest value that it can have.
+    /// Returns the name of an operand of this kind in messages, and the greatest value that the operand can have.
     pub(crate) fn limits(self) -> (&'static str, u64) {
         match self {
             OperandKind::Order => ("the order of a block", 255),
@@ -32,7 +32,7 @@ impl OperandKind {
     }
 }
 
-/// The syntax of a kind of step: its word, its arguments, and its other names.
+/// The syntax of a kind of step: its word, its arguments, and the names that it has outside of plans.
 #[derive(Clone, Copy)]
 pub struct Form {
     pub word: &'static str,

@@ -1,4 +1,4 @@
-//! The judgment of a document: its errors, or its likely mistakes if it is a valid plan.
+//! The errors in a document, or the likely mistakes in a document that is a valid plan.
 ghost use Rattle.std.specs.Prelude.{◌≡◌, ◌≤◌, ℕ, true, map, sum_by, All, Any, IfOk, length, vec_len};
 ghost use Rattle.std.specs.List.Sorted.{IsPermutation, IsNonDecreasingBy};
 ghost use Rattle.realm_plan.specs.PlanView.{plan_view};
@@ -10,7 +10,7 @@ use crate::lints::slips_in;
 use realm_plan::{Plan, PlanError, PlanFault, PlanStep};
 use std::alloc::{AllocError, Global};
 
-/// The size of a plan: its numbers of builds, steps and turns.
+/// The counts of a plan's builds, steps and turns.
 #[derive(Clone, Copy)]
 pub struct Size {
     pub builds: usize,

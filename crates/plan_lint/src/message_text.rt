@@ -13,7 +13,7 @@ pub enum Piece<'a> {
     Count(usize),
     Number(u64),
     Whole(i64),
-    /// The plural ending of a noun. It is empty for a count of 1.
+    /// The plural ending of a noun for the given count. It is empty for a count of 1.
     Plural(usize),
 }
 

@@ -32,9 +32,9 @@ pub struct KnownState {
     delegated: Vec<u16>,
     /// Whether a `realm` step surely succeeds once its pages are delegated.
     can_have_realm: bool,
-    /// Whether the build's further commands can still be known to succeed. If so, its next `take` surely does. The
-    /// value is `false` after an `undo`, `abort`, `back` or `enter` step, and from the start if pages, history or
-    /// journal may run out.
+    /// Whether some further commands of the build are still sure to succeed, its next `take` among them. The value is
+    /// `false` after an `undo`, `abort`, `back` or `enter` step, and from the start if pages, history or journal may
+    /// run out.
     is_plain: bool,
 }
 

@@ -103,7 +103,7 @@ impl KeyValue {
     }
 }
 
-/// A build in the text of a plan: its value, its keys, and its steps.
+/// A build in the text of a plan: its TOML value, its keys, and its steps.
 pub struct Build {
     /// The build's header `[[build]]`, or the build's element of the array `build`.
     pub value: Value,

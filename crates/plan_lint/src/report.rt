@@ -13,7 +13,7 @@ use std::alloc::{AllocError, Global};
 /// The number of bytes that are searched for a line feed, from the position of a finding on.
 const AHEAD: usize = 81;
 
-/// A report on a document: its text, and whether the document is a plan.
+/// The text of a report on a document, and whether the document is a plan.
 #[derive(Drop)]
 pub struct LintReport {
     pub text: String,

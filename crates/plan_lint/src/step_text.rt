@@ -11,14 +11,14 @@ const PAGE: u64 = 4096;
 /// The greatest length, in bytes, of a number that is printed without backquotes.
 const LONGEST: usize = 20;
 
-/// A string in a plan that is not a valid step, with the string's fault and span.
+/// An invalid step in the text of a plan: the string, its fault and its span.
 #[derive(Clone, Copy)]
 pub struct InvalidStep<'a> {
     pub written: &'a str,
     pub fault: PlanFault,
     /// The span of the string with its quotes.
     pub whole: Span,
-    /// Whether the step's text appears in the document without escapes, right after the opening quote.
+    /// A flag that is set if the document has the step's text as it is, without escapes, right after the opening quote.
     pub inside: bool,
 }
 

@@ -1,7 +1,7 @@
-//! The walk through a plan's text that finds the parts of the plan.
+//! Functions that find the parts of a plan in the plan's text.
 //!
-//! The TOML parser has accepted the text already, so the walk only checks which part is next. The walk ends at the
-//! first part that it does not expect, and finds no part after it.
+//! The TOML parser has accepted the text already, so the functions only check which part is next. The functions end at
+//! the first part that they do not expect, and find no part after it.
 use crate::finding::Span;
 use crate::outline::{Build, Content, KeyValue, Outline, Value};
 use std::alloc::{AllocError, Global};

@@ -46,7 +46,8 @@ record IsByCalls (host : HostView) (build : ℕ) (new : HostView) : Type 0 where
 no_call : (host : HostView) (build : ℕ) (new : HostView) → new ≡ host → IsByCalls host build new
 no_call host build new same = record { calls = []; are = same }
 
--- a call of a build, followed by calls of the build, is again a sequence of calls of the build
+-- if a call of the build leads from `host` to `then`, and calls of the build lead on to `new`, calls of the build lead
+-- from `host` to `new`
 and_then : (host : HostView) (build : ℕ) (c : AnsweredCall) (then new : HostView) → IsAnsweredSo host build c then → IsByCalls then build new → IsByCalls host build new
 and_then host build c then new is rest = record { calls = c ∷ rest.calls; are = (then, (is, rest.are)) }
 
@@ -83,7 +84,7 @@ turn_calls host build place Back answer new after is = many (undos_to_go host bu
 abbrev Legal : HostView → Type 0
 Legal host = IsLegal host.limits host.history
 
--- an abort of the build has begun, and `left` acts are open
+-- an abort of the build has begun, and the build has `left` open operations
 record Halfway (host : HostView) (build left : ℕ) : Type 0 where
   old : HostView
   reached : Reached old build host
@@ -96,7 +97,7 @@ legal_calls : (host : HostView) (build : ℕ) (cs : List AnsweredCall) (new : Ho
 legal_calls host build [] new legal same = subst Legal (sym same) legal
 legal_calls host build (c ∷ cs) new legal (then, (is, are)) = legal_calls then build cs new (legal_answer host build legal c then is) are
 
--- calls of another build leave an abort halfway, with as many operations open as before
+-- calls of another build do not change how many operations an abort has left to undo, if it has any left
 others_calls : (host : HostView) (build other left : ℕ) (cs : List AnsweredCall) (new : HostView) → other ≢ build → 0 < left → Halfway host build left
     → AreCalls host other cs new → Halfway new build left
 others_calls host build other left [] new not some half same = subst (λ h. Halfway h build left) (sym same) half
@@ -130,7 +131,7 @@ module _ (from to : Position) (build : ℕ) (answer : TurnAnswer) (after : PlanC
   abbrev place : PlanCursor
   place = place_of from.places build
 
-  -- the turn's answer is correct, and the abort is halfway if anything is left to undo
+  -- the state of the run agrees with the turn's answer, and `Halfway` holds if anything is left to undo
   record Stands : Type 0 where
     tells_it : ReportsOfAbort answer from build to
     half : 0 < after.left → Halfway to.host build after.left
@@ -206,7 +207,7 @@ module _ (from to : Position) (build : ℕ) (answer : TurnAnswer) (after : PlanC
 
 -- ---- a run
 
--- if the build's next step is an abort with something left to undo, the abort is halfway
+-- if the build's next step is an abort with something left to undo, `Halfway` holds
 abbrev IsMidway : Plan → HostView → ℕ → PlanCursor → Type 0
 IsMidway plan host build place = step_after plan build place.done ≡ Some (Whole Abort) → 0 < place.left → Halfway host build place.left
 
@@ -237,7 +238,7 @@ module _ (plan : Plan) (from : Position) (turn : Turn) (to : Position) (midway :
       stands from to turn.build answer after midway.legal (λ some. midway.aborts turn.build (read ∙ ap Some is_abort) some)
       (subst (λ s. IsStepTurn from.host turn.build before (asked s) answer to.host after) is_abort is)
 
-  -- if the build that takes the turn has an abort with something left to undo, that abort is halfway after the turn
+  -- if the build that took the turn has an abort with something left to undo, `Halfway` holds after the turn
   own_after : IsMidway plan to.host turn.build after
   own_after is_abort some =
       let same : step_after plan turn.build after.done ≡ step_after plan turn.build before.done =

@@ -1,5 +1,5 @@
--- Lemmas about the text of a map: appending an item's line gives the lines of all items so far, and a page's line
--- follows from its state and byte sum.
+-- Lemmas about the text of a map: the lines are appended one after another, and a page's line has the page's state and
+-- byte sum.
 use Rattle.std.proofs.Common.{◌≡◌, ℕ, ◌+◌, ◌<◌, List, ◌++◌, length, Some, sum, ap, sym, ◌∙◌, slice_index, arith, rules}
 use Rattle.std.specs.Prelude.{Option, IsSome, option_map, slice_get, unwrap_or}
 use Rattle.std.specs.List.{flat_map, range_with_len}

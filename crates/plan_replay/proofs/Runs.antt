@@ -1,5 +1,5 @@
--- Proofs that a run followed by one more turn is a run of the schedule with that turn at its end, and that its text
--- ends with the turn's text.
+-- Proofs that one more turn extends a run: the schedule gets the turn's build at its end, and the run's text gets the
+-- turn's text.
 use Rattle.std.proofs.Common.{◌≡◌, ℕ, Result, Ok, Err, OnErr, ◌+◌, ◌<◌, ◌≤◌, List, [], ◌∷◌, ◌++◌, length, take, get_or, refl, sym, ap, ◌∙◌, subst}
 use Rattle.std.specs.List.{flat_map}
 use Rattle.std.proofs.lemmas.List.{flat_map_more, take_all, take_more}
@@ -23,7 +23,8 @@ AreTurns-more plan (b ∷ order) from (t ∷ turns) at build turn to run of_buil
 
 -- ---- the first turns of a schedule, with a text of each
 
--- The turns of the builds in `order` lead to the position `to`, and the text of each turn was appended.
+-- Some turns of the builds in `order` lead to the position `to`, and `new` is `old` followed by the texts of these
+-- turns.
 pub record IsFront {T : Type 0} (Lead : List ℕ → List T → Position → Type 0) (text_of : T → List ℕ) (order : List ℕ) (to : Position) (old new : List ℕ) : Type 0 where
   pub turns : List T
   pub is_run : Lead order turns to
@@ -59,7 +60,7 @@ module _ {T : Type 0} (Lead : List ℕ → List T → Position → Type 0) (text
 abbrev pub LeadsTold : Plan → HostView → List ℕ → List Turn → Position → Type 0
 LeadsTold plan from order turns to = AreTurns plan order (start from) turns to
 
--- what holds in any case holds at an error
+-- if `P` holds, `OnErr result P` holds for any result
 pub at_err : {T E P : Type 0} (result : Result T E) → P → OnErr result P
 at_err (Ok value) holds = tt
 at_err (Err error) holds = holds

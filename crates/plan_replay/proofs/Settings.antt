@@ -94,7 +94,8 @@ run_same plan (b ∷ order) from [] to is = elim is [ ]
 run_same plan (b ∷ order) from (t ∷ turns) to is =
     same_then from.host is.1.host to.host (turn_same plan.gives_up (step_after plan t.build (place_of from.places t.build).done) from t is.1 is.2) (run_same plan order is.1 turns to is.3)
 
--- a fresh host with the limits and the capacity of the last host of a run equals one with those of the first
+-- if a run leads from the host `from` to the host `to`, fresh hosts with the limits and the capacity of these two hosts
+-- are equal
 pub fresh_like-run : (plan : Plan) (from to : HostView) (old new : List ℕ) → IsReportedRun plan from to old new → fresh_like from ≡ fresh_like to
 fresh_like-run plan from to old new told =
     let same = run_same plan plan.order (start from) told.turns told.end told.is_run in

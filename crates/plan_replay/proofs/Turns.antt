@@ -1,5 +1,5 @@
--- A proof that no turn of a step changes the number of done steps in the build's cursor; only moving the cursor on
--- does.
+-- A proof that the turn of a step does not yet count the step as done: the build's cursor is moved on only after the
+-- turn.
 use Rattle.std.proofs.Common.{◌≡◌, ℕ, List, length, slice_index_or, ◌<◌, ◌≤◌, ◌-◌, arith, ◌==◌, true, false, Result, Ok, Err, ap}
 use Rattle.std.specs.Bool.{OnTrue, OnFalse}
 use Rattle.std.proofs.lemmas.List.{get_or_default}
@@ -35,6 +35,7 @@ same_done host build place Abort answer new after is = many_same_done is.count i
 same_done host build place Mark answer new after is = ap (λ (p : PlanCursor). p.done) is.place_is
 same_done host build place Back answer new after is = many_same_done (undos_to_go host build place) host build place answer new after is
 
--- the cursor that is read at the index of a build is that build's cursor
+-- in a list of eight cursors, the one at the index of a build is `place_of` of the build, whatever the lookup's default
+-- is
 pub place_is-place_of : (places : List PlanCursor) (build : ℕ) {n : ℕ} (read : PlanCursor) → build < n → n ≤ 8 → length places ≡ 8 → slice_index_or places build read ≡ place_of places build
 place_is-place_of places build read inside few all = get_or_default places build read first_place (omega arith)

@@ -17,8 +17,8 @@ abbrev pub is_refusal : TurnAnswer → Bool
 is_refusal (Refused refusal) = true
 is_refusal _ = false
 
--- The number of a build's next step after step `done`. In a plan that gives up, a refused step of the plan is followed
--- by the abort.
+-- The number of a build's next step, given whether builds give up, whether the last step was refused, and the last
+-- step's number. If builds give up, a refused step of the plan is followed by the abort.
 abbrev pub number_after : Bool → Bool → ℕ → ℕ
 number_after gives_up refused done = if gives_up && (refused && nat_lt done giving_up) then giving_up else done + 1
 

@@ -20,7 +20,7 @@ use Rattle.plan_replay.specs.declared.place.PlanCursor.{PlanCursor}
 
 -- ---- runs
 
--- The state of a run: the host, and the cursor of each build in its plan.
+-- The state of a run: the host, and each build's cursor in the plan.
 pub record Position : Type 0 where
   pub host : HostView
   pub places : List PlanCursor
@@ -38,7 +38,7 @@ start host = record { host = host; places = replicate 8 first_place }
 abbrev pub place_of : List PlanCursor → ℕ → PlanCursor
 place_of places build = slice_index_or places build first_place
 
--- The step that a build has after giving up: an abort at number `giving_up`, and none at higher numbers.
+-- The step with this number after a build gave up: the abort at number `giving_up`, and none at any other number.
 abbrev pub given_up : ℕ → Option PlanStep
 given_up number = if number == giving_up then Some (Whole Abort) else None
 
@@ -50,9 +50,9 @@ step_numbered gives_up steps number = if gives_up && nat_le giving_up number the
 abbrev pub step_after : Plan → ℕ → ℕ → Option PlanStep
 step_after plan build done = option_and_then (λ steps. step_numbered plan.gives_up steps done) (slice_get plan.builds build)
 
--- A turn leads from one position to the other. It takes the given step; if no step is left, nothing changes. The turn
--- has an answer that the host may give. The step is done once no undo of it is left. Until then the build's next turn
--- takes the same step again. A refusal may lead to giving up.
+-- A turn of the given step leads from one position to the other; without a step, the turn changes nothing. The turn has
+-- an answer that the host may give. The step is done once no undo of it is left. Until then the build's next turn takes
+-- the same step again. A refusal may lead to giving up.
 abbrev pub IsTurnOf : Bool → Option PlanStep → Position → Turn → Position → Type 0
 IsTurnOf gives_up None from turn to = (turn.told ≡ None) × (to ≡ from)
 IsTurnOf gives_up (Some step) from turn to =

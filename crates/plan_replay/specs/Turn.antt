@@ -75,7 +75,7 @@ abbrev pub left_after : ℕ → Result Undone Refusal → ℕ
 left_after left (Ok it) = left
 left_after left (Err refusal) = 0
 
--- a turn for one of many undos, with `left` more to come; the undo may be refused
+-- the turn tries one of a step's many undos; `left` more come after it, unless it is refused
 pub record IsOneOfMany (host : HostView) (build : ℕ) (place : PlanCursor) (left : ℕ) (answer : TurnAnswer) (new : HostView) (after : PlanCursor) : Type 0 where
   pub result : Result Undone Refusal
   pub is_answer : IsAnswer host build call.Undo (undone result) new
@@ -89,8 +89,8 @@ IsTurnOfMany (Ok count) host build place answer new after =
     OnTrue (count == 0) ((answer ≡ tells.Nothing) × (new ≡ host) × (after ≡ place))
     × OnFalse (count == 0) (IsOneOfMany host build place (count - 1) answer new after)
 
--- The number of operations that an abort has left to undo, or its refusal, and the host once the abort has begun. The
--- first turn of an abort begins it.
+-- In a turn of an abort, `count` is the number of operations left to undo, or the refusal of the abort. The host just
+-- before the turn's undo is `new`. The first turn of an abort begins the abort.
 abbrev pub IsToAbort : HostView → ℕ → PlanCursor → Result ℕ Refusal → HostView → Type 0
 IsToAbort host build place count new =
     OnTrue (place.left == 0) (IsBegun host build count new)

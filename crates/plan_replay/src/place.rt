@@ -6,11 +6,12 @@ use crate::answer::TurnAnswer;
 use realm_host::Mark;
 use realm_plan::MOST_STEPS;
 
-/// The step number of the abort that follows a refused step, in a plan that gives up. The numbers of a plan's steps are
-/// lower.
+/// The step number of the abort that a build performs when it gives up after a refused step. The numbers of a plan's
+/// steps are lower.
 pub const GIVING_UP: usize = MOST_STEPS + 1;
 
-/// Returns the number of the step that follows step `done`. A refused step of a plan that gives up leads to the abort.
+/// Returns the number of the step that follows step `done`. If builds give up, a refused step of the plan leads to the
+/// abort.
 pub fn number_after(gives_up: bool, is_refused: bool, done: usize) -> usize
     requires { done < 2 ^ 32 }
     ensures { result ≡ number_after gives_up is_refused done }
@@ -23,8 +24,8 @@ pub fn number_after(gives_up: bool, is_refused: bool, done: usize) -> usize
 }
 
 /// The progress of a build in a plan: the number of steps done, the remaining undos of the current step, and the last
-/// mark. In a plan that gives up, the number of steps is `GIVING_UP` during the abort that follows a refused step, and
-/// one more after it.
+/// mark. If builds give up, the number of steps is `GIVING_UP` during the abort that follows a refused step, and one
+/// more after it.
 #[derive(Clone, Copy)]
 pub struct PlanCursor {
     pub done: usize,

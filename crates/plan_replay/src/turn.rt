@@ -151,8 +151,8 @@ fn step_turn<S: PageStore>(
     }
 }
 
-/// Performs a build's step, or one undo of a step that takes a turn for each undo, and returns the answer. The cursor
-/// says afterwards how many undos of the step are left.
+/// Performs one turn of a build's step, and returns the answer. The turn is the whole step, or one undo of an `abort`
+/// or a `back`. The cursor says afterwards how many undos of the step are left.
 pub fn plan_turn<S: PageStore>(
     host: &mut Host<S>,
     build: BuildId,

@@ -1,4 +1,5 @@
--- Proofs that the test `is_answer` decides whether the answer to a question is yes for the last turn of a schedule.
+-- Proofs that the test `is_answer` decides whether the answer to a `TurnQuestion` is yes for the last turn of a
+-- schedule.
 use Rattle.std.proofs.Common.{◌≡◌, ◌≢◌, ℕ, zero, suc, ◌+◌, ◌<◌, ◌==◌, ◌&&◌, ◌||◌, Bool, true, false, not, List, [], ◌∷◌, ◌++◌, map, length, Option, Some, None, inr, refl, sym, subst, ap, ◌∙◌, eq-eqb, ne_eqb, le-leb, zero-add, arith}
 use Rattle.std.specs.Prelude.{◌≤◌, is_some, if◌then◌else◌, slice_get, sum}
 use Rattle.std.specs.List.{list_any, range_with_len}
@@ -48,7 +49,7 @@ is_refusal build step (Some end) is = refusal_by end.build end.step build step e
 
 -- ---- waits
 
--- A step of the build that was refused for lack of a block or a VMID.
+-- The outcome is a refusal of a step of the build for lack of a block or a VMID.
 record IsShort (build : ℕ) (end : Option EndOfStep) : Type 0 where
   pub step : ℕ
   pub refused : IsRefusal build step end
@@ -68,7 +69,7 @@ is_short build (Some end) is =
     let parts : ((end.build == build) ≡ true) × (is_of_shared end.refusal ≡ true) = both (end.build == build) (is_of_shared end.refusal) is in
     short_by end.build end.step build end.refusal (eqb-true end.build build parts.0) parts.1
 
--- A number of the range that passes the test.
+-- Some number below `from + count` passes the test.
 record IsPassed (test : ℕ → Bool) (from count : ℕ) : Type 0 where
   pub one : ℕ
   pub below : one < from + count
@@ -86,8 +87,8 @@ passed test from (suc count) is = elim (test from) as (λ t. test from ≡ t →
 differs : (one other : ℕ) → not (one == other) ≡ true → one ≢ other
 differs one other is same = absurd (cc (eq-eqb one other same))
 
--- if a test passes for the element at an index of a mapped range, but not for None, it passes for the function's value
--- of the number at that index
+-- if `test` fails for None, and passes for the lookup of index `place` in a range mapped by `f`, it passes for `f at`,
+-- with `at` equal to `from + place`
 found : (test : Option ℕ → Bool) (f : ℕ → ℕ) → test None ≡ false → (from count place at : ℕ) → at ≡ from + place
     → test (slice_get (map f (range_with_len from count)) place) ≡ true → test (Some (f at)) ≡ true
 found test f none from zero place at same is = absurd cc
@@ -126,7 +127,7 @@ shows_by plan (Waiting build) end host is =
     let parts = both (waits build end) (has_other_without_pages (length plan.builds) build (pages_of_builds host)) is in is_wait plan build end host parts.0 parts.1
 shows_by plan (Leased granules) end host is = leb-true granules (sum (pages_of_builds host)) is
 
--- a schedule ends with the answer yes if `is_answer` is true of its last turn
+-- the answer to a question is yes for the last turn of a schedule if `is_answer` is true of that turn
 pub answered_by : (plan : Plan) (question : TurnQuestion) (schedule front : List ℕ) (last : ℕ) (at to : Position) (it : TurnTaken)
     → schedule ≡ front ++ last ∷ [] → IsReached plan front at → IsTurnTaken plan at last it to
     → is_answer (length plan.builds) question (end_taken last it) (pages_of_builds to.host) ≡ true → EndsWithAnswer plan question schedule
@@ -155,7 +156,7 @@ or_true : (b : Bool) → (b || true) ≡ true
 or_true true = refl
 or_true false = refl
 
--- some number of a range passes a test if the one at a place does
+-- some number of a range passes a test if the number `at` of the range does
 passes_if : (test : ℕ → Bool) (from count place at : ℕ) → at ≡ from + place → place < count → test at ≡ true → list_any test (range_with_len from count) ≡ true
 passes_if test from zero place at same inside is = absurd (omega arith)
 passes_if test from (suc count) zero at same inside is =
@@ -165,7 +166,7 @@ passes_if test from (suc count) (suc place) at same inside is =
     let below : place < count = omega arith in
     ap (λ t. test from || t) (passes_if test (from + 1) count place at there below is) ∙ or_true (test from)
 
--- the element at an index of a mapped range is the function's value of the number at that index
+-- in a range mapped by `f`, the element at index `place` is `f at`, if the range has the number `at` there
 value_at : (f : ℕ → ℕ) (from count place at : ℕ) → at ≡ from + place → place < count → slice_get (map f (range_with_len from count)) place ≡ Some (f at)
 value_at f from zero place at same inside = absurd (omega arith)
 value_at f from (suc count) zero at same inside = let here : at ≡ from = omega arith in ap (λ n. Some (f n)) (sym here)
@@ -189,8 +190,8 @@ answers_if plan (Waiting build) end host few shown =
     let rests = rests_if host (length plan.builds) build shown.other few shown.of_plan shown.differs shown.at_rest in (λ i. waiting i && rests i)
 answers_if plan (Leased granules) end host few shown = le-leb granules (sum (pages_of_builds host)) shown
 
--- a schedule ends without the answer yes if `is_answer` is false of its last turn, and the plan has at most eight
--- builds
+-- the answer to a question is not yes for the last turn of a schedule if `is_answer` is false of that turn, and the
+-- plan has at most eight builds
 pub unanswered_by : (plan : Plan) (question : TurnQuestion) (schedule front : List ℕ) (last : ℕ) (at to : Position) (it : TurnTaken)
     → schedule ≡ front ++ last ∷ [] → IsReached plan front at → IsTurnTaken plan at last it to → length plan.builds ≤ 8
     → is_answer (length plan.builds) question (end_taken last it) (pages_of_builds to.host) ≡ false → EndsWithoutAnswer plan question schedule

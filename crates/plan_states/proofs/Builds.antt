@@ -1,4 +1,4 @@
--- A proof that the logical view of a plan has as many builds as the plan itself.
+-- A proof that `plan_view`, which contracts use in place of a plan, keeps the number of builds.
 use Rattle.std.proofs.Common.{◌≡◌, ℕ, length, vec_len, sym, ◌∙◌}
 use Rattle.std.proofs.lemmas.List.{length-map}
 use Rattle.realm_plan.specs.PlanView.{plan_view}

@@ -21,8 +21,8 @@ edge_inside build at edges is = there (slice_get edges at) refl is
     there None none of = absurd cc
     there (Some edge) some of = slice_get_within edges at edge some
 
--- if the edges so far are those of the builds with a step left, they still are after one more build with a step left
--- and its edge
+-- the edges of the first builds with a step left, followed by the next such build's edge, are the edges of all these
+-- builds
 pub left_more :
     (left : ℕ → Bool) (builds : List ℕ) (i : ℕ) (edges : List (Edge Label)) (at : ℕ)
     → i < length builds → left (get_or builds i 0) ≡ true → is_of_build (get_or builds i 0) (slice_get edges at) ≡ true

@@ -1,5 +1,5 @@
--- Lemmas on lengths of vectors: one more item adds one, and one more vector reduces what is left of a limit by its
--- length.
+-- Lemmas on lengths: one more item makes a vector longer by one, and one more vector makes the total length of vectors
+-- larger by its own length. What is left up to a limit on the total length becomes smaller by as much.
 use Rattle.std.proofs.Common.{◌≡◌, ℕ, ◌+◌, ◌-◌, ◌≤◌, List, [], ◌∷◌, ◌++◌, Vec, Global, vec_len, length, sym, ap, ◌∙◌, arith, length-append}
 use Rattle.std.specs.Prelude.{sum_by}
 use Rattle.std.proofs.lemmas.List.Sums.{sum_by_push}
@@ -12,7 +12,7 @@ one_longer old new x count more long =
 room_after : (old new one room most : ℕ) → new ≡ old + one → one ≤ room → old + room ≡ most → new + (room - one) ≡ most
 room_after old new one room most more inside all = omega arith
 
--- what is left of a limit shrinks by the length of one more vector, if the vector fits in it
+-- if `room` items are left up to the limit `most`, one more vector that fits leaves `room` minus the vector's length
 pub room_left : {X : Type 0} (old new : List (Vec X Global)) (it : Vec X Global) (room most : ℕ)
     → new ≡ old ++ it ∷ [] → vec_len it ≤ room → sum_by vec_len old + room ≡ most → sum_by vec_len new + (room - vec_len it) ≡ most
 room_left old new it room most more inside all =

@@ -1,5 +1,5 @@
--- Lemmas on loops over a list or over the first numbers: a test passes for each item or for none, and a list that is
--- made item by item is a map of the list.
+-- Lemmas on loops over a list or over the numbers below a bound. The lemmas say when a test passes for all items or for
+-- none, and that a list made item by item is a map of the list.
 use Rattle.std.proofs.Common.{◌≡◌, ℕ, zero, suc, ◌+◌, ◌<◌, ◌≤◌, ◌&&◌, ◌||◌, Bool, true, false, List, [], ◌∷◌, ◌++◌, map, length, get_or, take, refl, sym, subst, ap, ◌∙◌, zero-add, take_all, arith}
 use Rattle.std.specs.List.{list_all, list_any, range_with_len}
 use Rattle.std.proofs.lemmas.List.{map-append, take_more}

@@ -34,7 +34,7 @@ in_map f x [] is = absurd is
 in_map f x (y ∷ xs) (inl same) = inl (ap f same)
 in_map f x (y ∷ xs) (inr rest) = inr (in_map f x xs rest)
 
--- A member that f takes to y.
+-- Some member of `xs` is taken to y by f.
 pub record IsMadeOf {X Y : Type 0} (f : X → Y) (y : Y) (xs : List X) : Type 0 where
   pub one : X
   pub is_in : IsIn one xs
@@ -50,7 +50,7 @@ in_flat_map f x y [] is there = absurd is
 in_flat_map f x y (z ∷ xs) (inl same) there = in_left y (f z) (flat_map f xs) (subst (λ w. IsIn y (f w)) (sym same) there)
 in_flat_map f x y (z ∷ xs) (inr rest) there = in_right y (f z) (flat_map f xs) (in_flat_map f x y xs rest there)
 
--- A member `one` such that y is in the list `f one`.
+-- Some member `one` of `xs` has y in the list `f one`.
 pub record IsListedBy {X Y : Type 0} (f : X → List Y) (y : Y) (xs : List X) : Type 0 where
   pub one : X
   pub is_in : IsIn one xs

@@ -50,7 +50,7 @@ shown_by_alike plan snapshots number one other here there =
 
 -- ---- a turn, from any position that is the same state
 
--- the turn of a label can also be taken from position `other`, and leads to a position that is the same state as `to`
+-- a turn with this label leads from the position `other` to a position that is the same state as `to`
 record IsAlsoLabelled (plan : Plan) (ends : List EndOfStep) (held : List (List ℕ)) (maps : List (String Global)) (other : Position) (label : Label) (to : Position) : Type 0 where
   then : Position
   labelled : IsLabelled plan ends held maps other label then
@@ -94,7 +94,8 @@ module _ (plan : Plan) (ends : List EndOfStep) (held : List (List ℕ)) (maps : 
       }
 
   module _ (snapshots : List Snapshot) where
-    -- there is a number, and the snapshot with it shows the position, which a run of the plan reaches from boot
+    -- the number is given, and the snapshot with this number shows the position, which a run of the plan reaches from
+    -- boot
     record IsShownAt (number : Option ℕ) (at : Position) : Type 0 where
       which : ℕ
       is : number ≡ Some which

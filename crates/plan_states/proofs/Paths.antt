@@ -1,5 +1,5 @@
--- Lemmas on the paths from a state of a graph: each is empty, or an edge followed by a path from the next state, and
--- the schedules of the paths ascend.
+-- Lemmas on the first edge and the rest of each path from a state, and on the ascending order of the schedules of these
+-- paths.
 use Rattle.std.proofs.Common.{◌≡◌, ℕ, ◌<◌, ◌==◌, ◌⊎◌, inl, inr, true, false, List, [], ◌∷◌, ◌++◌, map, Some, refl, sym, ap, subst, ◌∙◌, arith, ne_eqb, eq-eqb, lt-ltb}
 use Rattle.std.specs.Prelude.{nat_lt}
 use Rattle.std.specs.List.{find, flat_map}
@@ -19,7 +19,7 @@ before-self [] = refl
 before-self (build ∷ schedule) =
     cond-true (build == build) (is_before schedule schedule) (nat_lt build build) (eq-eqb build build refl) ∙ before-self schedule
 
--- the schedule of one path comes before that of the other
+-- the schedule of the first path comes before that of the second
 abbrev pub Rises : Path Label → Path Label → Type 0
 Rises one other = is_before (builds_of_path one) (builds_of_path other) ≡ true
 
@@ -39,7 +39,7 @@ builds_on : (edge : Edge Label) (ps : List (Path Label))
 builds_on edge [] = refl
 builds_on edge (path ∷ ps) = λ i. (edge.label.build ∷ builds_of_path path) ∷ builds_on edge ps i
 
--- in a list of edges with rising builds, a search for the build of an edge finds that edge
+-- if each edge of a list has a higher build than the edges before it, a search for the build of an edge finds that edge
 pub edge_found : (edges : List (Edge Label)) (edge : Edge Label) → Pairs (λ (one other : Edge Label). one.label.build < other.label.build) edges
     → IsIn edge edges → find (λ (e : Edge Label). e.label.build == edge.label.build) edges ≡ Some edge
 edge_found [] edge low is = absurd is

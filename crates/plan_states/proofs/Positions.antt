@@ -1,5 +1,4 @@
--- Lemmas on list indices: a search finds an index if and only if some item passes the test, and mapping vectors to
--- their items keeps the indices.
+-- Lemmas on finding the index of an item that passes a test, and on the items of the vector at an index of a list.
 use Rattle.std.proofs.Common.{◌≡◌, ℕ, zero, suc, ◌+◌, ◌<◌, ◌≤◌, ◌||◌, Bool, true, false, cond, List, [], ◌∷◌, map, length, get_or, take, Vec, Global, vec_items, Option, Some, None, zero-add, refl, sym, subst, ap, ◌∙◌, arith}
 use Rattle.std.specs.Prelude.{is_some, slice_get, slice_index_or}
 use Rattle.std.specs.List.{list_any, position, position_from}
@@ -15,7 +14,7 @@ any_from test i (x ∷ xs) = elim (test x) as (λ b. is_some (cond b (Some i) (p
   | false ↦ any_from test (i + 1) xs
 ]
 
--- there is a position exactly if some item passes
+-- a search finds an index in a list exactly if some item passes the test
 pub position_any : {X : Type 0} (test : X → Bool) (xs : List X) → is_some (position test xs) ≡ list_any test xs
 position_any test xs = ap is_some (position_from-zero test xs) ∙ any_from test 0 xs
 

@@ -39,7 +39,7 @@ reached_more plan schedule i at to told inside reached is_turn =
 
 -- ---- the settings
 
--- a plan's turns do not depend on its schedule
+-- if turns follow a given schedule in a plan, they also follow that schedule in the same plan with another key `order`
 with_order : (plan : Plan) (all schedule : List ℕ) (from : Position) (turns : List Turn) (to : Position)
     → AreTurns plan schedule from turns to → AreTurns (record plan { order = all }) schedule from turns to
 with_order plan all [] from [] to are = are
@@ -76,7 +76,7 @@ end_is : (none : Bool) (build step : ℕ) (one other : Option Refusal) → none 
 end_is true build step one other free same = absurd cc
 end_is false build step one other free same = ap (λ (r : Option Refusal). Some (end_with build step r)) (sym same)
 
--- the collected outcomes still occur in runs of the plan after the outcome of one more turn, if any, is added
+-- if all collected outcomes occur in runs of the plan, all still do once a run's next turn adds its outcome, if any
 pub ends_more :
     (plan : Plan) (schedule : List ℕ) (at to : Position) (build : ℕ) (it : TurnTaken) (old new : List EndOfStep)
     → IsReached plan schedule at → IsTurnTaken plan at build it to → AreWith old (end_taken build it) new
@@ -106,7 +106,7 @@ map_by plan map old new is (inl same) all = subst (All (λ (it : String Global).
 map_by plan map old new is (inr more) all =
     subst (All (λ (it : String Global). IsMapOfRun plan (string_bytes it))) (sym more) (All-push (λ (it : String Global). IsMapOfRun plan (string_bytes it)) old map all is)
 
--- the collected maps still occur in runs of the plan after the final map of a run is added
+-- if all collected outcomes and maps occur in runs of the plan, all still do once the final map of a run is added
 pub of_runs-map : (plan : Plan) (ends : List EndOfStep) (old new : List (String Global)) (map : String Global)
     → IsMapOfRun plan (string_bytes map) → AreWith old (Some map) new → AreOfRuns plan ends old → AreOfRuns plan ends new
 of_runs-map plan ends old new map is with_it of = record { ends = of.ends; maps = map_by plan map old new is with_it of.maps }

@@ -1,4 +1,5 @@
--- Proofs that the log of the turns run along a state graph is correct at boot, and stays correct with each logged turn.
+-- Proofs that the log of the turns along a state graph's paths is correct at boot, and stays correct with each logged
+-- turn.
 use Rattle.std.proofs.Common.{◌≡◌, ℕ, zero, suc, ◌<◌, ◌≤◌, List, [], ◌∷◌, ◌++◌, length, get_or, All, Some, None, inl, inr, refl, sym, ap, ◌∙◌, subst}
 use Rattle.std.specs.Prelude.{slice_get}
 use Rattle.std.specs.declared.alloc.Global.{Global}

@@ -1,5 +1,5 @@
--- Proofs that a whole state graph's paths have all schedules of any scheduling rule that agrees with them, in ascending
--- order, and end each build's steps in sequence.
+-- Proofs about the paths of a whole state graph: a scheduling rule that agrees with them allows exactly their
+-- schedules, which are in ascending order. On each path, the steps of each build end in sequence.
 use Rattle.std.proofs.Common.{◌≡◌, ℕ, zero, suc, ◌+◌, ◌-◌, ◌<◌, ◌≤◌, ◌==◌, ◌&&◌, inl, inr, Bool, true, false, cond, List, [], ◌∷◌, ◌++◌, map, length, get_or, drop, All, Option, Some, None, Vec, Global, vec_items, is_some, refl, sym, ap, subst, ◌∙◌, arith, append_assoc, add-one, drop-cons, eqb-true}
 use Rattle.std.specs.Prelude.{◌⊎◌, AllPairs, Contains, count_by, filter, option_and_then, slice_get}
 use Rattle.std.specs.List.{find, list_all, range_with_len}
@@ -58,7 +58,8 @@ module _ (plan : Plan) (graph : Graph) (whole : IsWholeGraph plan graph) where
 
   -- ---- a state
 
-  -- What an edge of a state leads to: a state of the next layer, and how many steps are done there.
+  -- The edge leads to a state of the next layer, in which each build's progress is that after the edge's turn.
+  -- The turn ends its build's next step, or leaves that step under way.
   record Leads (depth state : ℕ) (edge : Edge Label) : Type 0 where
     inside : edge.to < length (states_at graph (depth + 1))
     done : (build : ℕ) → build < 8 → done_of (done_at (depth + 1) edge.to) build ≡ done_after plan graph.ends.items (done_at depth state) edge.label build
@@ -85,7 +86,7 @@ module _ (plan : Plan) (graph : Graph) (whole : IsWholeGraph plan graph) where
         ]) edges_are
         ∙ ap (λ (n : ℕ). paths_by_edges (paths (drop n (layers_of graph))) (edges_at depth state)) (sym (add-one depth))
 
-    -- the builds of the edges are those that have a step left
+    -- the build of each edge from the state has a step left; `edge_of` is the converse
     build_left : (edge : Edge Label) → IsIn edge (edges_at depth state)
         → (edge.label.build < 8) × (has_step_left plan (done_at depth state) edge.label.build ≡ true)
     build_left edge is =
@@ -209,7 +210,7 @@ module _ (plan : Plan) (graph : Graph) (whole : IsWholeGraph plan graph) where
 
   -- ---- a rule
 
-  -- A path with this schedule.
+  -- Some path in `ps` has this schedule.
   record IsFoundIn (ps : List (Path Label)) (schedule : List ℕ) : Type 0 where
     path : Path Label
     is_in : IsIn path ps
@@ -393,8 +394,8 @@ module _ (plan : Plan) (graph : Graph) (whole : IsWholeGraph plan graph) where
         (ends edge (inl refl)) (turns_used front build (λ e is. ends e (inr is)))
         ∙ sym (sum_by-cons (λ (e : Edge Label). cond (build == e.label.build && is_some e.label.end) 1 0) edge front)
 
-    -- if each step takes one turn, the plan's builds do not give up, or the plan has no build of the given number; an
-    -- abort may take more than one turn
+    -- if each step takes one turn, and the plan has the build, no build gives up, since the abort after giving up may
+    -- take several turns
     plain_or_none : (build : ℕ) → (plan.gives_up ≡ false) ⊎ (slice_get plan.builds build ≡ None)
     plain_or_none build = at plan.gives_up refl (slice_get plan.builds build) refl
       where

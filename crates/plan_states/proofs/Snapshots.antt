@@ -33,7 +33,8 @@ same_more count ones others one other here there same are =
     below_more (λ k. option_map shown_build (slice_get ones k) ≡ option_map shown_build (slice_get others k)) count are
     (ap (option_map shown_build) here ∙ ap Some same ∙ sym (ap (option_map shown_build) there))
 
--- the next event of the history is added if it is one of the build
+-- after one more event of a history, a build's events are its earlier ones, followed by this event if the event is the
+-- build's own
 pub event_more : (build i : ℕ) (history : List Event) (e : Event) (is_own : Bool) (old new : List Event)
     → i < length history → e ≡ get_or history i e → (e.build == build) ≡ is_own → old ≡ events_of build (take i history)
     → new ≡ old ++ cond is_own (e ∷ []) [] → new ≡ events_of build (take (i + 1) history)

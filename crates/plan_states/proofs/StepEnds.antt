@@ -1,5 +1,5 @@
--- Lemmas on the steps of a path: each turn ends its build's next step or none, and so the steps of each build end in
--- sequence.
+-- Lemmas on the steps of builds along a path: each turn ends its build's next step or none, and so each build's steps
+-- end in sequence.
 use Rattle.std.proofs.Common.{◌≡◌, ℕ, suc, ◌+◌, ◌-◌, ◌<◌, ◌≤◌, ◌==◌, ◌&&◌, inl, inr, Bool, true, false, cond, List, [], ◌∷◌, ◌++◌, map, length, Option, Some, None, is_some, refl, sym, ap, subst, ◌∙◌, arith, eqb-true, eq-eqb, ne_eqb}
 use Rattle.std.specs.Prelude.{filter, fold, option_and_then, option_map, option_to_list, slice_get, unwrap_or}
 use Rattle.std.specs.List.{range_with_len}
@@ -140,8 +140,8 @@ own_or : (t : Bool) (n m : ℕ) → t ≡ true → cond t n m ≡ n
 own_or true n m own = refl
 own_or false n m own = absurd cc
 
--- outcomes of a build that are in sequence after a turn of the build `own` stay in sequence with that turn's outcome,
--- if any, in front
+-- If a build's outcomes after a turn are in sequence, they remain so with the build's outcome of the turn, if any, in
+-- front. The turn ends the next step of the build that takes it, or none.
 pub sequence_join : (plan : Plan) (ends : List EndOfStep) (build own step : ℕ) (end : Option ℕ) (done next : ℕ) (later : List EndOfStep)
     → uses_next plan ends own step end ≡ true → (build ≡ own → step ≡ done)
     → next ≡ cond (build == own) (number_with plan ends done end) done
@@ -176,7 +176,7 @@ sequence_join plan ends build own step (Some number) done next later uses same i
 pub range_next : (k n : ℕ) → k < n → range_with_len k (n - k) ≡ k ∷ range_with_len (k + 1) (n - (k + 1))
 range_next k n less = let one : n - k ≡ suc (n - (k + 1)) = omega arith in ap (range_with_len k) one
 
--- the step that a turn ends, if any, and the steps left after it are together the steps left before the turn
+-- the step that a turn ends, if any, followed by the steps left after the turn, are the steps left before the turn
 pub steps_join : (t : Bool) (k own then n : ℕ) → then ≡ cond t (k + 1) k → (t ≡ true → own ≡ k) → (t ≡ true → k < n)
     → cond t (own ∷ []) [] ++ range_with_len then (n - then) ≡ range_with_len k (n - k)
 steps_join true k own then n is same more =

@@ -38,8 +38,8 @@ module _ {K : Type 0} (like : Path Label → Bool) (outcome : K) (ps : List (Pat
           schedule ∙ ap (λ (ls : List Label). map (λ label. label.build) ls) (sym (same_Some (map (λ edge. edge.label) path) labels same)) ∙ map-map (λ label. label.build) (λ edge. edge.label) path in
           (λ i. Some (counted_as (number i) (are i)))
 
--- the tally of the paths that satisfy `like` has the count at the first state, and the schedule of the first of these
--- paths
+-- if some path satisfies `like`, the tally of such paths has the count in `numbers` for the first state, and the
+-- schedule of the first such path
 pub tally-first : {K : Type 0} (like : Path Label → Bool) (outcome : K) (layers : List (Layer Label)) (numbers : List (List ℕ)) (labels : List Label) (count : ℕ) (first : List ℕ)
     → ArePathNumbers like layers numbers → first_like like (paths layers 0) ≡ Some labels
     → count ≡ count_at (slice_index_or numbers 0 []) 0 → first ≡ map (λ label. label.build) labels
@@ -88,7 +88,7 @@ pub filter-any : (ps : List (Path Label)) → filter any_path ps ≡ ps
 filter-any [] = refl
 filter-any (path ∷ ps) = ap (λ qs. path ∷ qs) (filter-any ps)
 
--- path numbers that are right for a list of layers are right for an equal list
+-- if `ArePathNumbers` holds for layers and numbers, it also holds for layers and numbers that are equal to them
 pub numbers-same : (layers others : List (Vec (Vec (Edge Label) Global) Global)) (numbers those : List (Vec ℕ Global)) → layers ≡ others → those ≡ numbers
     → ArePathNumbers any_path (layers_in layers) (path_numbers_in numbers) → ArePathNumbers any_path (layers_in others) (path_numbers_in those)
 numbers-same layers others numbers those same same_numbers are =
@@ -114,7 +114,7 @@ place_more {K} first tallies place all t inside later same =
     ap (λ k. place_for first (map count_of_tally (drop k tallies))) (add-one place) in
     omega (arith, here, more, same)
 
--- the search for the place of a tally ends at the index of the first tally that comes after it
+-- the search for the index of a new tally ends at the first tally whose schedule comes after the new tally's
 pub place_here : {K : Type 0} (first : List ℕ) (tallies : List (PathTally K)) (place all : ℕ) (t : PathTally K)
     → place < length tallies → is_before first (get_or tallies place t).first.items ≡ true
     → place + place_for first (map count_of_tally (drop place tallies)) ≡ all → place ≡ all

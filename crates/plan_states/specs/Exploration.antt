@@ -35,7 +35,8 @@ abbrev pub IsExploration : Plan → ℕ → Exploration → Type 0
 IsExploration plan most (explored.All graph) = IsGraphWithin plan most graph
 IsExploration plan most explored.TooMany = Unit {0}
 
--- a fault that leaves an exploration without a graph: failed allocation, or a mismatch in the runs or in the graph
+-- the fault is one of the two that end an exploration without a graph: a failed allocation, or results that contradict
+-- each other
 abbrev pub HasNoGraph : Fault → Type 0
 HasNoGraph Memory = Unit {0}
 HasNoGraph Mismatch = Unit {0}

@@ -33,7 +33,7 @@ schedules_line schedule_count = codes "schedules " ++ (numeral schedule_count ++
 abbrev pub share_text : ℕ → ℕ → List ℕ → List ℕ
 share_text schedule_count count first = if count == schedule_count then codes " in all\n" else codes " in " ++ (numeral count ++ (codes ", " ++ (schedule_text first ++ 10 ∷ [])))
 
--- the words for the schedules with a refused step, and for those without one
+-- the words for the schedules with a refused step if the argument is true, and for those without one if it is false
 abbrev pub refusal_words : Bool → List ℕ
 refusal_words true = codes "some step refused"
 refusal_words false = codes "no step refused"
@@ -84,7 +84,7 @@ step_number plan build = unwrap_or (option_map length (slice_get plan.builds bui
 abbrev pub ends_of_step : Plan → StepOutcomes → ℕ → ℕ → List ℕ
 ends_of_step plan outcomes build place = step_ends outcomes build place (step_after plan build place)
 
--- the lines for the outcomes of the abort of a build that gave up, if the plan's builds give up
+-- the lines on how a build's abort ends after the build gave up; none for a plan whose builds do not give up
 abbrev pub ends_of_giving_up : Plan → StepOutcomes → ℕ → List ℕ
 ends_of_giving_up plan outcomes build =
     if plan.gives_up then flat_map (give_up_shown outcomes.schedule_count) (filter (is_of_step build giving_up) outcomes.ends.items) else []

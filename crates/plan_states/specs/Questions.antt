@@ -17,7 +17,7 @@ pages_of_builds host = map (λ build. length (pages_of_build host build)) (range
 
 -- ---- by the outcome of a turn's step, and the number of pages that each build holds after it
 
--- a refusal for lack of a shared resource: no block of the order is free, or no VMID is free
+-- there is a refusal, and it is for lack of a shared resource: no block of the order is free, or no VMID is free
 abbrev pub is_of_shared : Option Refusal → Bool
 is_of_shared (Some (NoBlock order)) = true
 is_of_shared (Some NoVmid) = true

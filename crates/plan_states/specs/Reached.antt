@@ -12,7 +12,7 @@ pub record IsReached (plan : Plan) (schedule : List ℕ) (at : Position) : Type 
   pub turns : List Turn
   pub are_turns : AreTurns plan schedule (start (opening_host plan)) turns at
 
--- `taken` is a turn of the build between the positions, with the build's progress before and after it
+-- `taken` leads from `at` to `to` as a turn of the build, and has the build's progress before and after the turn
 pub record IsTurnAt (plan : Plan) (at : Position) (build : ℕ) (taken : Taken) (to : Position) : Type 0 where
   pub of_build : taken.turn.build ≡ build
   pub is_turn : IsTurn plan at taken.turn to

@@ -64,7 +64,7 @@ pub record IsLog (plan : Plan) (ends : List EndOfStep) (held : List (List ℕ)) 
 
 -- ---- the edges that were run
 
--- the number of the snapshot of a state, if it has one
+-- the number of a state's snapshot, if the state has a snapshot
 abbrev pub snapshot_at : List (Vec Visit Global) → ℕ → ℕ → Option ℕ
 snapshot_at visits depth state =
     option_and_then (λ (visit : Visit). visit.snapshot) (slice_get (slice_index_or (map vec_items visits) depth []) state)

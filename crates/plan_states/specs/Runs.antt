@@ -24,9 +24,9 @@ abbrev pub IsMapNamed : Plan → List (String Global) → Option ℕ → Positio
 IsMapNamed plan maps None at = Unit {0}
 IsMapNamed plan maps (Some number) at = AreOver plan at.places × (option_map string_bytes (slice_get maps number) ≡ Some (map_text at.host))
 
--- A turn of the label's build leads from one position to the other. It ends its step with the outcome that the label
--- names, or leaves the step under way if the label names none. After the turn, builds hold the numbers of pages that
--- the label names. If the label names a map, it is that of the host then.
+-- A turn leads from one position to the other, with the build, the step outcome, the page counts and the map that the
+-- label names. The turn ends its step with that outcome, or leaves the step under way if the label names none. If the
+-- label names a map, it is that of the host after the turn.
 pub record IsLabelled (plan : Plan) (ends : List EndOfStep) (held : List (List ℕ)) (maps : List (String Global)) (at : Position) (label : Label) (to : Position) : Type 0 where
   pub taken : Taken
   pub is_taken : IsTurnAt plan at label.build taken to

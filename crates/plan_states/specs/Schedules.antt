@@ -1,4 +1,4 @@
--- The schedules allowed by a rule that says which builds have a step left, and the condition that such a rule agrees
+-- Rules that say which builds have a step left, the schedules that a rule allows, and the condition that a rule agrees
 -- with a state graph's paths.
 use Rattle.std.specs.Prelude.{◌≡◌, ◌<◌, ◌==◌, ◌&&◌, ◌+◌, ℕ, zero, suc, Bool, true, false, List, [], ◌∷◌, ◌++◌, map, filter, Contains, count_by, fold, Option, Some, None, is_some, option_to_list, slice_get, slice_index_or}
 use Rattle.std.specs.List.{find, flat_map, range_with_len}
@@ -32,12 +32,12 @@ schedules_after left (suc most) before =
 
 -- ---- rules of a graph
 
--- the number of a build's steps that end in the turns of a path
+-- the number of steps that a build finishes in the turns of a path
 abbrev pub used_by : Path Label → ℕ → ℕ
 used_by path build = count_by (λ edge. build == edge.label.build && is_some edge.label.end) path
 
--- The index of a build's next step after the turns of a path. In a plan whose builds do not give up, it is the number
--- of the build's steps that end in these turns.
+-- The index of a build's next step after the turns of a path. In a plan whose builds do not give up, this index is the
+-- number of steps that the build finishes in these turns.
 abbrev pub done_by : Plan → Graph → Path Label → ℕ → ℕ
 done_by plan graph path build = fold (λ done edge. number_by plan graph.ends.items build done edge.label) 0 path
 
@@ -47,7 +47,7 @@ IsRuleOf plan graph left =
     (front rest : Path Label) → Contains (paths_of graph) (front ++ rest)
     → (build : ℕ) → build < 8 → left (builds_of_path front) build ≡ is_some (step_after plan build (done_by plan graph front build))
 
--- the path that turns of the given builds take from a state, up to the first turn without an edge
+-- the path from a state along edges of the given builds, in sequence, up to the first build without such an edge
 abbrev pub turns_from : List (Layer Label) → ℕ → ℕ → List ℕ → Path Label
 turns_from layers depth state [] = []
 turns_from layers depth state (build ∷ schedule) =
@@ -56,7 +56,8 @@ turns_from layers depth state (build ∷ schedule) =
       | None ↦ []
     ]
 
--- the graph's own rule: whether the build has a step left after the path that the given turns take
+-- by the graph's own rule, a build has a step left after the turns `before` if it has one at the end of the path of
+-- these turns
 abbrev pub own_rule : Plan → Graph → List ℕ → ℕ → Bool
 own_rule plan graph before build = is_some (step_after plan build (done_by plan graph (turns_from (layers_of graph) 0 0 before) build))
 
@@ -66,26 +67,26 @@ own_rule plan graph before build = is_some (step_after plan build (done_by plan 
 abbrev pub HasSingleTurns : Plan → Type 0
 HasSingleTurns plan = (build done : ℕ) → takes_many (step_after plan build done) ≡ false
 
--- the rule for a plan whose steps each take one turn: a build has done one step in each of its turns
+-- the rule for a plan whose steps each take one turn: a build has a step left if it has had fewer turns than steps
 abbrev pub by_turns : Plan → List ℕ → ℕ → Bool
 by_turns plan before build = is_some (step_after plan build (count_by (λ turn. build == turn) before))
 
 -- ---- the step outcomes of a path
 
--- the step outcome with this number as a list of one, or the empty list if there is none
+-- the step outcome with this number as a list of one element, or the empty list if there is no such outcome
 abbrev pub end_at : List EndOfStep → Option ℕ → List EndOfStep
 end_at ends None = []
 end_at ends (Some number) = option_to_list (slice_get ends number)
 
--- the outcomes of the steps that end in the turns of a path
+-- the outcomes of the steps that builds finish in the turns of a path
 abbrev pub ends_of_path : List EndOfStep → Path Label → List EndOfStep
 ends_of_path ends path = flat_map (λ edge. end_at ends edge.label.end) path
 
--- the outcomes of a build's steps that end in the turns of a path
+-- the outcomes of the steps that a build finishes in the turns of a path
 abbrev pub ends_of : List EndOfStep → ℕ → Path Label → List EndOfStep
 ends_of ends build path = filter (λ end. end.build == build) (ends_of_path ends path)
 
--- the indices of a build's steps that end in the turns of a path, in sequence
+-- the indices of the steps that a build finishes in the turns of a path, in sequence
 abbrev pub steps_ended : List EndOfStep → ℕ → Path Label → List ℕ
 steps_ended ends build path = map (λ end. end.step) (ends_of ends build path)
 

@@ -63,7 +63,8 @@ pub record IsTurnWithoutAnswer (plan : Plan) (question : TurnQuestion) (at : Pos
   pub is_taken : IsTurnAt plan at build taken to
   pub not_shown : ¬ (Shows plan question (end_of taken) to.host)
 
--- The answer to the question is no for the last turn of the schedule, or the build of that turn has no step left.
+-- After all turns but the last, the build of the last turn has no step left, or takes a turn for which the answer is
+-- no.
 pub record EndsWithoutAnswer (plan : Plan) (question : TurnQuestion) (schedule : List ℕ) : Type 0 where
   pub before : List ℕ
   pub last : ℕ
@@ -72,7 +73,7 @@ pub record EndsWithoutAnswer (plan : Plan) (question : TurnQuestion) (schedule :
   pub reached : IsReached plan before at
   pub none : (is_left plan at.places last ≡ false) ⊎ IsTurnWithoutAnswer plan question at last
 
--- the schedule is empty, or the answer to the question is not yes for its last turn
+-- the schedule is empty, or satisfies `EndsWithoutAnswer` for the question
 abbrev pub IsUnanswered : Plan → TurnQuestion → List ℕ → Type 0
 IsUnanswered plan question schedule = (schedule ≡ []) ⊎ EndsWithoutAnswer plan question schedule
 

@@ -1,5 +1,5 @@
--- Snapshots of a run, which show each build's progress, marks, abort flag and events, and the condition that two
--- snapshots agree.
+-- Snapshots of a run, which show each build's progress, marks, abort flag and events. Two snapshots agree if they are
+-- equal for each build.
 use Rattle.std.specs.Prelude.{◌≡◌, ◌<◌, ◌≤◌, ℕ, Bool, false, List, length, Option, Some, None, option_map, slice_get}
 use Rattle.host_ledger.specs.Kept.{AreOfEach}
 use Rattle.host_ledger.specs.Marks.{is_same_mark}

@@ -6,7 +6,8 @@ use Rattle.plan_replay.specs.Run.{step_after}
 use Rattle.plan_states.specs.declared.state.BuildState.{BuildState}
 use Rattle.plan_states.specs.declared.state.State.{State}
 
--- the state of a build before its first turn; `did`, the index of its past turns, is the build's number
+-- the state of a build before its first turn: no step done, no VMID, no page, and the build's number as the index of
+-- its past turns
 abbrev pub at_rest : ℕ → BuildState
 at_rest build = record { did = build; done = 0; vmid = None; pages = 0 }
 

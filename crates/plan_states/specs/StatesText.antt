@@ -18,7 +18,7 @@ pub record IsGraphText (plan : Plan) (graph : Graph) (text : List ℕ) : Type 0 
 abbrev pub too_many_line : ℕ → List ℕ
 too_many_line most = codes "states more than " ++ (decimal most ++ 10 ∷ [])
 
--- the text reports the outcomes in the plan's graph, which has at most `most` states, or is the line that says that
--- there are more states
+-- the text reports the outcomes in a graph of the plan with at most `most` states, or the text is the line that says
+-- that there are more states
 abbrev pub IsStatesText : ℕ → Plan → List ℕ → Type 0
 IsStatesText most plan text = ((graph : Graph) × IsGraphWithin plan most graph × IsGraphText plan graph text) ⊎ (text ≡ too_many_line most)

@@ -39,7 +39,7 @@ tally_by_counts outcome counts labels =
 
 -- ---- the order of tallies
 
--- a schedule comes before another: it has the lower build at the first turn at which they differ
+-- the first schedule comes before the second: it has the lower build at the first turn at which the two differ
 abbrev pub is_before : List ℕ → List ℕ → Bool
 is_before [] others = false
 is_before (one ∷ ones) [] = false
@@ -50,7 +50,8 @@ abbrev pub place_for : {K : Type 0} → List ℕ → List (PathCount K) → ℕ
 place_for first [] = 0
 place_for first (t ∷ tallies) = if is_before first t.first then 0 else suc (place_for first tallies)
 
--- the tallies, which are sorted by their first schedules, with the given one, if any, inserted in that order
+-- the tallies with the given one, if any, inserted before the first tally that has a later first schedule, or else at
+-- the end
 abbrev pub with_tally : {K : Type 0} → Option (PathCount K) → List (PathCount K) → List (PathCount K)
 with_tally None tallies = tallies
 with_tally (Some tally) tallies = insert tallies (place_for tally.first tallies) tally
@@ -95,7 +96,8 @@ map_tallies graph =
     then record { outcome = 0; count = 1; first = [] } ∷ []
     else all_added (map_tally graph) (length graph.maps.items)
 
--- The tallies in `outcomes` count all paths of the graph.
+-- `outcomes` has the number of the graph's paths, and tallies of the paths by refusal, by step outcome, by build that
+-- is never refused, and by final map.
 pub record AreOutcomes (builds : ℕ) (graph : Graph) (outcomes : Outcomes) : Type 0 where
   pub schedule_count : outcomes.steps.schedule_count ≡ length (paths_of graph)
   pub by_refusal : map count_of_tally outcomes.steps.by_refusal.items ≡ whole_tallies graph

@@ -44,11 +44,12 @@ moved_by (Take order first) = Some (record { is_back = false; order = order; fir
 moved_by (UnTake order first) = Some (record { is_back = true; order = order; first = first })
 moved_by _ = None
 
--- the block that the event at index `before` of the history leases or gives back, if it does
+-- the block that the event at index `before` of the history leases or gives back; None if there is no such event or
+-- block
 abbrev pub moved_after : ℕ → List Event → Option Moved
 moved_after before history = option_and_then (λ (event : Event). moved_by event.act) (slice_get history before)
 
--- the new list is the old one, or is the old one with the given item, if any, added at its end
+-- the new list is the old one, either unchanged or with the given item at its end; without an item, it is unchanged
 abbrev pub AreWith : {X : Type 0} → List X → Option X → List X → Type 0
 AreWith items None new = new ≡ items
 AreWith items (Some item) new = (new ≡ items) ⊎ (new ≡ items ++ item ∷ [])

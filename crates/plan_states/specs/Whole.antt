@@ -53,8 +53,8 @@ abbrev pub is_end_refused : Option EndOfStep → Bool
 is_end_refused None = false
 is_end_refused (Some end) = is_some end.refusal
 
--- the index of a build's next step after a turn of the build, in which a step ends with the given outcome, or no step
--- ends
+-- the index of a build's next step after a turn of the build, given the outcome of the step that the turn ends, if it
+-- ends one
 abbrev pub number_with : Plan → List EndOfStep → ℕ → Option ℕ → ℕ
 number_with plan ends done None = done
 number_with plan ends done (Some number) = number_after plan.gives_up (is_end_refused (slice_get ends number)) done
@@ -90,18 +90,18 @@ leads_on plan ends maps done next edge = leads_if_there plan ends maps done edge
 
 -- ---- states
 
--- the edge is a turn of the build
+-- there is an edge, and it is a turn of the build
 abbrev pub is_of_build : ℕ → Option (Edge Label) → Bool
 is_of_build build None = false
 is_of_build build (Some edge) = edge.label.build == build
 
--- The state has one edge for each build with a step left, from the lowest build on, and each edge leads to a fitting
--- state of the next layer.
+-- The state has one edge for each build with a step left, from the lowest build on. Each edge leads to a state of the
+-- next layer that fits the edge's turn.
 pub record IsStateWhole (plan : Plan) (ends : List EndOfStep) (maps : ℕ) (done : List ℕ) (next : List (List ℕ)) (edges : List (Edge Label)) : Type 0 where
   pub builds : map (λ edge. edge.label.build) edges ≡ filter (has_step_left plan done) (range_with_len 0 8)
   pub lead_on : list_all (leads_on plan ends maps done next) edges ≡ true
 
--- The layer has at least one state, and each of its states is whole.
+-- The layer has at least one state, and each of its states is whole, with one edge for each build that has a step left.
 pub record IsLayerWhole (plan : Plan) (ends : List EndOfStep) (maps : ℕ) (states next : List (List ℕ)) (layer : List (Vec (Edge Label) Global)) : Type 0 where
   pub some : 0 < length states
   pub as_many : length states ≡ length layer
@@ -115,8 +115,8 @@ states_at graph depth = slice_index_or (map vec_items graph.progress.items) dept
 abbrev pub layer_at : Graph → ℕ → List (Vec (Edge Label) Global)
 layer_at graph depth = slice_index_or (map vec_items graph.layers.items) depth []
 
--- The first layer has the one state in which no step is done, and the states of each layer are whole. The graph gives
--- the progress of each layer, and has at least one map.
+-- The first layer has only the state in which no step is done, and each state has one edge for each build that has a
+-- step left. The graph gives the progress of each layer, and has at least one map.
 pub record IsWholeGraph (plan : Plan) (graph : Graph) : Type 0 where
   pub as_many : length graph.progress.items ≡ length graph.layers.items
   pub start : is_at_start (states_at graph 0) ≡ true

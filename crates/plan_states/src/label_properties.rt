@@ -16,8 +16,7 @@ fn has_number(number: usize, other: Option<usize>) -> bool
     }
 }
 
-/// A property of edge labels: the turn that the label describes ends a step with a given outcome. The field is the
-/// index of the outcome.
+/// The property that a label's turn ends a step with a given outcome. The field is the index of the outcome.
 #[derive(Clone, Copy)]
 pub(crate) struct HasEnd(pub(crate) usize);
 
@@ -31,8 +30,7 @@ impl LabelProperty<Label> for HasEnd {
     }
 }
 
-/// A property of edge labels: the turn that the label describes ends a schedule with a given page map. The field is the
-/// index of the map.
+/// The property that a label's turn ends a schedule with a given page map. The field is the index of the map.
 #[derive(Clone, Copy)]
 pub(crate) struct HasMap(pub(crate) usize);
 
@@ -46,8 +44,8 @@ impl LabelProperty<Label> for HasMap {
     }
 }
 
-/// A property of edge labels: the turn that the label describes ends a step of `build` with a refusal. If `build` is
-/// `None`, the step may be one of any build.
+/// The property that a label's turn ends a step of `build` with a refusal. If `build` is `None`, the step may be one of
+/// any build.
 #[derive(Clone, Copy)]
 pub(crate) struct HasRefusal<'a> {
     pub(crate) ends: &'a [EndOfStep],

@@ -45,8 +45,8 @@ pub fn a_whole_graph_has_a_rule()
     ensures { (plan : Plan) (graph : Graph) → IsWholeGraph plan graph → IsRuleOf plan graph (own_rule plan graph) }
 {}
 
-/// Proves that, unless the plan's builds give up, a build's progress along a path is the number of its steps that end
-/// on the path.
+/// Proves that, unless the plan's builds give up, a build's progress along a path is the number of steps that the build
+/// finishes on the path.
 pub fn steps_are_counted()
     ensures { (plan : Plan) (graph : Graph) (path : Path Label) (build : ℕ) → plan.gives_up ≡ false → done_by plan graph path build ≡ used_by path build }
 {}

@@ -116,8 +116,7 @@ fn end_numbered(ends: &[EndOfStep], number: Option<usize>) -> Option<EndOfStep>
     }
 }
 
-/// A property of edge labels: the answer to `question` is yes for the turn that the label describes. A label has
-/// indices into `ends` and `held`.
+/// The property that the answer to `question` is yes for a label's turn. A label has indices into `ends` and `held`.
 #[derive(Clone, Copy)]
 pub(crate) struct AnswersQuestion<'a> {
     pub(crate) ends: &'a [EndOfStep],

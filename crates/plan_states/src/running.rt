@@ -20,7 +20,7 @@ use realm_plan::Plan;
 use realm_program::{Fault, boot};
 use std::alloc::Global;
 
-/// A run of a plan: a host, and each build's position in the plan.
+/// The state of a run of a plan, with the host and the cursor of each build.
 #[derive(Drop)]
 pub(crate) struct Running {
     pub(crate) host: Host<BuddyArena>,

@@ -1,4 +1,4 @@
-//! Tallies of outcomes: each outcome, with the number of schedules that have it.
+//! Tallies that give, for each outcome, the number of schedules that have it.
 use crate::step_end::EndOfStep;
 use schedule_graph::Count;
 
@@ -10,7 +10,7 @@ pub struct PathTally<K> {
     pub first: Vec<usize>,
 }
 
-/// Tallies of step outcomes over schedules of a plan: all of them, or randomly drawn ones.
+/// Tallies of step outcomes over all schedules of a plan, or over schedules drawn at random.
 pub struct StepOutcomes {
     /// The number of schedules that were counted.
     pub schedule_count: Count,

@@ -40,16 +40,16 @@ struct Moves {
     moved: Moved,
 }
 
-/// The inputs of a turn: the build's past turns, and the shared resources' state. Only the resources that the step
-/// needs count.
+/// The inputs that determine the outcome of a turn, which are the build's past turns and the state of the shared
+/// resources. Only the resources that the step needs count.
 #[derive(Clone, Copy, PartialEq, Eq, Hash)]
 pub(crate) struct TurnInputs {
     build: usize,
     shared: usize,
 }
 
-/// The outcome of a turn: the build's new state, the moved block, and the index of the step outcome. `moved` is `None`
-/// if no block moved, and `end` is `None` if no step ended.
+/// The outcome of a turn, with the build's new state, the block that was leased or given back, and the index of the
+/// step outcome. `moved` is `None` if no block moved, and `end` is `None` if no step ended.
 #[derive(Clone, Copy)]
 pub(crate) struct TurnOutcome {
     build: BuildState,

@@ -1,5 +1,5 @@
-//! The check that a state graph has all turns of its plan. In each state, each build that has a step left has exactly
-//! one edge. Each edge leads to a state of the next layer that fits the edge's turn.
+//! The check that a state graph has an edge for each turn that its plan allows. In each state, each build that has a
+//! step left has exactly one edge. Each edge leads to a state of the next layer that fits the edge's turn.
 ghost use Rattle.std.specs.Prelude.{◌≡◌, ◌<◌, ◌^◌, [], map, filter, vec_items, slice_get, slice_index_or};
 ghost use Rattle.std.specs.Bool.{OnTrue};
 ghost use Rattle.std.specs.List.{list_all, range_with_len};
@@ -324,8 +324,8 @@ fn is_at_start(states: &[StepsDone]) -> bool
     }
 }
 
-/// Returns whether a state graph is whole: it has one first state, one edge from each state for each build with a step
-/// left, and a final map.
+/// Returns whether a state graph is whole: it has one first state, at least one final map, and one edge from each state
+/// for each build with a step left.
 pub(crate) fn is_whole(plan: &Plan, graph: &Graph) -> bool
     ensures { OnTrue result (IsWholeGraph (plan_view plan.now) graph.now) }
 {

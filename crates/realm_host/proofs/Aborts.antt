@@ -44,7 +44,7 @@ pub record Newest (acts : List Act) : Type 0 where
   pub act : Act
   pub is : last_or None acts ≡ Some act
 
--- if any operation is open, one is the newest
+-- a list of operations that is not empty has a last operation, the newest
 newest_of : (acts : List Act) → 0 < length acts → Newest acts
 newest_of [] some = absurd (omega arith)
 newest_of (act ∷ acts) some = from act acts
@@ -70,12 +70,13 @@ drop_all (suc count) (act ∷ acts) few = drop_all count acts (omega (arith, few
 -- ---- a build at rest
 
 module _ (host : HostView) (legal : IsLegal host.limits host.history) (build : ℕ) (rest : IsAtRest (realm_of build (world_of host))) where
-  -- none of the operations made a REC that runs in the build's realm
+  -- if no REC of the build's realm runs, none of the given operations created a REC that runs
   pub rests_all : (acts : List Act) → list_any (is_running (realm_of build (world_of host))) acts ≡ false
   rests_all acts =
       none_run (realm_of build (world_of host)) acts ((rest_is_of_all host.limits host.history build (world_of host) (world_is host legal)).0 rest)
 
-  -- as long as the build's later events are all reverses, the host refuses no undo of the build until nothing is open
+  -- if no REC of the build runs, and all events of the build after those of `host` are reverses, no undo of the build
+  -- is refused until nothing is open
   pub goes_on : build < host.limits.builds → GoesOn host build
   goes_on there later then limits history legal_then all some =
       let at_host = world_is host legal in
@@ -110,8 +111,8 @@ set_twice (z ∷ xs) zero x y = refl
 set_twice (z ∷ xs) (suc place) x y = ap (λ ys. z ∷ ys) (set_twice xs place x y)
 
 module _ {X : Type 0} (d : X) (then : ℕ → X → X) (lower : (k count : ℕ) (x : X) → count ≤ k → then count (then k x) ≡ then count x) where
-  -- updating a list item for `k` open operations, and then for a `count` of at most `k`, is the same as updating it for
-  -- `count` at once
+  -- on an item of a list, as on a single value, `then k` followed by `then count` is the same as `then count` alone,
+  -- for `count` up to `k`
   pub written_on : (xs : List X) (place k count : ℕ) → count ≤ k
       → set (set xs place (then k (get_or xs place d))) place (then count (get_or (set xs place (then k (get_or xs place d))) place d)) ≡ set xs place (then count (get_or xs place d))
   written_on xs place k count fewer = at (nat_lt place (length xs)) refl
@@ -158,7 +159,7 @@ module _ (host : HostView) (build : ℕ) (act : Act) where
   abbrev opened : ℕ
   opened = length (open_of (with_event host build act) build)
 
-  -- a build with nothing open is not in abort
+  -- after `act` is recorded, the build is not in abort if nothing of the build is open
   pub open_in_abort : opened ≡ 0 → is_aborting (with_event host build act) build ≡ false
   open_in_abort none = at (nat_lt build (length host.aborting)) refl
     where
@@ -174,7 +175,7 @@ module _ (host : HostView) (build : ℕ) (act : Act) where
           let outside = ltb-false build (length host.aborting) past in
           ap (λ (flags : List Bool). get_or flags build false) (set_past host.aborting build _ outside) ∙ get_or_past host.aborting build false outside
 
-  -- after the event, the build's mark is not above its open operations
+  -- after `act` is recorded, the build has at least as many open operations as at its mark, if the build has a mark
   pub mark_low : mark_while opened (mark_of (with_event host build act) build) ≡ mark_of (with_event host build act) build
   mark_low = at (nat_lt build (length host.marks)) refl
     where
@@ -246,7 +247,7 @@ module _ (host : HostView) (legal : IsLegal host.limits host.history) (build cou
         ∙ sym (ap reverses (ap reverse above_is ∙ reverse-append (drop count below) (newest.act ∷ []))
         ∙ ap (λ (o : Option Act). elim o [ Some r ↦ r ∷ reverses (reverse (drop count below)) | None ↦ reverses (reverse (drop count below)) ]) back_is)
 
-    -- after one more undo, undoing down to `count` operations leads to the same host as before that undo
+    -- undoing down to `count` operations leads to the same host, whether it begins before or after the next undo
     pub same_end : undone_to new build count ≡ undone_to host build count
     same_end =
         let fewer : count ≤ length (open_of new build) = omega (arith, long_after) in
@@ -300,8 +301,8 @@ module _ (host : HostView) (legal : IsLegal host.limits host.history) (build : �
 
 -- ---- all the way down
 
--- the invariant while a build's operations are undone down to `count`: `host`, reached from `old`, leads to the same
--- end
+-- the invariant while a build's operations are undone down to `count`: undoing the rest leads from `host` to the same
+-- end as from `old`
 pub record IsGoingDown (old : HostView) (build count counter : ℕ) (host : HostView) : Type 0 where
   pub there : build < host.limits.builds
   pub legal : IsLegal host.limits host.history
@@ -342,7 +343,7 @@ module _ (old host : HostView) (build count counter : ℕ) (down : IsGoingDown o
   opened_is : length (open_of host build) ≡ count
   opened_is = let opened = down.opened in omega (arith, opened, over)
 
-  -- at the end, undoing down to `count` operations changes nothing
+  -- once only `count` operations are open, undoing down to `count` operations changes nothing
   at_end : undone_to host build count ≡ host
   at_end = λ i. record host {
     history = (ap (λ (acts : List Act). host.history ++ map (by build) (reverses (reverse acts))) (drop_all count (open_of host build) (omega (arith, opened_is)))

@@ -1,4 +1,4 @@
--- Proofs that a requested operation is performed and recorded, or refused, exactly as the model says.
+-- Proofs that an operation asked of the RMM is performed and recorded, or is refused and changes nothing.
 use Rattle.std.proofs.Common.{◌≡◌, ℕ, ◌<◌, Ok, Err, refl, sym, subst, arith}
 use Rattle.realm_model.specs.declared.act.Act.{Act}
 use Rattle.realm_model.specs.declared.act.Act.TheVariants.{Rec}

@@ -1,4 +1,5 @@
--- Proofs that a recorded event whose build has enough room is applied if and only if the history with it is legal.
+-- Proofs that a host applies a recorded event, if the event's build has enough room, exactly when the history with the
+-- event is legal.
 use Rattle.std.proofs.Common.{◌≡◌, ℕ, ◌<◌, Bool, true, false, not, cond, List, [], ◌∷◌, ◌++◌, Option, Some, None, Result, Ok, Err, refl, sym, ap, ◌∙◌, subst}
 use Rattle.std.specs.Prelude.{map, slice_get, option_and_then, IsSome}
 use Rattle.std.specs.FinMap.{get, remove}
@@ -34,7 +35,7 @@ use Rattle.realm_host.specs.Acting.{HasRoomFor, CanAct, IsActed, IsApplied}
 use Rattle.realm_host.proofs.Asked.{forward_turn}
 use Rattle.realm_host.proofs.Pairs.{one_step}
 
--- the event of an operation is in turn, and is a step from the host's world
+-- an operation is possible in the host's world, and if it is a reverse, it undoes the build's newest open operation
 pub record IsNext (host : HostView) (build : ℕ) (act : Act) : Type 0 where
   pub next : World
   pub stepped : step host.limits (world_of host) (by build act) ≡ Some next
@@ -59,7 +60,7 @@ legal_next host legal build act more = at (replay host.limits (host.history ++ b
 -- ---- a block
 
 module _ (ledger : HostView) (monitor : MonitorView) (whole : IsWhole ledger monitor) (build order first : ℕ) where
-  -- a block that can be leased is free
+  -- if the history with a Take of a block is legal, the block is free
   pub legal_block : IsLegal ledger.limits (ledger.history ++ by build (Take order first) ∷ []) → IsFreeBlock monitor.free order first
   unfolding named
   legal_block more =
@@ -71,7 +72,7 @@ module _ (ledger : HostView) (monitor : MonitorView) (whole : IsWhole ledger mon
 
 -- ---- a reverse
 
--- If nothing is open, or the newest operation has another reverse, the operation is out of turn.
+-- if `act` is a reverse, but not the reverse of the build's newest open operation, the history with `act` is not legal
 pub out_of_turn : (host : HostView) → IsLegal host.limits host.history → (build : ℕ) (act : Act) → is_reverse act ≡ true
     → (option_and_then reverse_of (last_or None (open_entries build host.history)) ≡ Some act → ⊥) → IsLegal host.limits (host.history ++ by build act ∷ []) → ⊥
 out_of_turn host legal build act kind other more = other ((legal_next host legal build act more).turn kind)
@@ -85,7 +86,7 @@ refused_rec (Some rec) runs f updates e = at (is_ready rec.state) runs e
     at true runs e = cc
     at false runs e = cc
 
--- a REC that runs is not destroyed
+-- if a REC runs, the command that would destroy the REC is refused
 rec_stays : (realm : Option Seen) (number : ℕ) → rec_runs realm number ≡ true → (updates : List Update) → ◌≡◌ {A = Outcome} (on_realm realm (λ rd. rec_destroy rd number)) (Ok updates) → ⊥
 unfolding with_realm with_rec check
 rec_stays None number runs updates e = cc
@@ -105,7 +106,7 @@ rec_stays (Some rd) number runs updates e = at rd.cell.descriptor refl
           | None ↦ Err error_input
         ]) is) ∙ e)
 
--- so the reverse of an act that made a REC that runs is no step
+-- the reverse of an operation that created a running REC is not possible in the host's world
 pub runs_on : (host : HostView) (build : ℕ) (newest back : Act) → reverse_of newest ≡ Some back → is_running (realm_of build (world_of host)) newest ≡ true
     → (next : World) → step host.limits (world_of host) (by build back) ≡ Some next → ⊥
 unfolding reverse_of outcome_of
@@ -131,7 +132,7 @@ forward_command (Take order first) forward other = absurd (other order first ref
 forward_command (UnTake order first) forward other = cc
 forward_command _ forward other = refl
 
--- if an operation is no step, the history with its event is not legal
+-- if an operation is not possible in the host's world, the history with its event is not legal
 pub no_legal : (host : HostView) → IsLegal host.limits host.history → (build : ℕ) (act : Act)
     → ((next : World) → step host.limits (world_of host) (by build act) ≡ Some next → ⊥) → IsLegal host.limits (host.history ++ by build act ∷ []) → ⊥
 no_legal host legal build act never more = let is = legal_next host legal build act more in never is.next is.stepped
@@ -142,7 +143,7 @@ refused_no_step host build act rmi refused next stepped =
     let says = step_is host.limits (world_of host) next (by build act) stepped in
     let bad : Ok says.updates ≡ Err rmi = sym says.outcome ∙ refused in cc
 
--- a command's operation is no step if its build does not lease each granule that the operation names
+-- a command's operation is possible only if its build leases each granule that the operation names
 pub unleased_no_step : (host : HostView) (build : ℕ) (act : Act) → is_command act ≡ true → list_all (is_leased_to (Some build) (world_of host).leases) (named act) ≡ false
     → (next : World) → step host.limits (world_of host) (by build act) ≡ Some next → ⊥
 unleased_no_step host build act command unleased next stepped =
@@ -167,7 +168,8 @@ can_apply_act host build act there forward command room leased_named in_range fi
   room = room;
 }
 
--- an operation that is performed is recorded, and the history with an operation that the RMM refuses would not be legal
+-- if `IsActed` holds of an operation's result, `IsApplied` holds with `true` for a success and with `false` for an
+-- error
 pub is_applied : (host : HostView) → IsLegal host.limits host.history → (build : ℕ) (act : Act) (result : Result (Unit {0}) Rmi) (new : HostView)
     → IsActed host build act result new → IsApplied host build act (is_ok result) new
 is_applied host legal build act (Ok done) new acted = acted

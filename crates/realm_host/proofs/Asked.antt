@@ -1,5 +1,5 @@
--- Proofs that a command other than a Take that passes the host's checks is either performed or refused with the RMM's
--- answer.
+-- Proofs that a command other than a Take, once it has passed the host's checks, is either performed or refused with
+-- the RMM's answer.
 use Rattle.std.proofs.Common.{◌≡◌, ℕ, ◌==◌, ◌<◌, Bool, true, false, List, [], ◌∷◌, ◌++◌, length, map, Option, Some, None, Ok, Err, refl, sym, ap, ◌∙◌, subst, arith}
 use Rattle.std.specs.Prelude.{IsTrue, IsSome, option_map, is_some, slice_get, slice_index}
 use Rattle.std.specs.List.{All}
@@ -226,7 +226,7 @@ module _ (host : HostView) (legal : IsLegal host.limits host.history) (build : �
             reply_is = refl;
           }
 
--- the first check of a command's needs that holds gives the command's refusal
+-- if a check in `checks_of` refuses a command, the command gets the refusal of the first such check
 pub refused_by_needs : (host : HostView) (build : ℕ) (cmd : Cmd) (refusal : Refusal) → first_that_holds (checks_of (summary_of host) build cmd) ≡ Some refusal
     → refusal_of host build (Ask cmd) ≡ Some refusal
 unfolding refusal_of

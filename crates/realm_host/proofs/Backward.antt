@@ -21,7 +21,7 @@ use Rattle.host_ledger.specs.View.{HostView, world_of, open_of}
 use Rattle.host_ledger.proofs.Worlds.{world_is}
 use Rattle.realm_host.specs.Acting.{HasRoomFor, CanAct, IsBack}
 
--- the operation is a reverse: it has no reverse itself, and takes no room in the history
+-- the operation is a reverse, has no reverse itself, and takes no room in the history
 pub record IsReverse (back : Act) : Type 0 where
   pub unpaired : is_paired back ≡ false
   pub reverse : is_reverse back ≡ true
@@ -38,7 +38,7 @@ reverse_is (Unknown granule ipa) back e = subst IsReverse (same_Some _ _ e) (rec
 reverse_is (Rec granule auxiliaries number) back e = subst IsReverse (same_Some _ _ e) (record { unpaired = refl; reverse = refl; takes_none = refl })
 reverse_is _ back e = cc
 
--- an act that gives a block back is the reverse of its Take
+-- if the reverse of an operation gives a block back, the operation is the Take of that block
 pub of_take : (act : Act) (order first : ℕ) → reverse_of act ≡ Some (UnTake order first) → act ≡ Take order first
 unfolding reverse_of
 of_take (Take o f) order first e = let same : UnTake o f ≡ UnTake order first = same_Some _ _ e in cc

@@ -1,4 +1,4 @@
--- Proofs that a booted host satisfies its invariant, and that a host's count of free pages equals the model's.
+-- Proofs that a booted host satisfies its invariant, and that a host counts as free the granules that no build leases.
 use Rattle.std.proofs.Common.{◌≡◌, ℕ, suc, ◌+◌, Bool, true, false, cond, List, [], ◌∷◌, length, map, Option, Some, None, refl, sym, ap, ◌∙◌, subst, arith, add-zero, zero-add}
 use Rattle.std.specs.Prelude.{filter, is_none, slice_get}
 use Rattle.std.specs.List.{range_with_len, flat_map}

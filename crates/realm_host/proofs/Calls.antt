@@ -41,12 +41,12 @@ whole_marked ledger monitor whole build mark = record { mirror = whole.mirror; i
 
 -- ---- checks
 
--- if a list of checks gives no refusal, its first check does not hold, and the rest give no refusal
+-- if a list of checks gives no refusal, the condition of its first check is false, and its other checks give no refusal
 pub passed_parts : (t : Bool) (refusal : Refusal) (rest : Option Refusal) → cond t (Some refusal) rest ≡ None → (t ≡ false) × (rest ≡ None)
 passed_parts true refusal rest e = cc
 passed_parts false refusal rest e = (refl, e)
 
--- if neither refusal 1 nor 2 holds, the build exists
+-- if `build_checks` give no refusal, the build exists
 pub there_of : (host : HostView) (build : ℕ) → first_that_holds (build_checks (summary_of host) build) ≡ None → build < host.limits.builds
 there_of host build none =
     let parts = passed_parts (nat_le host.limits.builds build) NoBuild _ none in
@@ -55,7 +55,7 @@ there_of host build none =
 -- ---- the rollback to a valid mark
 
 module _ (host : HostView) (build : ℕ) (mark : Mark) (stands : IsMarkOf host build mark) where
-  -- no fewer acts are open than at the mark
+  -- the build has at least as many operations open as it had at the mark
   pub enough : mark.length ≤ length (open_of host build)
   enough =
       let since = stands.stands.since (length host.history) stands.stands.place in
@@ -135,7 +135,7 @@ back_at host build mark count is stands rolled new down =
       rolled_back = rolled;
     }
   where
-    -- the mark is low enough to be kept
+    -- a rollback to the build's mark keeps that mark
     kept : mark_of host build ≡ Some mark → get_or (set host.marks build (mark_while mark.length (mark_of host build))) build None ≡ Some mark
     kept is_mark = at (nat_lt build (length host.marks)) refl
       where

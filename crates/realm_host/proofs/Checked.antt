@@ -1,5 +1,6 @@
--- Proofs that if a command passes all of the host's checks, its build has a realm or none as required, and enough room.
--- The last lemmas are about the granules of the pages that a command names, if its build has all of these pages.
+-- Proofs that if a command passes all of the host's checks, its build has enough room, has a realm if the command needs
+-- one, and has none if it forbids one. The last lemmas are about the granules of the pages that a command names, if its
+-- build has all of these pages.
 use Rattle.std.proofs.Common.{◌≡◌, ℕ, suc, ◌<◌, ◌≤◌, Bool, true, false, not, cond, List, [], ◌∷◌, ◌++◌, length, map, Option, Some, None, refl, sym, ap, ◌∙◌}
 use Rattle.std.specs.Prelude.{nat_lt, nat_le}
 use Rattle.std.specs.List.{All, filter_map, cons_option}

@@ -34,8 +34,8 @@ erase-append build xs ys = filter-append (λ (x : Event). not (x.build == build)
 
 -- ---- so far
 
--- `fresh` is like a freshly booted host, but its history is legal and has the first `count` events of `host` without
--- those of the build
+-- `fresh` is a freshly booted host but for its history, which has the first `count` events of `host` without those of
+-- the build, and is legal
 pub record IsSoFar (host : HostView) (build count : ℕ) (fresh : HostView) : Type 0 where
   pub fresh_is : fresh ≡ record (fresh_like host) { history = erase build (take count host.history) }
   pub legal : IsLegal fresh.limits fresh.history

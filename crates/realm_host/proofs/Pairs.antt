@@ -1,4 +1,5 @@
--- A proof that an undo right after the operation that it reverses restores the ownership of granules and mappings.
+-- A proof that an undo right after the operation that it reverses restores the owners of granules and the mappings of
+-- realms.
 use Rattle.std.proofs.Common.{◌≡◌, ℕ, List, [], ◌∷◌, ◌++◌, Option, Some, None, refl, sym, ap, ◌∙◌, subst}
 use Rattle.std.specs.Prelude.{option_and_then}
 use Rattle.std.specs.List.{last_or}

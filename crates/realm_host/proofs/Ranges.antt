@@ -1,4 +1,5 @@
--- Proofs that `list_any` with a test is true if some number of the list passes it, and false if no number at all does.
+-- Proofs that `list_any` of a test is true if some number of the list passes the test, and false if no number at all
+-- passes the test.
 use Rattle.std.proofs.Common.{◌≡◌, ℕ, Bool, true, false, ◌||◌, List, [], ◌∷◌, refl, sym, ap, ◌∙◌, ⊎_elim}
 use Rattle.std.specs.List.{list_any}
 use Rattle.std.proofs.lemmas.Bool.{cases_eq, ne_eqb}

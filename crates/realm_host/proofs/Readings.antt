@@ -22,7 +22,7 @@ use Rattle.realm_host.specs.declared.reading.GranuleView.{GranuleView}
 use Rattle.realm_host.proofs.RecRuns.{rec_is}
 use Rattle.realm_host.proofs.Realms.{row_at_rd, long}
 
--- the IPA granule of a walk is below the end of the IPA granules that the row covers
+-- an IPA granule lies below the end of the range that its entry covers
 pub past : (level ipa first : ℕ) → first ≡ first_covered level ipa → ipa < first + covered_count level
 past level ipa first is = subst (λ n. ipa < n + covered_count level) (sym is) (lt-div-mul-add (some (level == 1) (level == 2)))
   where
@@ -36,7 +36,8 @@ row_by_rd : (world : World) (build rd ipa level : ℕ) → rd_of build world ≡
 row_by_rd world build rd ipa level is = ap (λ o. option_map (row_view ipa) (option_and_then (λ (realm : RealmRow). walk_of realm ipa level) o)) (row_at_rd world build rd is)
 
 module _ (ledger : HostView) (monitor : MonitorView) (whole : IsWhole ledger monitor) (now : HostView) (view_is : ledger ≡ now) where
-  -- each reading of the world is the same for `ledger` as for `now`
+  -- a function of the world has the same value for the world of `ledger` as for that of `now`, since `ledger` equals
+  -- `now`
   told : {A : Type 0} (read : World → A) → read (world_of ledger) ≡ read (world_of now)
   told read = ap (λ (h : HostView). read (world_of h)) view_is
 
@@ -102,7 +103,8 @@ module _ (ledger : HostView) (monitor : MonitorView) (whole : IsWhole ledger mon
     pub no_end : None ≡ walk_in monitor.machine rd ipa level → None ≡ row_at (world_of now) build ipa level
     no_end none = walk_told None none
 
-    -- the row that code finds at the end of the walk is the one that `row_at` gives
+    -- the row at the end of a walk from the realm's RD, with its level and its first IPA granule, is what `row_at`
+    -- gives
     pub row_seen : (end : Walk) → Some end ≡ walk_in monitor.machine rd ipa level → (at : ℕ) (row : Row) (first : ℕ) → record { level = at; row = row } ≡ end
         → first ≡ first_covered at ipa → Some (record { level = at; first = first; entry = row }) ≡ row_at (world_of now) build ipa level
     row_seen end end_is at row first view_is first_is =
@@ -110,7 +112,7 @@ module _ (ledger : HostView) (monitor : MonitorView) (whole : IsWhole ledger mon
         ∙ ap (λ (e : Walk). Some (row_view ipa e)) view_is
         ∙ walk_told (Some end) end_is
 
-    -- if a walk ends at a row, its IPA granule is in the widest address space
+    -- if a walk for an IPA granule ends at a row, that IPA granule is in the widest address space
     pub ipa_small : (end : Walk) → Some end ≡ walk_in monitor.machine rd ipa level → ipa < widest_space
     ipa_small end end_is = by (cell_at monitor.machine rd).descriptor refl end_is
       where

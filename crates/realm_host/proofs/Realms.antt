@@ -14,7 +14,7 @@ use Rattle.host_ledger.specs.View.{HostView, world_of}
 use Rattle.realm_host.specs.Host.{IsWhole}
 use Rattle.realm_host.specs.Readings.{row_of}
 
--- the row of a build's realm is at its RD
+-- the realm that `row_of` gives for a build is the one that the machine keeps at the granule of the build's RD
 pub row_at_rd : (world : World) (build rd : ℕ) → rd_of build world ≡ Some rd → row_of world build ≡ (cell_at world.machine rd).descriptor
 row_at_rd world build rd is = at (realm_of build world) (IsAt-realm_of build world) is
   where
@@ -31,7 +31,8 @@ no_row_by_rd world build is = at (realm_of build world) is
     at None e = refl
     at (Some s) e = cc
 
--- the number of a build's next REC is the one in the row of its realm, or 0 if there is no such row
+-- `next_number` of a build's realm is the next REC's number in the realm that `row_of` gives, or 0 if the build has no
+-- realm
 pub next_is : (world : World) (build : ℕ) → next_number (realm_of build world) ≡ unwrap_or (option_map (λ (realm : RealmRow). realm.next) (row_of world build)) 0
 next_is world build = at (realm_of build world)
   where
@@ -47,7 +48,7 @@ module _ (ledger : HostView) (monitor : MonitorView) (whole : IsWhole ledger mon
   pub long : length monitor.machine ≡ ledger.limits.pages
   long = ap length whole.mirror.machine ∙ (sized_reached ledger.limits ledger.history (world_of ledger) whole.mirror.world_is).machine
 
-  -- a granule inside the machine of the limits is inside the RMM's machine
+  -- a granule below the host's `limits.pages` is inside the RMM's machine
   pub inside : (granule : ℕ) → granule < now.limits.pages → granule < length monitor.machine
   inside granule below = subst (λ n. granule < n) (sym long) (subst (λ (h : HostView). granule < h.limits.pages) (sym view_is) below)
 

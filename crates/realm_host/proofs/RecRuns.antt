@@ -54,7 +54,7 @@ module _ (limits : Limits) (world : World) (sound : IsReachable limits world) (g
       ap number_of (sound.once rd a.realm a.there (AsRec number) (AsRec n) granule InRec InRec (target_is rd number a)
       (ap (λ (r : RealmRow). target r (AsRec n)) realms ∙ target_is other n b))
 
-  -- so the search finds this REC
+  -- if a granule is a REC, `rec_named` finds the RD of the REC's realm and the REC's number
   found : (rd number : ℕ) → IsRec world.machine rd number granule → rec_named world.machine granule ≡ Some (rd, number)
   found rd number is = at (rec_named world.machine granule) refl
     where
@@ -116,7 +116,7 @@ module _ (limits : Limits) (history : List Event) (world : World) (at_world : re
       ∙ ap (λ o. elim o [ Some realm ↦ is_rec_running (get realm.recs number) | None ↦ false ]) found.rec.there
       ∙ ap is_rec_running found.rec.numbered)
 
-  -- reading a build's REC by its number gives its granule, and the attributes that are read at that granule
+  -- `rec_at` gives the granule of the build's REC, with the attributes that are read at that granule
   pub rec_is : rec_at world build number ≡ option_map (λ rec. (granule, rec)) (rec_attributes_at world.machine granule)
   rec_is =
       let found = rec_there in

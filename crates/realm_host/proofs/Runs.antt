@@ -1,4 +1,4 @@
--- Proofs that the host's test of whether an operation created a running REC gives the model's answer.
+-- Proofs that the host's test for an operation that created a running REC agrees with the definition `is_running`.
 use Rattle.std.proofs.Common.{◌≡◌, ℕ, ◌<◌, length, Option, Some, None, sym, ap, ◌∙◌}
 use Rattle.arrayvec.specs.declared.array_vec.ArrayVec.{ArrayVec}
 use Rattle.realm_model.specs.declared.act.Act.{Act}

@@ -43,7 +43,7 @@ use Rattle.realm_host.proofs.Calls.{passed_parts}
 
 -- ---- what a build in abort may do
 
--- if the checks that the build exists and is not in abort pass, it is not in abort
+-- if a list of checks that begins with those for `NoBuild` and `Aborting` gives no refusal, the build is not in abort
 not_aborting : (host : HostView) (build : ℕ) (rest : Option Refusal) → cond (nat_le host.limits.builds build) (Some NoBuild) (cond (is_aborting host build) (Some Aborting) rest) ≡ None
     → is_aborting host build ≡ false
 not_aborting host build rest none =
@@ -69,7 +69,7 @@ all_others : (build other : ℕ) (acts : List Act) → other ≢ build → All (
 all_others build other [] not = All-nil (IsOthersOrReverse build)
 all_others build other (act ∷ acts) not = All-cons (IsOthersOrReverse build) (by other act) (map (by other) acts) (λ mine. absurd (not mine)) (all_others build other acts not)
 
--- if all checks pass, and the last is that no REC runs, the build is at rest
+-- if a list of checks that ends with the check for running RECs gives no refusal, no REC of the build runs
 at_rest : (host : HostView) (build : ℕ) (checks : List Check) → first_that_holds (checks ++ any_rec_running host build ∷ []) ≡ None → IsAtRest (realm_of build (world_of host))
 at_rest host build [] none =
     let rests = (passed_parts (nat_lt 0 (running_count (realm_of build (world_of host)))) RecRunning None none).0 in
@@ -79,7 +79,7 @@ at_rest host build (check ∷ checks) none = at_rest host build checks (passed_p
 
 -- ---- flags
 
--- a build in abort has a flag
+-- if a build's abort flag is set in a list of flags, the list is long enough to have that flag
 flag_there : (flags : List Bool) (build : ℕ) → get_or flags build false ≡ true → build < length flags
 flag_there flags build set = at (nat_lt build (length flags)) refl
   where
@@ -95,7 +95,7 @@ flag_there flags build set = at (nat_lt build (length flags)) refl
 abbrev HasOpen : HostView → ℕ → Bool
 HasOpen host build = nat_lt 0 (length (open_of host build))
 
--- the operations of others open nothing of a build
+-- operations of another build do not change the open operations of a build
 others_open : (build other : ℕ) (history : List Event) (acts : List Act) → other ≢ build → open_entries build (history ++ map (by other) acts) ≡ open_entries build history
 others_open build other history [] not = ap (open_entries build) (append-nil history)
 others_open build other history (act ∷ acts) not =
@@ -103,7 +103,7 @@ others_open build other history (act ∷ acts) not =
     ∙ others_open build other (history ++ by other act ∷ []) acts not
     ∙ open_entries-other build history (by other act) not
 
--- the properties of each host that calls lead to after an abort of the build began at the host `old`
+-- the invariant that calls keep after an abort of the build has begun at the host `old`
 pub record Going (old : HostView) (build : ℕ) (host : HostView) : Type 0 where
   pub there : build < old.limits.builds
   pub rest : IsAtRest (realm_of build (world_of old))
@@ -131,8 +131,8 @@ module _ (old : HostView) (build : ℕ) (host : HostView) (since : Going old bui
   unchanged : (new : HostView) → new ≡ host → Going old build new
   unchanged new same = subst (Going old build) (sym same) since
 
-  -- if another build's flag is written and the same operations are open, the build is still in abort exactly if it has
-  -- something open
+  -- if a call writes only another build's abort flag and leaves the build's open operations alone, the build is in
+  -- abort exactly if it has something open
   still : (other : ℕ) (flag : Bool) (new : HostView) → other ≢ build → new.aborting ≡ set host.aborting other flag → open_of new build ≡ open_of host build
       → is_aborting new build ≡ HasOpen new build
   still other flag new not flags opened =
@@ -179,7 +179,7 @@ module _ (old : HostView) (build : ℕ) (host : HostView) (since : Going old bui
   after_call other Undo (WasUndone undone) new done =
       with_one other done.act new done.accepted.grows (λ mine. reversed (last_or None (open_of host other)) done.act done.accepted.act_of)
 
-  -- the properties are kept by calls that append events of another build and write that build's flag
+  -- the invariant is kept by calls that append events of another build and write that build's abort flag
   after_others : (other : ℕ) (new : HostView) (acts : List Act) (flag : Bool) → other ≢ build → new.limits ≡ host.limits → new.history ≡ host.history ++ map (by other) acts
       → new.aborting ≡ set host.aborting other flag → Going old build new
   after_others other new acts flag not limits history flags =
@@ -204,7 +204,7 @@ module _ (old : HostView) (build : ℕ) (host : HostView) (since : Going old bui
       after_others other new _ _ (own_refused other (not_aborting host other _ none)) (ap (λ (h : HostView). h.limits) is.new_is)
       (ap (λ (h : HostView). h.history) is.new_is) (ap (λ (h : HostView). h.aborting) is.new_is)
 
-  -- the properties are kept by one call that undoes all of the build's own operations
+  -- the invariant is kept by one call that undoes all of the build's open operations
   own_abort : (count : ℕ) (new : HostView) → IsLegal host.limits host.history → IsAbortAnswer host build (Ok count) new → Going old build new
   own_abort count new legal (none, is) =
       let rests = at_rest host build [] (passed_parts (nat_le host.limits.builds build) NoBuild _ none).1 in
@@ -325,7 +325,7 @@ reversed_act : (newest : Option Act) (back : Act) → option_and_then reverse_of
 reversed_act None back none = cc
 reversed_act (Some act) back is = (act, refl, is)
 
--- an undo leaves one act less open
+-- after an undo, the build has one open operation fewer
 pub one_less : (host : HostView) (build : ℕ) (undone : Undone) (new : HostView) → IsUndone host build undone new → length (open_of host build) ≡ length (open_of new build) + 1
 one_less host build undone new is =
     let newest = reversed_act (last_or None (open_of host build)) is.act is.accepted.act_of in

@@ -37,7 +37,7 @@ module _ (host : HostView) (build order : ℕ) (none : first_that_holds (checks_
     few_open = λ paired. journal_fits (summary_of host) build (cmd.Take order) none (take_paired order);
   }
 
-  -- so the check of the order's number gives the order
+  -- if a Take has passed its checks, its number can be turned into the order of a block
   pub new_is : (told : Option ℕ) → told ≡ (if nat_le order 9 then Some order else None) → told ≡ Some order
   new_is told is = is ∙ ap (λ t. cond t (Some order) None) (le-leb order 9 low)
 

@@ -1,5 +1,5 @@
--- Proofs that the host's tests of a recorded event decide whether its values agree with the machine and whether its
--- build leases its granules.
+-- Proofs that the host's tests of a recorded event decide whether the values in the event agree with the machine, and
+-- whether the build leases the event's granules.
 use Rattle.std.proofs.Common.{◌≡◌, ℕ, ◌<◌, ◌≤◌, Bool, true, false, List, [], length, Option, Some, None, Ok, Err, refl, sym, ap, ◌∙◌, subst, arith}
 use Rattle.std.specs.Prelude.{◌&&◌, nat_eq, nat_lt, if◌then◌else◌, slice_index, option_map, option_and_then, is_none, is_some, not}
 use Rattle.std.specs.Bool.{OnFalse}
@@ -41,7 +41,7 @@ build_there inside host build same there = ltb-true build host.limits.builds (su
 
 -- ---- leases
 
--- a number that gives no granule is at least the number of pages
+-- if a number is not that of a granule, it is at least the machine's number of granules, which is at most 4,096
 none_of_number : (number pages : ℕ) → pages ≤ 4096 → None ≡ (if nat_lt number 4096 && nat_lt number pages then Some number else None) → pages ≤ number
 none_of_number number pages few none = search (arith, none, few)
 
@@ -51,7 +51,7 @@ module _ (ledger : HostView) (monitor : MonitorView) (whole : IsWhole ledger mon
       let sized = sized_reached ledger.limits ledger.history (world_of ledger) whole.mirror.world_is in
       ap length whole.mirror.machine ∙ sized.machine ∙ sym sized.leases
 
-  -- nobody leases a granule that the machine does not have
+  -- the build leases no granule that the machine does not have
   pub none_leased : (number pages : ℕ) → pages ≡ length monitor.machine → pages ≤ 4096 → None ≡ (if nat_lt number 4096 && nat_lt number pages then Some number else None)
       → false ≡ is_leased_to (Some build) (world_of now).leases number
   none_leased number pages pages_is few none =
@@ -72,11 +72,11 @@ module _ (ledger : HostView) (monitor : MonitorView) (whole : IsWhole ledger mon
 
 -- ---- the values in an operation
 
--- the values in the operation agree with the machine
+-- the values in the operation, such as the byte of a Peek, agree with the machine and the build's realm
 abbrev says : HostView → ℕ → Act → Bool
 says host build act = fits act (realm_of build (world_of host)) (named_cells (world_of host) act)
 
--- an operation whose values do not agree with the machine is no step
+-- an operation whose values do not agree with the machine is not possible in the host's world
 pub no_step : (host : HostView) (build : ℕ) (act : Act) (answer : Bool) → answer ≡ says host build act → OnFalse answer (IsNoStep host build act)
 no_step host build act true is = search
 no_step host build act false is =
@@ -97,7 +97,7 @@ module _ (ledger : HostView) (monitor : MonitorView) (whole : IsWhole ledger mon
       ap (λ n. nat_eq n byte) (read ∙ ap (λ (m : Machine). slice_index (cell_at m granule).bytes offset) machine_is)
       ∙ sym (alone _) ∙ ap (λ (a : Act). says now build a) (sym is)
 
-  -- a Peek is no step if the RMM refuses to read its byte
+  -- a Peek is not possible in the host's world if the RMM refuses to read the byte
   pub no_read : (granule offset byte : ℕ) (rmi : Rmi) → act ≡ Peek granule offset byte → Answers {A = ℕ} (Err rmi) (host_peek (seen_in monitor granule)) → IsNoStep now build act
   unfolding outcome_of named
   no_read granule offset byte rmi is refused next stepped =
@@ -125,7 +125,7 @@ module _ (ledger : HostView) (monitor : MonitorView) (whole : IsWhole ledger mon
       by_rd None = refl
       by_rd (Some s) = refl
 
--- the next REC of a realm with those attributes has that number
+-- there is a realm, and its next REC has the given number
 abbrev is_next : ℕ → Option RealmAttributes → Bool
 is_next number None = false
 is_next number (Some realm) = nat_eq number realm.next
@@ -146,7 +146,7 @@ module _ (now : HostView) (build : ℕ) (act : Act) (granule : ℕ) (auxiliaries
       ap (is_next number) told_is ∙ by_realm (realm_of build (world_of now)) (named_cells (world_of now) (Rec granule auxiliaries number))
       ∙ ap (λ (a : Act). says now build a) (sym is)
 
--- a command that is no reverse, Peek, Realm or Rec has no value to check, so its values agree with the machine
+-- the values of a command always agree with the machine, unless the command is a reverse, a Peek, a Realm or a Rec
 module _ (act : Act) (forward : is_reverse act ≡ false) (command : is_command act ≡ true)
     (not_peek : (granule offset byte : ℕ) → act ≡ Peek granule offset byte → ⊥)
     (not_realm : (rd : ℕ) (root : Root) (vmid : ℕ) → act ≡ Realm rd root vmid → ⊥)

@@ -32,7 +32,7 @@ some_open [] act e = cc
 some_open (x ∷ acts) act e = omega arith
 
 module _ (host : HostView) (build : ℕ) where
-  -- the first of three checks that holds
+  -- the refusal for the first of three conditions that is true; none if all are false
   first_of_three : Bool → Bool → Bool → Option Refusal
   first_of_three a b c = cond a (Some NoBuild) (cond b (Some NothingToUndo) (cond c (Some RecRunning) None))
 

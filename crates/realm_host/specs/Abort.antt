@@ -1,4 +1,4 @@
--- The abort of a build: the checks before it, the undos in it, and the host after it.
+-- Definitions of a build's abort: the checks before it, the undos in it, and the host after it.
 use Rattle.std.specs.Prelude.{◌≡◌, ◌≢◌, ℕ, nat_lt, List, [], ◌∷◌, ◌++◌, map, length, drop, reverse, ◌&&◌, false, Some, None, Result, slice_set}
 use Rattle.std.specs.List.{All}
 use Rattle.host_commands.specs.declared.refusal.Refusal.{Refusal}
@@ -20,8 +20,8 @@ use Rattle.realm_host.specs.Served.{any_rec_running, IsServed}
 abbrev pub checks_of_begin : HostView → ℕ → List Check
 checks_of_begin host build = build_checks (summary_of host) build ++ any_rec_running host build ∷ []
 
--- A call that begins an abort returns the number of the build's open operations. If there is any, the build is in abort
--- from then on.
+-- A call has begun the build's abort, and has returned the number of the build's open operations. If there is any, the
+-- build is in abort from then on.
 pub record IsBegunAs (host : HostView) (build count : ℕ) (new : HostView) : Type 0 where
   pub count_is : count ≡ length (open_of host build)
   pub new_is : new ≡ begun host build
@@ -32,8 +32,8 @@ abbrev pub IsBegun : HostView → ℕ → Result ℕ Refusal → HostView → Ty
 IsBegun host build result new =
     IsServed (checks_of_begin host build) host (IsBegunAs host build) result new
 
--- As long as all later events of a build are reverses, the host refuses no undo of the build until nothing is open,
--- whatever other builds do.
+-- If all events of a build after those of `host` are reverses, no undo of the build is refused while the build has an
+-- open operation, whatever other builds do.
 abbrev pub GoesOn : HostView → ℕ → Type 0
 GoesOn host build =
     (later : List Event) (then : HostView) → then.limits ≡ host.limits → then.history ≡ host.history ++ later
@@ -68,7 +68,8 @@ pub record IsDown (host : HostView) (build count : ℕ) (new : HostView) : Type 
 abbrev pub checks_of_abort : HostView → ℕ → List Check
 checks_of_abort host build = no_build host build ∷ any_rec_running host build ∷ []
 
--- the reverses of all operations that were open are recorded, and the build is no longer in abort
+-- all of the build's open operations were undone, the build is no longer in abort, and `count` is the number of those
+-- operations
 pub record IsAborted (host : HostView) (build count : ℕ) (new : HostView) : Type 0 where
   pub count_is : count ≡ length (open_of host build)
   pub new_is : new ≡ undone_to host build 0

@@ -21,8 +21,8 @@ pub record HasRoomFor (host : HostView) (build : ℕ) (act : Act) : Type 0 where
   pub room : 0 < room_taken act → used host build + room_taken act ≤ host.capacity
   pub few_open : is_paired act ≡ true → length (open_of host build) < 512
 
--- the operation may be asked of the RMM, its build has the room that it takes, and if it is a reverse, it reverses the
--- newest open operation
+-- the operation may be asked of the RMM, the build has the room that the operation takes, and the operation is no
+-- reverse, or reverses the build's newest open operation
 pub record CanAct (host : HostView) (build : ℕ) (act : Act) : Type 0 where
   pub asked : IsAsked host.limits (world_of host) build act
   pub turn : IsInTurn host.history (by build act)
@@ -38,7 +38,7 @@ abbrev pub IsActed : HostView → ℕ → Act → Result (Unit {0}) Rmi → Host
 IsActed host build act (Ok done) new = IsRecorded host build act new
 IsActed host build act (Err rmi) new = (outcome_in host.limits (world_of host) (by build act) ≡ Err rmi) × (new ≡ host)
 
--- A free block of the given order is leased to the build; or there is none, and nothing changes.
+-- A free block of the given order is leased to the build; or no block of that order is free, and nothing changes.
 abbrev pub IsBlockTaken : HostView → ℕ → ℕ → Option ℕ → HostView → Type 0
 IsBlockTaken host build order (Some first) new = ((no_block host order).0 ≡ false) × IsRecorded host build (Take order first) new
 IsBlockTaken host build order None new = ((no_block host order).0 ≡ true) × (new ≡ host)

@@ -27,8 +27,8 @@ abbrev pub byte_read : HostView → Cmd → List ℕ → ℕ
 byte_read host (Peek page offset) (granule ∷ others) = slice_index (cell_at (world_of host).machine granule).bytes offset
 byte_read host _ _ = 0
 
--- The values that are allocated for a command: the lowest free VMID, the realm's next REC number, and the byte that a
--- Peek reads. A value that does not exist is replaced by a number that does not matter.
+-- The values that are allocated for a command: the lowest free VMID, the next REC number of the realm, and the byte
+-- that a Peek reads. A value that does not exist is replaced by a number that does not matter.
 abbrev pub allocated_for : HostView → ℕ → Cmd → List ℕ → Allocated
 allocated_for host build cmd granules = record {
   vmid = unwrap_or (lowest_vmid host) 1;

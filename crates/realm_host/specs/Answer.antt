@@ -55,12 +55,12 @@ IsAnswer host build (Ask cmd) (Replied reply) new = IsReplied host build cmd rep
 IsAnswer host build Undo (WasUndone undone) new = IsUndone host build undone new
 IsAnswer host build _ _ new = ⊥
 
--- the result of `command`, as an answer
+-- a result of `command` as a `HostAnswer`
 abbrev pub replied : Result Reply Refusal → HostAnswer
 replied (Ok reply) = Replied reply
 replied (Err refusal) = Refused refusal
 
--- the result of `undo`, as an answer
+-- a result of `undo` as a `HostAnswer`
 abbrev pub undone : Result Undone Refusal → HostAnswer
 undone (Ok done) = WasUndone done
 undone (Err refusal) = Refused refusal

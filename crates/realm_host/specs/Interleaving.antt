@@ -37,14 +37,15 @@ pub record DifferInInterleaving (host twin : HostView) : Type 0 where
   pub aborting : twin.aborting ≡ host.aborting
   pub depths : depths_of twin ≡ depths_of host
 
--- The other host may give the same answer, and afterwards the two again differ in the schedule alone.
+-- Some host satisfies `IsAnswered` and differs from `new` only in the schedule of its builds. That host is the twin,
+-- after the same answer.
 pub record IsAlsoAnswered (IsAnswered : HostView → Type 0) (new : HostView) : Type 0 where
   pub then : HostView
   pub answered : IsAnswered then
   pub differ : DifferInInterleaving new then
 
--- If one host can give an answer to a command or an undo, so can the other. The same holds of the start of an abort and
--- of a whole abort.
+-- If `host` can give this answer to a command or an undo, so can `twin`, and the hosts then differ only in the
+-- schedule. The same holds of the start of an abort and of a whole abort.
 abbrev pub CallRevealsNothing : HostView → HostView → ℕ → Call → HostAnswer → HostView → Type 0
 CallRevealsNothing host twin build call answer new = IsAnswer host build call answer new → IsAlsoAnswered (IsAnswer twin build call answer) new
 

@@ -23,7 +23,8 @@ pub record IsMarkedAs (host : HostView) (build : ℕ) (mark : Mark) (new : HostV
   pub new_is : new ≡ with_mark host build mark
   pub kept : mark_of new build ≡ Some mark
 
--- The call is refused, or returns a mark at the build's current point, which is kept in place of an older mark.
+-- The call is refused, or returns a mark at the build's current point, and the host keeps this mark in place of an
+-- older one.
 abbrev pub IsMarked : HostView → ℕ → Result Mark Refusal → HostView → Type 0
 IsMarked host build result new =
     IsServed (build_checks (summary_of host) build) host (IsMarkedAs host build) result new
@@ -34,11 +35,11 @@ IsMarked host build result new =
 abbrev pub is_kept : HostView → ℕ → Mark → Bool
 is_kept host build mark = elim (mark_of host build) [ Some kept ↦ is_same_mark kept mark | None ↦ false ]
 
--- refusal 7: the host does not keep this mark for the build
+-- refusal 7, given if the host does not keep this mark for the build
 abbrev pub not_kept : HostView → ℕ → Mark → Check
 not_kept host build mark = (not (is_kept host build mark), NothingToUndo)
 
--- refusal 8: an operation above the mark created a REC that runs
+-- refusal 8, given if an operation that was opened after the mark and is still open created a REC that runs
 abbrev pub rec_running_above : HostView → ℕ → Mark → Check
 rec_running_above host build mark =
     (list_any (is_running (realm_of build (world_of host))) (above (point_of mark) host.history), RecRunning)
@@ -47,14 +48,14 @@ abbrev pub checks_of_back : HostView → ℕ → Mark → List Check
 checks_of_back host build mark =
     build_checks (summary_of host) build ++ (not_kept host build mark ∷ rec_running_above host build mark ∷ [])
 
--- The number of open operations above the mark, or the refusal if the build cannot go back to the mark.
+-- The number of undos that lead back to the mark, or the refusal if the build cannot go back to the mark.
 abbrev pub way_back : HostView → ℕ → Mark → Result ℕ Refusal
 way_back host build mark = elim (first_that_holds (checks_of_back host build mark)) [
   | Some refusal ↦ Err refusal
   | None ↦ Ok (length (above (point_of mark) host.history))
 ]
 
--- All that the build had open above the mark was reversed, the newest first. The mark stays.
+-- All that the build opened after the mark and still had open was reversed, the newest first. The mark stays.
 pub record IsBackAt (host : HostView) (build : ℕ) (mark : Mark) (count : ℕ) (new : HostView) : Type 0 where
   pub count_is : count ≡ length (above (point_of mark) host.history)
   pub new_is : new ≡ undone_to host build mark.length

@@ -25,7 +25,7 @@ granule_at world granule = if nat_lt granule (length world.machine) then Some (r
 
 -- ---- realms
 
--- the row of a build's realm, if it has one: all that the world keeps of the realm
+-- all that the world keeps of a build's realm, if the build has one
 abbrev pub row_of : World → ℕ → Option RealmRow
 row_of world build = option_and_then (λ (rd : Seen). rd.cell.descriptor) (realm_of build world)
 
@@ -45,11 +45,11 @@ rec_at world build number =
 
 -- ---- rows
 
--- the row at which a walk ends, with its level and the first IPA granule that it covers
+-- the row at which a walk ends, with the row's level and the first IPA granule that the row covers
 abbrev pub row_view : ℕ → Walk → RowView
 row_view ipa end = record { level = end.level; first = first_covered end.level ipa; entry = end.row }
 
--- the row at which the walk for an IPA granule ends in a build's realm, at the given level at most, if the realm has
--- that IPA granule
+-- the row at which a walk in a build's realm ends, given the IPA granule and the level; none if there is no realm or no
+-- such IPA granule
 abbrev pub row_at : World → ℕ → ℕ → ℕ → Option RowView
 row_at world build ipa level = option_map (row_view ipa) (option_and_then (λ (realm : RealmRow). walk_of realm ipa level) (row_of world build))

@@ -1,4 +1,4 @@
--- The refusals of the host: the checks of each call, in the order of the refusals' numbers.
+-- The host's checks of each call, in the order of the refusals' numbers.
 use Rattle.std.specs.Prelude.{ℕ, nat_lt, nat_le, List, [], ◌∷◌, ◌++◌, length, Bool, true, false, not, ◌&&◌, Option, Some, None, Ok, Err}
 use Rattle.std.specs.List.{list_any, list_all, last_or, range_with_len}
 use Rattle.realm_model.specs.Act.{block}
@@ -18,11 +18,11 @@ use Rattle.realm_host.specs.Allocation.{outcome_asked}
 
 -- ---- by number; those of a command but 11 and 13 are its checks by its needs
 
--- refusal 1: there is no such build
+-- refusal 1, given if the host has no such build
 abbrev pub no_build : HostView → ℕ → Check
 no_build host build = (nat_le host.limits.builds build, NoBuild)
 
--- refusal 7: the build has nothing open
+-- refusal 7, given if the build has nothing open
 abbrev pub nothing_to_undo : HostView → ℕ → Check
 nothing_to_undo host build = (nat_lt (length (open_of host build)) 1, NothingToUndo)
 
@@ -33,7 +33,7 @@ is_newest_running host build = elim (last_or None (open_of host build)) [
   | None ↦ false
 ]
 
--- refusal 8: the newest operation that the build has open created a REC that runs
+-- refusal 8, given if the newest operation that the build has open created a REC that runs
 abbrev pub rec_running : HostView → ℕ → Check
 rec_running host build = (is_newest_running host build, RecRunning)
 
@@ -41,17 +41,17 @@ rec_running host build = (is_newest_running host build, RecRunning)
 abbrev pub is_free_block : World → ℕ → ℕ → Bool
 is_free_block world order first = is_block_start order first && list_all (is_leased_to None world.leases) (block order first)
 
--- refusal 11: no block of the given order is free
+-- refusal 11, given if no block of the given order is free
 abbrev pub no_block : HostView → ℕ → Check
 no_block host order =
     (not (list_any (is_free_block (world_of host) order) (range_with_len 0 (length (world_of host).leases))), NoBlock order)
 
--- refusal 13: the RMM refuses the operation, with the error of the first check that fails
+-- refusal 13 with the RMM's error, given if the RMM refuses the operation
 abbrev pub refused_by : Outcome → List Check
 refused_by (Ok updates) = []
 refused_by (Err rmi) = (true, Rmi rmi) ∷ []
 
--- the last check of a command: for refusal 11 if it is a Take, and for refusal 13 if it is any other command
+-- the last check of a command, for refusal 11 if the command is a Take, and for refusal 13 otherwise
 abbrev pub last_checks : HostView → ℕ → Cmd → List Check
 last_checks host build (Take order) = no_block host order ∷ []
 last_checks host build cmd = refused_by (outcome_asked host build cmd)
@@ -64,6 +64,6 @@ abbrev pub checks_of_call : HostView → ℕ → Call → List Check
 checks_of_call host build (Ask cmd) = checks_of (summary_of host) build cmd ++ last_checks host build cmd
 checks_of_call host build Undo = no_build host build ∷ nothing_to_undo host build ∷ rec_running host build ∷ []
 
--- The refusal of a call, if there is one: the refusal with the lowest number whose condition holds.
+-- The refusal with the lowest number whose condition holds of a call, if any.
 unfoldable pub refusal_of : HostView → ℕ → Call → Option Refusal
 refusal_of host build call = first_that_holds (checks_of_call host build call)

@@ -7,7 +7,7 @@ use Rattle.realm_model.specs.Running.{running_count}
 use Rattle.realm_model.specs.World.{realm_of}
 use Rattle.host_ledger.specs.View.{HostView, world_of}
 
--- refusal 8 of an abort: a REC of the build runs
+-- refusal 8 of an abort, given if a REC of the build runs
 abbrev pub any_rec_running : HostView → ℕ → Check
 any_rec_running host build = (nat_lt 0 (running_count (realm_of build (world_of host))), RecRunning)
 

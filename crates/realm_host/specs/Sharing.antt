@@ -20,7 +20,7 @@ use Rattle.realm_model.specs.declared.act.Event.{Event}
 
 -- ---- calls
 
--- A recorded operation of a build is applied if and only if it can be; otherwise nothing changes.
+-- A recorded operation is applied if and only if `CanApply` holds of its event; otherwise nothing changes.
 pub record IsApplyAnswer (host : HostView) (build : ℕ) (act : Act) (result : Bool) (new : HostView) : Type 0 where
   pub answer : (result ≡ true) ↔ CanApply host (by build act)
   pub applied : OnTrue result (new ≡ with_event host build act)

@@ -14,9 +14,9 @@ use host_commands::check_build;
 use page_arena::PageStore;
 
 impl<S: PageStore> Host<S> {
-    /// Begins an abort, during which the host refuses a build's commands until all is undone. Returns the number of
-    /// operations that the build has open. From then on, until it has none, the host refuses each command of the build,
-    /// and performs each undo of it, whatever other builds do. If the build has nothing open, no abort begins.
+    /// Begins the abort of a build, and returns the number of operations that the build has open. From then on, until
+    /// the build has nothing open, the host refuses each command of the build, and performs each of its undos, whatever
+    /// other builds do. If the build has nothing open, no abort begins.
     ///
     /// Refused with NoBuild, with Aborting, or with RecRunning if a REC of the build runs. This is no event.
     pub fn begin_abort(&mut self, build: BuildId) -> Result<u16, Refusal>

@@ -1,4 +1,4 @@
-//! The values that the host supplies for a command: a VMID, a REC number and a byte.
+//! The VMID, the REC number and the byte that the host supplies for a command.
 ghost use Rattle.std.specs.Prelude.{◌≡◌, Some, IfOk, IfErr, length, slice_get, unwrap_or};
 ghost use Rattle.std.specs.List.{All};
 ghost use Rattle.realm_model.specs.Running.{next_number};

@@ -1,4 +1,4 @@
-//! The leasing of blocks of pages to builds, and the return of leased blocks.
+//! The leasing of blocks of granules to builds, and the return of leased blocks.
 ghost use Rattle.std.specs.Prelude.{◌≡◌, ℕ, ◌<◌, ◌≤◌, Some, None};
 ghost use Rattle.std.specs.List.{last_or};
 ghost use Rattle.realm_model.specs.declared.act.Act.TheVariants as acts;

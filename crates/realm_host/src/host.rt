@@ -94,8 +94,8 @@ impl<S: PageStore> Host<S> {
         self.ledger.history()
     }
 
-    /// Returns the host's ledger, its record of the history and of the builds. It is all that contracts see of the
-    /// host. The checks of a command read the ledger. The ledger has none of the machine's memory.
+    /// Returns the host's ledger, which records the history and what each build has. The ledger is all that contracts
+    /// see of the host. The checks of a command read the ledger. The ledger has none of the machine's memory.
     pub fn ledger(&self) -> &HostLedger
         ensures { result.now ≡ self.now }
     {
@@ -162,7 +162,7 @@ impl<S: PageStore> Host<S> {
         Some(*realm.measurement())
     }
 
-    /// Returns the number of pages that no build leases.
+    /// Returns the number of granules that no build leases.
     pub fn free_count(&self) -> u16
         ensures { result ≡ length (free_set (world_of self.now)) }
     {
@@ -181,8 +181,8 @@ impl<S: PageStore> Host<S> {
         }
     }
 
-    /// Returns the descriptor of a build's realm. Returns `None` if the build has no realm. The result has the realm's
-    /// state, its VMID, its starting tables with the width of its IPAs, the number of its next REC, and its
+    /// Returns the RMM's record of a build's realm. Returns `None` if the build has no realm. The result has the
+    /// realm's state, its VMID, its starting tables with the width of its IPAs, the number of its next REC, and its
     /// measurement. A walk of its tables begins at level 1.
     pub fn realm(&self, build: BuildId) -> Option<&RealmDesc>
         ensures { option_copied result ≡ option_map attributes_of (row_of (world_of self.now) build) }
@@ -198,7 +198,7 @@ impl<S: PageStore> Host<S> {
 }
 
 impl<S: PageStore + Drop> Host<S> {
-    /// Returns the ledger, and frees all memory of the machine.
+    /// Returns the host's ledger, and frees all memory of the simulated machine.
     pub fn into_ledger(self) -> HostLedger
         ensures { result ≡ self }
     {

@@ -1,5 +1,4 @@
-//! The rollback points (marks) of builds, and the rollback of a build to its mark. A mark is a point among a build's
-//! open operations.
+//! The marks of builds, and the rollback of a build to its mark. A mark is a point among a build's open operations.
 ghost use Rattle.std.specs.Prelude.{◌≡◌, ◌<◌};
 ghost use Rattle.std.specs.Bool.{OnTrue};
 ghost use Rattle.std.specs.List.{list_any};
@@ -52,12 +51,12 @@ impl<S: PageStore> Host<S> {
         Ok(self.ledger.open_count(build) - mark.length())
     }
 
-    /// Rolls a build back to a mark, by undoing the operations that it has open above the mark, the newest first.
-    /// Returns their number. The world then owns the same as that of the history without what the build did after the
-    /// mark; what is not the build's is exactly the same. The mark stays.
+    /// Rolls a build back to a mark, by undoing the build's open operations from after the mark, the newest first.
+    /// Returns the number of undone operations. The world then owns the same as that of the history without what the
+    /// build did after the mark; what is not the build's is exactly the same. The mark stays.
     ///
     /// Refused with NoBuild or Aborting. Refused with NothingToUndo if this is not the mark that is kept for the build,
-    /// and with RecRunning if an operation above it created a REC that runs. Then nothing changes.
+    /// and with RecRunning if an open operation from after it created a REC that runs. Then nothing changes.
     pub fn rollback_to(&mut self, build: BuildId, mark: Mark) -> Result<u16, Refusal>
         ensures { IsBackAnswer self.old build mark result self.new }
     {

@@ -70,7 +70,7 @@ impl<S: PageStore> Host<S> {
         self.monitor.rec_aux_count()
     }
 
-    /// Returns the number of pages of the machine.
+    /// Returns the number of granules of the machine.
     pub fn pages(&self) -> u16
         ensures { result ≡ self.now.limits.pages }
     {
@@ -117,9 +117,9 @@ impl<S: PageStore> Host<S> {
         Some((granule, rec))
     }
 
-    /// Walks the RTTs of a build's realm for an IPA granule. The walk goes down to level `to` at most, and its last row
-    /// is the result. This row is the first on the way that is not TABLE, or the row at level `to`. Returns None if the
-    /// build has no realm, or if the IPA granule is not in the realm's address space.
+    /// Returns the RTT entry at which the walk for an IPA granule ends, in a build's realm. The walk goes down to level
+    /// `to` at most. It ends at the first row that is not TABLE, or at the row of level `to`.
+    /// Returns None if the build has no realm, or if the IPA granule is not in the realm's address space.
     ///
     /// `ipa` is the number of an IPA granule. Walks to level 3, the first from 0 and each next one from `next` of the
     /// row before, list all rows but those that are TABLE. RMM 1.0, RTT walk.
@@ -169,8 +169,8 @@ impl<S: PageStore> Host<S> {
         self.ledger.has_build(build) && self.ledger.is_aborting(build)
     }
 
-    /// Returns a build's last mark (rollback point), if it has one that is still valid. `check_back` says whether the
-    /// build can go back to it now.
+    /// Returns a build's last mark, if that mark is still valid. `check_back` says whether the build can go back to the
+    /// mark now.
     pub fn kept_mark(&self, build: BuildId) -> Option<Mark>
         ensures value { result ≡ mark_of self.now build }
         ensures stands { IfSome result (IsMarkOf self.now build) }

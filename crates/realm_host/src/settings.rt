@@ -3,8 +3,8 @@ ghost use Rattle.std.specs.Prelude.{◌≡◌, ◌≤◌, ◌↔◌, IsSome, IfS
 
 use realm_model::{LEAST_HISTORY, MOST_HISTORY};
 
-/// The settings of a host: numbers of VMIDs, auxiliary granules, events and builds. Auxiliary granules are counted per
-/// REC, and events per build.
+/// The numbers of VMIDs, auxiliary granules, events and builds with which a host is booted. Auxiliary granules are
+/// counted per REC, and events per build.
 #[derive(Clone, Copy)]
 pub struct Settings {
     pub vmids: u8,

@@ -17,7 +17,7 @@ pub enum WhyNot {
     /// operation, or created a REC that runs.
     #[error("it is not the reverse of the newest act that its build has open")]
     NotNewest,
-    /// An event that the model's rules do not allow next.
+    /// An event whose build does not exist, or whose operation is not possible in the host's world.
     #[error("it is no step of the rules")]
     NoStep,
 }

@@ -1,4 +1,4 @@
--- The proof that no other build can hold up the abort of a build that runs no RECs.
+-- The proof that no other build can prevent the abort of a build that runs no RECs.
 use Rattle.std.proofs.Common.{◌≡◌, ℕ, true, false, ⊎_elim, List, [], ◌∷◌, ◌++◌, reverse, Some, None, sym, ap, ◌∙◌, subst}
 use Rattle.std.specs.Prelude.{not, ◌==◌}
 use Rattle.std.specs.List.{All}
@@ -40,7 +40,7 @@ stays_at_rest limits history w b e v at_w rest undoing s = ⊎_elim
 
 -- ---- what is undone
 
--- one more open operation puts its reverse in front of the reverses of the others
+-- if operations are undone, the reverse of the newest comes first, and the reverses of the earlier operations follow
 reverses_push : (acts : List Act) (newest act : Act) → reverse_of newest ≡ Some act → reverses (reverse (acts ++ newest ∷ [])) ≡ act ∷ reverses (reverse acts)
 reverses_push acts newest act e =
     ap reverses (reverse-append acts (newest ∷ []))
@@ -49,7 +49,7 @@ reverses_push acts newest act e =
 reverse_unpaired : (act : Act) → is_reverse act ≡ true → is_paired act ≡ false
 reverse_unpaired act h = elim (kind act) [ paired p r ↦ absurd (true_false _ h r) | back p r ↦ p | other p r ↦ p ]
 
--- the reverses still to be made: those of the build's open operations, the newest first
+-- the reverses that are still to be performed: those of the build's open operations, the newest first
 abbrev ToUndo : ℕ → List Event → List Act
 ToUndo b history = reverses (reverse (open_entries b history))
 

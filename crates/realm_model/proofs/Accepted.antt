@@ -1,5 +1,5 @@
--- The proof that a history is still accepted if one build's events are left out, and that the other builds use as much
--- capacity as before.
+-- Proofs that leaving out a build changes no other build's used history capacity, and that the remaining events are
+-- accepted if the other builds stay within the limits of capacity and of open operations.
 use Rattle.std.proofs.Common.{◌≡◌, ◌≢◌, ℕ, zero, suc, ◌+◌, ◌<◌, ◌≤◌, ⊎_elim, true, false, not, cond, List, [], ◌∷◌, ◌++◌, length, take, Some, refl, sym, ap, ◌∙◌, subst, arith}
 use Rattle.std.specs.Prelude.{◌==◌, option_map}
 use Rattle.std.specs.List.{sum_by}
@@ -58,8 +58,7 @@ module _ (limits : Limits) (capacity most : ℕ) where
 
 -- ---- a build left out
 
--- if each prefix of a history has a property once a build is left out, so has each prefix of the history without the
--- build
+-- if `P` holds of `erase b (take n es)` for each number `n`, `P` holds of each prefix of `erase b es`
 take-erase : (b : ℕ) (P : List Event → Type 0) (es : List Event) → ((n : ℕ) → P (erase b (take n es))) → (k : ℕ) → P (take k (erase b es))
 take-erase b P es all zero = all 0
 take-erase b P [] all (suc k) = all 0

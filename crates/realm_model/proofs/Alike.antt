@@ -1,5 +1,5 @@
--- Proofs that two worlds keep the same ownership if the same granules in both are updated to cells with the same
--- ownership.
+-- Proofs that two worlds that agree in ownership still agree after updates that have the same effect on ownership in
+-- both.
 use Rattle.std.proofs.Common.{◌≡◌, ℕ, Bool, true, false, cond, List, [], ◌∷◌, ◌++◌, map, set, Some, Ok, Err, refl, sym, ap, ◌∙◌, subst}
 use Rattle.std.specs.Prelude.{◌==◌}
 use Rattle.std.specs.FinMap.{get}
@@ -16,8 +16,8 @@ use Rattle.realm_model.proofs.Written.{IsSquare, put_at, cell_put, lefts}
 use Rattle.realm_model.proofs.Outcomes.{Yields, Yields-Ok, Yields-Err, Yields-check, Yields-with_realm, Yields-with_rec, Yields-with_end, Yields-with_granule}
 use Rattle.realm_model.proofs.OwnsSame.{cell_itself}
 
--- Two updates are of the same granule, leave it leased to the same build or to none, and lead from cells with the same
--- ownership to such cells.
+-- Updates `u` and `x` change the same granule, give it the same lease, and lead from cells with the same ownership to
+-- cells with the same ownership.
 pub record IsAlike (u x : Update) : Type 0 where
   pub granule : granule_of u ≡ granule_of x
   pub lease : (b : ℕ) → lease_after b u ≡ lease_after b x
@@ -46,7 +46,7 @@ alike_more [] (x ∷ xs) vs ys h k = absurd h
 alike_more (u ∷ us) [] vs ys h k = absurd h
 alike_more (u ∷ us) (x ∷ xs) vs ys h k = (h.0, alike_more us xs vs ys h.1 k)
 
--- the updates of the same granules in two machines are alike if those of each granule are
+-- if `f` and `g` give alike updates for each granule of two machines, they give alike updates for each list of granules
 pub alike_seen : (f g : Seen → Update) (m n : Machine) → ((k : ℕ) → IsAlike (f (seen m k)) (g (seen n k))) → (ks : List ℕ) → AreAlike (map f (map (seen m) ks)) (map g (map (seen n) ks))
 alike_seen f g m n each [] = tt
 alike_seen f g m n each (k ∷ ks) = (each k, alike_seen f g m n each ks)
@@ -89,7 +89,7 @@ own_alike b us xs w v next other alike sw sv same e f = record {
 
 -- ---- two commands
 
--- if neither command is refused, their updates are alike
+-- if neither outcome is a refusal, the updates of `o` and those of `p` are alike
 pub record Agree (o p : Outcome) : Type 0 where
   pub both : (us : List Update) → o ≡ Ok us → Yields (AreAlike us) p
 

@@ -25,7 +25,7 @@ use Rattle.realm_model.proofs.RealmAfter.{Allows, turned_by, realm_gone_step, is
 use Rattle.realm_model.proofs.PartRealm.{part_realm, none_there, found}
 use Rattle.realm_model.proofs.Parts.{IsSoundPart}
 
--- each REC that does not run in realm `d` does not run in realm `e`
+-- each REC number that has no running REC in the first realm has none in the second
 abbrev Rests : RealmRow → RealmRow → Type 0
 Rests d e = (n : ℕ) → is_rec_running (get d.recs n) ≡ false → is_rec_running (get e.recs n) ≡ false
 
@@ -53,7 +53,7 @@ module _ (limits : Limits) (b : ℕ) (w v : World) (kept : IsKept b w) (kept_v :
   not_made (Realm rd root vmid) r k e m = cc
   not_made _ r k e m = m
 
-  -- a REC of the build's realm runs exactly if it does in the realm's row in the build's part
+  -- the build's realm has the same running RECs in the world as in the build's part of the world
   runs_in : (w : World) (kept : IsKept b w) (k : ℕ) (d : RealmRow) → (cell_at (part_of w b).machine k).descriptor ≡ Some d → (n : ℕ) → rec_runs (realm_of b w) n ≡ is_rec_running (get d.recs n)
   runs_in w kept k d is n = ap (λ o. rec_runs o n) (found b w kept k d is) ∙ ap (λ o. elim o [ Some r ↦ is_rec_running (get r.recs n) | None ↦ false ]) is
 
@@ -81,14 +81,14 @@ module _ (limits : Limits) (b : ℕ) (w v : World) (kept : IsKept b w) (kept_v :
   one_still (Rec g aux n) rest = rests_still n rest
   one_still _ rest = refl
 
-  -- if none of some operations made a REC that runs, none of them did after the step
+  -- if none of the RECs that the listed operations created runs, none of them runs after a reverse operation
   pub none_run_still : (acts : List Act) → list_any (is_running (realm_of b w)) acts ≡ false → list_any (is_running (realm_of b v)) acts ≡ false
   none_run_still [] h = refl
   none_run_still (a ∷ acts) h =
       let parts = or_parts (is_running (realm_of b w) a) _ h in
       λ i. one_still a parts.0 i || none_run_still acts parts.1 i
 
--- if no REC runs, none that an operation made does
+-- if no REC of the realm runs, no operation is one that created a running REC of the realm
 pub not_running : (realm : Option Seen) → ((n : ℕ) → rec_runs realm n ≡ false) → (act : Act) → is_running realm act ≡ false
 not_running realm rest (Rec g aux n) = rest n
 not_running realm rest _ = refl

@@ -31,7 +31,7 @@ machine_after_all-frees [] machine = refl
 machine_after_all-frees (g ∷ gs) machine = machine_after_all-frees gs (set machine g blank)
 
 module _ (limits : Limits) (w : World) (b order first : ℕ) (below : b < limits.builds) (start : is_block_start order first ≡ true) where
-  -- a free block is taken: its granules are leased, and no cell changes
+  -- if a block is free, a Take leases its granules and changes no cell
   pub step-take : All (λ g. slice_get w.leases g ≡ Some None) (block order first)
       → step limits w (by b (Take order first)) ≡ Some (record { machine = w.machine; leases = set_each (Some b) (block order first) w.leases })
   unfolding named fits outcome_of
@@ -46,7 +46,7 @@ module _ (limits : Limits) (w : World) (b order first : ℕ) (below : b < limits
     leases = refl;
   })
 
-  -- a block of UNDELEGATED granules is given back: they are blank and free
+  -- if a build leases a block of UNDELEGATED granules, an UnTake makes them blank and free
   pub step-untake : All (λ g. slice_get w.leases g ≡ Some (Some b)) (block order first) → All (λ g. (cell_at w.machine g).state ≡ Undelegated) (block order first)
       → step limits w (by b (UnTake order first)) ≡ Some (record { machine = set_each blank (block order first) w.machine; leases = set_each None (block order first) w.leases })
   unfolding named fits outcome_of

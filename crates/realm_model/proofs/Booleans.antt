@@ -1,4 +1,4 @@
--- Lemmas on Booleans and options: combinations of tests, choices by a test, and options without a value.
+-- Lemmas on Booleans, on choices between values by a Boolean, and on the values `None` and `Some`.
 use Rattle.std.proofs.Common.{◌≡◌, Bool, true, false, cond, ◌&&◌, ◌||◌, not, Option, Some, None, refl}
 use Rattle.std.specs.Prelude.{is_some, is_none, option_map}
 
@@ -18,7 +18,7 @@ pub and_false : (t : Bool) → (t && false) ≡ false
 and_false true = refl
 and_false false = refl
 
--- two nested choices of the same value are one choice, by either test
+-- `x` if `t` holds, else `x` if `s` holds, else `y`, is the same as `x` if `s || t` holds, else `y`
 pub cond_or : {A : Type 0} (s t : Bool) (x y : A) → cond t x (cond s x y) ≡ cond (s || t) x y
 cond_or true true x y = refl
 cond_or true false x y = refl
@@ -41,12 +41,12 @@ pub not_false : (t : Bool) → not t ≡ false → t ≡ true
 not_false true e = refl
 not_false false e = cc
 
--- if a guarded option has a value, the guard holds and the value is the option's
+-- if `cond t o None` is `Some y`, `t` holds and `o` is `Some y`
 pub guarded : {A : Type 0} (t : Bool) (o : Option A) (y : A) → cond t o None ≡ Some y → (t ≡ true) × (o ≡ Some y)
 guarded true o y e = (refl, e)
 guarded false o y e = cc
 
--- if a choice between a value and an option gives none, the test failed, and the option has none
+-- if `cond t (Some x) rest` is `None`, `t` is false and `rest` is `None`
 pub neither : {A : Type 0} (t : Bool) (x : A) (rest : Option A) → cond t (Some x) rest ≡ None → (t ≡ false) × (rest ≡ None)
 neither true x rest e = cc
 neither false x rest e = (refl, e)

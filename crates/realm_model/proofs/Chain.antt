@@ -19,8 +19,8 @@ use Rattle.realm_model.proofs.Stack.{paired, pushed_other, back, pushed_back, ki
 use Rattle.realm_model.proofs.Lists.{reverse_more, last-reverse, front_push, last_push}
 use Rattle.realm_model.proofs.Growth.{open_entries-own, open_entries-other, takes_away}
 
--- The properties required of single steps. `Same u w`: the build owns the same in both worlds, whatever bytes, RIPAS,
--- measurements and states of RECs are. `Sound w`: what every reachable world keeps.
+-- The properties of single steps on which the lemmas of this file rely. `Same u w`: the build owns the same in both
+-- worlds, whatever bytes, RIPAS, measurements and states of RECs are. `Sound w`: what every reachable world keeps.
 pub record Laws (limits : Limits) (b : ℕ) (Same : World → World → Type 0) (Sound : World → Type 0) : Type 0 where
   pub itself : (w : World) → Same w w
   pub chain : (u v w : World) → Same u v → Same v w → Same u w
@@ -30,13 +30,13 @@ pub record Laws (limits : Limits) (b : ℕ) (Same : World → World → Type 0) 
   pub frame : (w v : World) (e : Event) → e.build ≢ b → Sound w → step limits w e ≡ Some v → Same w v
   -- an operation that has no reverse and is no reverse changes nothing that the build owns
   pub unpaired : (w v : World) (act : Act) → is_paired act ≡ false → is_reverse act ≡ false → Sound w → step limits w (by b act) ≡ Some v → Same w v
-  -- a reverse operation leads back to what the build owned before the reversed one
+  -- a reverse operation leads back to what the build owned before the operation that it reverses
   pub pair : (u v w x : World) (act r : Act) → reverse_of act ≡ Some r → Sound u → Sound w → step limits u (by b act) ≡ Some v → Same v w → step limits w (by b r) ≡ Some x → Same u x
 
--- Histories that go on from a base world, in which the operations `below` are open.
+-- Histories that go on from a world `base`, in which the build has the operations `below` open.
 module _ (limits : Limits) (b : ℕ) (Same : World → World → Type 0) (Sound : World → Type 0) (laws : Laws limits b Same Sound) (base : World) (below : List Act) where
-  -- what the build owns in the world results from the base world by the listed operations alone, the newest of them
-  -- first
+  -- what the build owns in the world comes from the base world by steps of the listed operations alone; the newest
+  -- operation is the first in the list
   abbrev pub Chain : List Act → World → Type 0
   Chain [] w = Same base w
   Chain (act ∷ st) w = (u : World) × (v : World) × Sound u × Chain st u × (step limits u (by b act) ≡ Some v) × Same v w × (is_paired act ≡ true)
@@ -45,14 +45,14 @@ module _ (limits : Limits) (b : ℕ) (Same : World → World → Type 0) (Sound 
   chain_same [] w x same h = laws.chain _ _ _ h same
   chain_same (act ∷ st) w x same h = (h.0, h.1, h.2, h.3, h.4, laws.chain _ _ _ h.5 same, h.6)
 
-  -- the world is sound, `stack` is open above `below` after the history, and what the build owns results from the base
-  -- by `stack`
+  -- the world is sound, the operations of `stack` are open above `below` after the history, and `Chain` holds of
+  -- `stack` and the world
   pub record Kept (stack : List Act) (history : List Event) (w : World) : Type 0 where
     pub sound : Sound w
     pub open_is : open_entries b history ≡ below ++ reverse stack
     pub chained : Chain stack w
 
-  -- no operation that was open in the base is reversed
+  -- the build has at least as many operations open after the history as in the base world
   abbrev pub Stays : List Event → Type 0
   Stays history = length below ≤ length (open_entries b history)
 
@@ -78,7 +78,7 @@ module _ (limits : Limits) (b : ℕ) (Same : World → World → Type 0) (Sound 
     chained = chain_same st w x (laws.unpaired w x act p r kept.sound stepped) kept.chained;
   }
 
-  -- the newest operation above the base is reversed
+  -- after a reverse of `top`, the newest operation above `below`, `Kept` holds of the stack without `top`
   pub kept_back : (top : Act) (st : List Act) (before : List Event) (w x : World) (act : Act) → is_paired act ≡ false → is_reverse act ≡ true
       → Kept (top ∷ st) before w → IsInTurn before (by b act) → step limits w (by b act) ≡ Some x
       → Kept st (before ++ by b act ∷ []) x
@@ -93,7 +93,7 @@ module _ (limits : Limits) (b : ℕ) (Same : World → World → Type 0) (Sound 
         chained = chain_same st was.0 x (laws.pair was.0 was.1 w x top act pairs was.2 kept.sound was.4 was.5 stepped) was.3;
       }
 
-  -- if nothing is open above the base, a reverse would be that of an operation in the base
+  -- if nothing is open above `below`, `Stays` fails after each reverse that `IsInTurn` allows
   too_low : (before : List Event) (w : World) (act : Act) → is_paired act ≡ false → is_reverse act ≡ true → Kept [] before w → IsInTurn before (by b act) → Stays (before ++ by b act ∷ []) → ⊥
   too_low before w act p r kept turn stays =
       let away = takes_away b before act p r turn in
@@ -152,15 +152,14 @@ module _ (limits : Limits) (b : ℕ) (Same : World → World → Type 0) (Sound 
       kept_after limits b Same Sound laws (opening limits) [] [] [] history (opening limits) w
       (record { sound = laws.sound_opening; open_is = refl; chained = laws.itself (opening limits) }) legal.in_turn at_w (λ n. omega arith)
 
-  -- If nothing is open, the build owns what it owned at first
+  -- if nothing is open, the build owns what it owned in the opening world
   pub nothing_open : (history : List Event) (w : World) → IsLegal limits history → replay limits history ≡ Some w → open_entries b history ≡ [] → Same (opening limits) w
   nothing_open history w legal at_w none =
       let k = kept history w legal at_w in
       let no_stack : k.0 ≡ [] = sym (reverse-reverse k.0) ∙ ap reverse (sym k.1.open_is ∙ none) in
       subst (λ st. Chain limits b Same Sound laws (opening limits) [] st w) no_stack k.1.chained
 
-  -- The newest open operation is a step between two worlds; the build owns in the second one what it owns in the world
-  -- now
+  -- a step of the operation led to some world, and in that world the build owned what it owns in `w`
   pub record Newest (act : Act) (w : World) : Type 0 where
     pub before : World
     pub after_it : World

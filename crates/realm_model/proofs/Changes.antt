@@ -57,7 +57,8 @@ updated_all-changes build (u ∷ us) w h =
     ∙ ap (λ ls. updated_all build us (record { machine = changed; leases = ls })) kept.1
     ∙ updated_all-changes build us (record { machine = changed; leases = w.leases }) both.1
 
--- if the command of an operation is not refused, its step is made
+-- if an allowed operation is not refused and its updates change only cells that the build leases, the step makes these
+-- updates and changes no lease
 pub step-command : (limits : Limits) (w : World) (build : ℕ) (act : Act) (us : List Update) → build < limits.builds
     → list_all (is_leased_to (holder build act) w.leases) (named act) ≡ true
     → is_in_range act ≡ true → fits act (realm_of build w) (map (seen w.machine) (named act)) ≡ true
@@ -71,7 +72,8 @@ step-command limits w build act us below leases range fit planned changes =
     ∙ ap (λ o. after_outcome build o w) planned
     ∙ updated_all-changes build us w changes
 
--- the row where the walk ends leads to the granule that the operation names
+-- if the row at a level leads to granule `g`, and a walk that ends at this level ends at a row that leads to granule
+-- `pa`, `pa` is `g`
 pub pointed : (rows : Rows) (ipa level g pa : ℕ) (end : Walk) → leads_to (row_at rows level ipa) g ≡ true → walk rows ipa level ≡ Some end
     → (end.level == level) ≡ true → end.row.granule ≡ Some pa → pa ≡ g
 pointed rows ipa level g pa end fit e last there =
@@ -104,7 +106,7 @@ module _ (limits : Limits) (b : ℕ) (w : World) where
   seen_more : (cell : Cell) (gs : List ℕ) (us : List Update) → list_all L gs ≡ true → C us → C (map (put_seen cell) (map (seen w.machine) gs) ++ us)
   seen_more cell gs us h c = subst (λ xs. C (xs ++ us)) (sym (seen-each_put w.machine cell gs)) (puts_more cell gs us h c)
 
-  -- a test that passes for the build's realm passes for the row at the RD that the test names
+  -- if the build's realm passes a test that requires the RD `rd`, the test also passes for the row of the realm at `rd`
   own_is : (own : Seen) (rd : ℕ) (d : RealmRow) (test : Seen → RealmRow → Bool) → ((r : RealmRow) → test own r ≡ true → own.number ≡ rd)
       → realm_is (Some own) test ≡ true → cell_at w.machine own.number ≡ own.cell → (cell_at w.machine rd).descriptor ≡ Some d → test own d ≡ true
   own_is own rd d test place fit at is =
@@ -115,7 +117,8 @@ module _ (limits : Limits) (b : ℕ) (w : World) where
         | None ↦ λ e t. cc
       ] refl fit
 
-  -- the realm's starting tables are those that a reverse names
+  -- if the build's realm is the one that an UnRealm names, the row of this realm has the starting tables and the IPA
+  -- width that the UnRealm names
   root_is : (own : Seen) (rd : ℕ) (root : Root) (v : ℕ) (d : RealmRow) → realm_is (Some own) (λ x r. x.number == rd && is_root root r.root && r.vmid == v) ≡ true
       → cell_at w.machine own.number ≡ own.cell → (cell_at w.machine rd).descriptor ≡ Some d → d.root ≡ root
   root_is own rd root v d fit at is =
@@ -127,7 +130,7 @@ module _ (limits : Limits) (b : ℕ) (w : World) where
   rec_test rd d n rec test fit is there =
       sym (ap (λ o. elim o [ Some rec ↦ test rec | None ↦ false ]) there) ∙ realm_test rd d (λ x r. elim (get r.recs n) [ Some rec ↦ test rec | None ↦ false ]) fit is
 
-  -- the granule that a guest's write reaches is leased by the build, as in every reached world
+  -- if the operation is a guest's write, the write reaches a granule that the build leases
   abbrev pub ReachesOwn : Act → Option Seen → Type 0
   ReachesOwn (Poke n ipa o v) (Some rd) =
       (d : RealmRow) (end : Walk) (pa : ℕ) → rd.cell.descriptor ≡ Some d → walk d.rows ipa 3 ≡ Some end → is_assigned end.row ≡ true → end.row.granule ≡ Some pa → L pa ≡ true
@@ -198,7 +201,8 @@ pub holder_is : (build : ℕ) (act : Act) → is_of_block act ≡ false → hold
 holder_is build (Take order first) k = cc
 holder_is build _ k = refl
 
--- if the granules named are the build's, the operation fits, and its command is not refused, the step is made
+-- If an operation other than Take and UnTake is allowed and not refused, its step makes the updates of its outcome and
+-- changes no lease. A guest's write must reach a granule of its build.
 pub step_exact : (limits : Limits) (w : World) (build : ℕ) (act : Act) (us : List Update) → is_of_block act ≡ false → ReachesOwn limits build w act (realm_of build w)
     → is_allowed limits w (by build act) ≡ true
     → outcome_of limits.vmids limits.aux (used_vmids w.machine) act (realm_of build w) (map (seen w.machine) (named act)) ≡ Ok us

@@ -14,7 +14,7 @@ scrubbed (Some build) cell = cell
 abbrev pub IsClean : World → Type 0
 IsClean w = each scrubbed w.leases w.machine ≡ w.machine
 
--- a free granule of a clean world is blank
+-- a free granule of a world that satisfies `IsClean` is blank
 pub clean_at : (w : World) (g : ℕ) → IsClean w → slice_get w.leases g ≡ Some None → cell_at w.machine g ≡ blank
 clean_at w g clean free = ap (λ m. cell_at m g) (sym clean) ∙ cell_at-each scrubbed w.leases w.machine g None refl free
 

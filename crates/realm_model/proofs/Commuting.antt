@@ -43,7 +43,7 @@ set_elsewhere x (p ∷ places) xs g out =
     let parts = or_parts (g == p) (is_in g places) out in
     set_elsewhere x places (set xs p x) g parts.1 ∙ slice_get_set_other xs p g x (eqb-false g p parts.0)
 
--- a granule that is taken was nobody's, and is the build's afterwards
+-- a granule that a step of the build takes is leased to the build after the step
 is_taken : (limits : Limits) (b : ℕ) (act : Act) (w v : World) (g : ℕ) → step limits w (by b act) ≡ Some v → is_in g (granules_taken act) ≡ true → slice_get v.leases g ≡ Some (Some b)
 unfolding named
 is_taken limits b (Take order first) w v g stepped i =
@@ -52,14 +52,14 @@ is_taken limits b (Take order first) w v g stepped i =
     ∙ ap (λ t. cond t (Some (Some b)) (slice_get w.leases g)) i
 is_taken limits b act w v g stepped i = cc
 
--- a granule that is given back was the build's
+-- a granule that a step of the build gives back was leased to the build before the step
 was_held : (limits : Limits) (b : ℕ) (act : Act) (w v : World) (g : ℕ) → step limits w (by b act) ≡ Some v → is_in g (granules_given_back act) ≡ true
     → slice_get w.leases g ≡ Some (Some b)
 unfolding named
 was_held limits b (UnTake order first) w v g stepped i = named_lease limits w v (by b (UnTake order first)) g stepped i
 was_held limits b act w v g stepped i = cc
 
--- a lease that changes is of a granule that is taken or given back
+-- an operation that neither takes nor gives back a granule leaves the granule's lease unchanged
 changed : (b : ℕ) (act : Act) (leases : List (Option ℕ)) (g : ℕ) → is_in g (granules_taken act) ≡ false → is_in g (granules_given_back act) ≡ false
     → slice_get (leases_after b act leases) g ≡ slice_get leases g
 changed b (Take order first) leases g taken given = set_elsewhere (Some b) (block order first) leases g taken
@@ -69,7 +69,7 @@ changed b act leases g taken given = refl
 same_lease_of : (a b : Option ℕ) (o : Option (Option ℕ)) → o ≡ Some a → o ≡ Some b → a ≡ b
 same_lease_of a b o e f = same_Some _ _ (sym e ∙ f)
 
--- a granule that was the build's and is nobody's afterwards is given back
+-- if a step of a build frees a granule that the build leased, the step's operation gives this granule back
 is_given_back : (limits : Limits) (b : ℕ) (act : Act) (w v : World) (g : ℕ) → step limits w (by b act) ≡ Some v → slice_get w.leases g ≡ Some (Some b)
     → slice_get v.leases g ≡ Some None → is_in g (granules_given_back act) ≡ true
 is_given_back limits b act w v g stepped before then = by_test (is_in g (granules_given_back act)) refl
@@ -83,7 +83,7 @@ is_given_back limits b act w v g stepped before then = by_test (is_in g (granule
         let kept : slice_get v.leases g ≡ slice_get w.leases g = ap (λ ls. slice_get ls g) (step_is limits w v (by b act) stepped).leases ∙ changed b act w.leases g not_taken is in
         let e = same_lease_of (Some b) None _ (kept ∙ before) then in cc
 
--- a granule that was nobody's and is the build's afterwards is taken
+-- if a step of a build leases a free granule to the build, the step's operation takes this granule
 is_newly_taken : (limits : Limits) (b : ℕ) (act : Act) (w v : World) (g : ℕ) → step limits w (by b act) ≡ Some v → slice_get w.leases g ≡ Some None
     → slice_get v.leases g ≡ Some (Some b) → is_in g (granules_taken act) ≡ true
 is_newly_taken limits b act w v g stepped before then = by_test (is_in g (granules_taken act)) refl
@@ -130,7 +130,7 @@ unfolding reverse_of is_reverse
 gives_reverse v (UnRealm rd root w) i = (refl, refl)
 gives_reverse v act i = cc
 
--- an operation and its reverse are of the same VMID
+-- a reverse gives back a VMID exactly if the operation that it reverses uses that VMID
 module _ (v : ℕ) (back : Act) where
   gives_if_newest : (act : Act) → reverse_of act ≡ Some back → uses_vmid v act ≡ true → is_in v (vmids_given_back back) ≡ true
   unfolding reverse_of
@@ -148,7 +148,7 @@ module _ (v : ℕ) (back : Act) where
   newest_if_gives (Rec g aux n) e i = let none = subst (λ a. is_in v (vmids_given_back a) ≡ true) (sym (same_Some _ _ e)) i in cc
   newest_if_gives act e i = cc
 
--- operations use a VMID exactly if those before the last one use it, or the last one does
+-- a list of operations uses a VMID exactly if its last operation or an earlier one uses it
 module _ (v : ℕ) (below : List Act) (act : Act) where
   top : list_any (uses_vmid v) (below ++ act ∷ []) ≡ (list_any (uses_vmid v) below || uses_vmid v act)
   top = list_any-append (uses_vmid v) below (act ∷ []) ∙ ap (λ t. list_any (uses_vmid v) below || t) (or_none (uses_vmid v act))
@@ -166,13 +166,13 @@ module _ (history : List Event) (b : ℕ) (act : Act) (turn : IsInTurn history (
   abbrev grown : List Event
   grown = history ++ by b act ∷ []
 
-  -- a VMID that an operation takes is used by an open operation of its build afterwards
+  -- after an operation takes a VMID, an open operation of the build uses the VMID
   is_open : is_in v (vmids_taken act) ≡ true → uses v b grown ≡ true
   is_open i =
       ap (list_any (uses_vmid v)) (open_entries-own history (by b act) ∙ pushed_paired (open_entries b history) act (takes_paired v act i))
       ∙ by_top v (open_entries b history) act (uses_if_takes v act i)
 
-  -- a VMID that an operation gives back was used by an open operation of its build before
+  -- before an operation gives back a VMID, an open operation of the build uses the VMID
   was_open : is_in v (vmids_given_back act) ≡ true → uses v b history ≡ true
   was_open i =
       let back = gives_reverse v act i in
@@ -200,14 +200,16 @@ module _ (history : List Event) (b : ℕ) (act : Act) (turn : IsInTurn history (
     | of_other p r ↦ ap (list_any (uses_vmid v)) (sym (open_entries-own history (by b act) ∙ pushed_other (open_entries b history) act p r)) ∙ e
   ]
 
-  -- a VMID that an open operation of a build uses is still used by one afterwards, unless the event gives it back
+  -- if build `c` has an open operation that uses a VMID before the event, it has one after the event, unless the event
+  -- gives the VMID back
   open_still : (c : ℕ) → uses v c history ≡ true → is_in v (vmids_given_back act) ≡ false → uses v c grown ≡ true
   open_still c e kept = elim (cases_eq b c) [
     | inl same ↦ subst (λ n. uses v n history ≡ true → uses v n grown ≡ true) same (λ e. own_still e kept) e
     | inr apart ↦ ap (list_any (uses_vmid v)) (open_entries-other c history (by b act) apart) ∙ e
   ]
 
-  -- a VMID that an open operation of a build uses was used by one before, unless the event takes it
+  -- if build `c` has an open operation that uses a VMID after the event, it had one before the event, unless the event
+  -- takes the VMID
   open_before : (c : ℕ) → uses v c grown ≡ true → is_in v (vmids_taken act) ≡ false → uses v c history ≡ true
   open_before c e old = elim (cases_eq b c) [
     | inl same ↦ subst (λ n. uses v n grown ≡ true → uses v n history ≡ true) same (λ e. own_before e old) e
@@ -244,11 +246,11 @@ runs limits history one other legal =
     option_and_then_some (after limits []) (step limits x other) last.0 rest (λ z other_goes at.
     record { base = s.base; legal = s.legal; base_is = s.base_is; turn_one = s.turns.0; turn_other = s.turns.1.0; middle = x; one_goes = one_goes; end = z; other_goes = other_goes }))
 
--- an event that is in turn after another build's event is in turn without that event too
+-- an event that satisfies `IsInTurn` after another build's event also satisfies `IsInTurn` without that event
 turn_before : (history : List Event) (one other : Event) → one.build ≢ other.build → IsInTurn (history ++ one ∷ []) other → IsInTurn history other
 turn_before history one other apart turn = λ r. ap (λ acts. option_and_then reverse_of (last_or None acts)) (sym (open_entries-other other.build history one apart)) ∙ turn r
 
--- an event that is in turn is still in turn after another build's event
+-- an event that satisfies `IsInTurn` still satisfies `IsInTurn` after another build's event
 turn_after : (history : List Event) (one other : Event) → one.build ≢ other.build → IsInTurn history other → IsInTurn (history ++ one ∷ []) other
 turn_after history one other apart turn = λ r. ap (λ acts. option_and_then reverse_of (last_or None acts)) (open_entries-other other.build history one apart) ∙ turn r
 
@@ -256,7 +258,7 @@ module _ (limits : Limits) (history : List Event) (one other : Event) (apart : o
   after_one : Grows limits history one run.middle
   after_one = grows limits history one run.base run.middle run.legal run.base_is run.one_goes run.turn_one
 
-  -- the event `other` is accepted first, if it takes nothing that `one` gives back
+  -- the event `other` is accepted before `one`, if `other` takes nothing that `one` gives back
   other_at_first : ¬ GivesTo one.act other.act → (v : World) × (step limits run.base other ≡ Some v)
   other_at_first none =
       goes_there limits one.build run.middle run.base (sym (without-own_step limits one.build run.base run.middle one refl (clean_reached limits history run.base run.base_is) run.one_goes))
@@ -306,7 +308,7 @@ module _ (limits : Limits) (history : List Event) (one other : Event) (apart : o
     swapped = subst (IsLegal limits) (append_assoc history (other ∷ []) (one ∷ []))
         (grows limits (history ++ other ∷ []) one v one_then.0 after_other.legal after_other.world_is one_then.1 (turn_after history other one (λ e. apart (sym e)) run.turn_one)).legal
 
-  -- the event `other` cannot be first if it takes what `one` gives back
+  -- if `other` takes something that `one` gives back, a history with `other` directly before `one` is not legal
   nothing_given : IsLegal limits (history ++ other ∷ one ∷ []) → ¬ GivesTo one.act other.act
   nothing_given legal gives =
       let turned = runs limits history other one legal in
@@ -323,7 +325,7 @@ module _ (limits : Limits) (history : List Event) (one other : Event) (apart : o
             (vmid_unused limits run.base turned.middle other first vmid.0 (in_from_Contains (vmids_taken other.act) vmid.0 vmid.2))
       ]
 
-  -- each build has the same events either way
+  -- each build has the same events, whether `one` or `other` comes first
   same_events : (c : ℕ) → events_of c (history ++ other ∷ one ∷ []) ≡ events_of c (history ++ one ∷ other ∷ [])
   same_events c =
       filter-append (λ x. x.build == c) history (other ∷ one ∷ [])

@@ -12,7 +12,7 @@ use Rattle.realm_model.proofs.Chain.{nothing_open, kept}
 use Rattle.realm_model.proofs.LeftOut.{noninterference}
 use Rattle.realm_model.proofs.Lists.{head_or, tail}
 
--- a lease that is missing in the build's part is not the build's
+-- a lease that becomes None when the leases of other builds are hidden is not a lease to the build
 not_of : (b : ℕ) (lease : Option ℕ) → unleased (is_of_other b) lease ≡ None → is_of b lease ≡ false
 not_of b None e = refl
 not_of b (Some c) e = by_test (c == b) e
@@ -21,7 +21,7 @@ not_of b (Some c) e = by_test (c == b) e
     by_test true e = cc
     by_test false e = refl
 
--- nobody leases anything in the part of the build
+-- none of the listed leases is to the build
 abbrev NoneLeased : ℕ → List (Option ℕ) → Type 0
 NoneLeased b [] = Unit {0}
 NoneLeased b (l ∷ ls) = (is_of b l ≡ false) × NoneLeased b ls

@@ -55,7 +55,7 @@ same_half width known level i j same =
 
 -- ---- rows that are put
 
--- a write of rows that cover only protected IPA granules and are no tables keeps the invariant of empty rows
+-- `put_rows` preserves `HasEmptyRows` if the new rows are not TABLE and cover only protected IPA granules
 put_rows_empty : {width : ℕ} (change : Option Row → Row) (rows : Rows) (level first n : ℕ) → HasEmptyRows width rows
     → ((k i : ℕ) → k < n → first_covered level i ≡ first + k * covered_count level → is_protected_at i width ≡ true)
     → ((k : ℕ) → k < n → is_table (change (get rows (level, first + k * covered_count level))) ≡ false)

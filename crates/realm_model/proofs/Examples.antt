@@ -7,7 +7,7 @@ pub mod Granules
 pub mod Realms
 pub mod Wide
 pub mod Recs
--- translations
+-- translation tables, pages of data and measurements
 pub mod Tables
 pub mod TwoTables
 pub mod Ram
@@ -15,7 +15,7 @@ pub mod Data
 pub mod Numbers
 pub mod WideTables
 pub mod Measured
--- marks
+-- rollbacks to a mark
 pub mod Marks
--- schedules
+-- the same events of two builds in two sequences, with the same world at the end
 pub mod Orders

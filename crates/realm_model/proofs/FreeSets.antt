@@ -54,7 +54,7 @@ is_in-free_set w g =
     within : g < length w.leases → g < 0 + length w.leases
     within h = omega arith
 
--- without a build, what it leased is free too
+-- a granule is free without build `b` exactly if it is free in the world or `b` leases it
 free_without : (b : ℕ) (w : World) (g : ℕ) → is_leased_to None (without w b).leases g ≡ (is_leased_to None w.leases g || is_leased_to (Some b) w.leases g)
 free_without b w g = ap (λ o. option_eq same_lease o (Some None)) (slice_get-map (unleased (is_of b)) w.leases g) ∙ of_lease (slice_get w.leases g)
   where
@@ -81,7 +81,7 @@ free_set-without limits b history w legal at_w g =
 
 -- ---- parts
 
--- the part of another build is unchanged
+-- leaving out a build does not change the part of another build
 pub part_of-without : (b c : ℕ) (w : World) → c ≢ b → part_of (without w b) c ≡ part_of w c
 part_of-without b c w apart = λ i. record { machine = cells w.leases w.machine i; leases = leases w.leases i }
   where

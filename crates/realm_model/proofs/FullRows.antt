@@ -45,7 +45,7 @@ some_stays : (rows : Rows) (place : ℕ × ℕ) (row : Row) (q : ℕ × ℕ) →
 some_stays rows place row q some = ap is_some (mapping_at-insert rows place q row)
     ∙ elim (is_place q place) as (λ t. is_some (cond t (Some (mapping_of_row row)) (mapping_at rows q)) ≡ true) [ true ↦ refl | false ↦ some ]
 
--- no row goes missing if a row that is no table is written at any place
+-- no row goes missing if a row that is not TABLE is written at any place
 pub put_full : {width : ℕ} (rows : Rows) (place : ℕ × ℕ) (row : Row) → IsFull width (mapping_at rows) → is_table_kind (Some (mapping_of_row row)) ≡ false → IsFull width (mapping_at (insert rows place row))
 put_full rows place row full plain = record {
   root = λ ipa inside. some_stays rows place row (1, first_covered 1 ipa) (full.root ipa inside);
@@ -65,7 +65,8 @@ with_ram_full {width} rows ipa n full all = subst (IsFull width) (λ i q. same_r
 
 -- ---- tables
 
--- a row that covers the first granule of an entry of the next level covers the whole entry
+-- IPA granule `i` and the first IPA granule of the entry that covers `i` are covered by the same entry of the level
+-- above
 pub above_covers : (level i : ℕ) → 1 ≤ level - 1 → level - 1 ≤ 2 → first_covered (level - 1) (first_covered level i) ≡ first_covered (level - 1) i
 above_covers level i low high = elim (level == 2) as (λ t. (level == 2) ≡ t → first_covered (level - 1) (first_covered level i) ≡ first_covered (level - 1) i) [
   | true ↦ λ e. subst (λ l. first_covered (l - 1) (first_covered l i) ≡ first_covered (l - 1) i) (sym (eqb-true level 2 e)) (two i)
@@ -85,7 +86,7 @@ module _ {width : ℕ} (rows : Rows) (level ipa : ℕ) (at : IsTablePlace ipa le
   abbrev up : ℕ × ℕ
   up = (level - 1, first_covered (level - 1) ipa)
 
-  -- the place of the row above is one level above the table, and its row covers the table's range
+  -- if the place of IPA granule `i` at level `l` is `up`, level `l + 1` is the table's, and the table covers `i`
   below_up : (l i : ℕ) → is_place (l, first_covered l i) up ≡ true → (l + 1 ≡ level) × (first_covered (level - 1) (first_covered level i) ≡ ipa)
   below_up l i e =
       let same : (l, first_covered l i) ≡ up = same_place (l, first_covered l i) up e in
@@ -93,7 +94,7 @@ module _ {width : ℕ} (rows : Rows) (level ipa : ℕ) (at : IsTablePlace ipa le
       let firsts : first_covered (level - 1) i ≡ ipa = ap (λ n. first_covered n i) (sym levels) ∙ ap (λ (x : ℕ × ℕ). x.1) same ∙ at.first in
       (ap (λ n. n + 1) levels ∙ at.low.2, above_covers level i at.low.0 at.low.1 ∙ firsts)
 
-  -- a place one level above the table whose row covers the table's range is that of the row above
+  -- if level `l + 1` is the table's and the table covers IPA granule `i`, the place of `i` at level `l` is `up`
   up_above : (l i : ℕ) → l + 1 ≡ level → first_covered (level - 1) (first_covered level i) ≡ ipa → is_place (l, first_covered l i) up ≡ true
   up_above l i lower under =
       let low = at.low in
@@ -170,7 +171,7 @@ module _ {width : ℕ} (rows : Rows) (level ipa : ℕ) (at : IsTablePlace ipa le
     | false ↦ λ h. h
   ] (ap is_table_kind (sym (mapping_at-dropped q)) ∙ h)
 
-  -- a row that is TABLE afterwards was TABLE before, and is not in the removed table
+  -- a row that is TABLE after the table is removed was TABLE before, and is not the row that led to the removed table
   left_table : (q : ℕ × ℕ) → is_table_kind (mapping_at left_rows q) ≡ true → (is_place q up ≡ false) × (is_table_kind (mapping_at rows q) ≡ true)
   left_table q h = elim (is_place q up) as (λ t. is_table_kind (cond t (Some (mapping Unassigned None)) (mapping_at dropped q)) ≡ true → (t ≡ false) × (is_table_kind (mapping_at rows q) ≡ true)) [
     | true ↦ λ h. cc
@@ -194,7 +195,7 @@ module _ {width : ℕ} (rows : Rows) (level ipa : ℕ) (at : IsTablePlace ipa le
 
 -- ---- walks
 
--- every walk ends at a row
+-- if no row is missing, each walk to level 1 or more, for an IPA granule in the address space, ends at a row
 pub walk_ends : {width : ℕ} (rows : Rows) → IsFull width (mapping_at rows) → (ipa level : ℕ) → ipa < served_space width → 1 ≤ level → is_some (walk rows ipa level) ≡ true
 unfolding walk
 walk_ends rows full ipa zero inside low = absurd (omega arith)

@@ -27,7 +27,8 @@ use Rattle.realm_model.proofs.StepSays.{step_is}
 
 -- ---- VMIDs
 
--- a command that is not refused with some VMIDs in use is not refused with others, if these lack the VMID that it takes
+-- if a command is accepted with the VMIDs `used` in use, its updates are the same with `others` in use instead, unless
+-- `others` has the VMID that it takes
 outcome_of-taken : (limits : Limits) (used others : List ℕ) (act : Act) → ((v : ℕ) → is_in v (vmids_taken act) ≡ true → is_in v others ≡ false)
     → (realm : Option Seen) (gs : List Seen) (us : List Update) → outcome_of limits.vmids limits.aux used act realm gs ≡ Ok us → outcome_of limits.vmids limits.aux others act realm gs ≡ Ok us
 unfolding outcome_of
@@ -37,7 +38,7 @@ outcome_of-taken limits used others (Realm rd root v) free realm (g ∷ gs) us e
     Yields-Ok _ _ (check_true _ _ _ (and_from _ _ (and_parts _ _ all).0 (ap not (free v (is_in_head v []))))))).where_ok us e
 outcome_of-taken limits used others act free realm gs us e = e
 
--- the VMID that is taken was not in use
+-- if an operation's command is not refused, a VMID that the operation takes was not in use
 unused_before : (limits : Limits) (used : List ℕ) (act : Act) (v : ℕ) → is_in v (vmids_taken act) ≡ true → (realm : Option Seen) (gs : List Seen) (us : List Update)
     → outcome_of limits.vmids limits.aux used act realm gs ≡ Ok us → is_in v used ≡ false
 unfolding outcome_of
@@ -55,13 +56,13 @@ vmid_unused limits w next e stepped v i = let s = step_is limits w next e steppe
 
 -- ---- granules
 
--- a granule that is named is leased as the operation requires
+-- before a step, each granule that the step's operation names has the lease that the operation requires
 pub named_lease : (limits : Limits) (w v : World) (e : Event) (g : ℕ) → step limits w e ≡ Some v → is_in g (named e.act) ≡ true → slice_get w.leases g ≡ Some (holder e.build e.act)
 named_lease limits w v e g stepped i =
     let lease : Option ℕ = holder e.build e.act in
     leased lease w.leases g (all_in (is_leased_to lease w.leases) (named e.act) g (leased_all lease w.leases (named e.act) (step_is limits w v e stepped).granules) i)
 
--- a granule that is taken was nobody's
+-- before a step, each granule that the step's operation takes is free
 pub was_free : (limits : Limits) (b : ℕ) (act : Act) (w v : World) (g : ℕ) → step limits w (by b act) ≡ Some v → is_in g (granules_taken act) ≡ true → slice_get w.leases g ≡ Some None
 unfolding named
 was_free limits b (Take order first) w v g stepped i = named_lease limits w v (by b (Take order first)) g stepped i
@@ -80,7 +81,7 @@ taken_from_none c _ g none i = cc
 -- ---- one event
 
 module _ (limits : Limits) (b : ℕ) (y x : World) (rest : without x b ≡ without y b) where
-  -- a lease in `y` that is not the build's is the same in `x`, unless it is nobody's and the build leases the granule
+  -- a granule that another build leases in `y`, or that is free in `y` and not leased to `b` in `x`, has the same lease
   -- in `x`
   lease_there : (h : Option ℕ) (g : ℕ) → is_of b h ≡ false → (h ≡ None → slice_get x.leases g ≡ Some (Some b) → ⊥) → slice_get y.leases g ≡ Some h → slice_get x.leases g ≡ Some h
   lease_there h g apart free e = by_lease (slice_get x.leases g) refl
@@ -94,7 +95,7 @@ module _ (limits : Limits) (b : ℕ) (y x : World) (rest : without x b ≡ witho
         | false ↦ λ other m. m
       ] refl m
 
-  -- the realms of other builds are the same
+  -- each build other than `b` has the same realm in `x` as in `y`
   realm_there : (c : ℕ) → c ≢ b → realm_of c x ≡ realm_of c y
   realm_there c apart =
       sym (realm_kept (is_of b) c 0 (ne_eqb c b apart) x.leases x.machine) ∙ ap (realm_of c) rest ∙ realm_kept (is_of b) c 0 (ne_eqb c b apart) y.leases y.machine

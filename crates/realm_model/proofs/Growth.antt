@@ -1,5 +1,5 @@
--- Proofs that a legal history stays legal with one more event if the event is a step and in turn, and that only its
--- build's open operations change.
+-- Proofs about one more event after a legal history: the history stays legal, and the open operations of other builds
+-- do not change. The event is accepted, and if it is a reverse, it undoes its build's newest open operation.
 use Rattle.std.proofs.Common.{◌≡◌, ◌≢◌, ℕ, true, false, cond, List, [], ◌∷◌, ◌++◌, map, Option, Some, None, refl, sym, ap, ◌∙◌, subst}
 use Rattle.std.specs.Prelude.{◌==◌, option_and_then, is_some, filter}
 use Rattle.std.specs.List.{last_or}
@@ -68,13 +68,13 @@ pub open_entries-other : (build : ℕ) (history : List Event) (event : Event) �
 unfolding open_entries
 open_entries-other build history event apart = ap unmatched (acts_of-other build history event apart)
 
--- the newest open operation, which a reverse in turn removes from the open ones
+-- `act` reverses the newest open operation, and all others stay open
 pub record TakesAway (b : ℕ) (history : List Event) (act : Act) : Type 0 where
   pub newest : Act
   pub pairs : reverse_of newest ≡ Some act
   pub open_is : open_entries b history ≡ open_entries b (history ++ by b act ∷ []) ++ newest ∷ []
 
--- if an option's operation has a reverse, the option has an operation
+-- if `option_and_then reverse_of o` is `Some act`, `o` is an operation whose reverse is `act`
 reversed_some : (o : Option Act) (act : Act) → option_and_then reverse_of o ≡ Some act → (newest : Act) × (o ≡ Some newest) × (reverse_of newest ≡ Some act)
 reversed_some None act e = cc
 reversed_some (Some a) act e = (a, refl, e)

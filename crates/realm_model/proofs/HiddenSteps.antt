@@ -1,5 +1,5 @@
--- Proofs that a build's step is also a step in the world without another build and in the build's own part, and changes
--- no other build's part.
+-- Proofs that an accepted event is also accepted in the world without another build, and in its own build's part, and
+-- changes no other build's part. The last holds if free granules are blank.
 use Rattle.std.proofs.Common.{◌≡◌, ◌≢◌, ℕ, suc, Bool, true, false, cond, ◌&&◌, not, List, [], ◌∷◌, map, Option, Some, None, Ok, Err, refl, sym, ap, ◌∙◌}
 use Rattle.std.specs.Option.{option_eq}
 use Rattle.std.specs.Prelude.{◌==◌, slice_get, option_map, is_some}
@@ -21,7 +21,7 @@ use Rattle.realm_model.proofs.UsedVmids.{used-hidden, outcome_of-fewer}
 use Rattle.realm_model.proofs.HiddenUpdates.{updated_all-masked, hidden-blank, masked-own_updated_all}
 use Rattle.realm_model.proofs.Clean.{IsClean, IsClean-updated_all}
 
--- a lease that is not hidden
+-- the given predicate does not hide the lease
 abbrev IsShown : (Option ℕ → Bool) → Option ℕ → Type 0
 IsShown p lease = p lease ≡ false
 
@@ -36,7 +36,8 @@ module _ (p : Option ℕ → Bool) (lease : Option ℕ) (apart : IsShown p lease
   shown : (cell : Cell) → hidden p lease cell ≡ cell
   shown cell = ap (λ t. cond t blank cell) apart
 
-  -- granules whose lease is not hidden are leased and seen as they were
+  -- hiding builds does not change a lease that is not hidden; by `named_seen`, hiding builds does not change the
+  -- granule's cell either
   named_leased : (leases : List (Option ℕ)) (gs : List ℕ) → list_all (is_leased_to lease leases) gs ≡ true → list_all (is_leased_to lease (map (unleased p) leases)) gs ≡ true
   named_leased leases [] h = refl
   named_leased leases (g ∷ gs) h =
@@ -53,7 +54,8 @@ module _ (p : Option ℕ → Bool) (lease : Option ℕ) (apart : IsShown p lease
       let rest : map (seen (each (hidden p) leases machine)) gs ≡ map (seen machine) gs = named_seen leases machine gs both.1 in
       λ i. record { number = g; cell = cell i } ∷ rest i
 
--- the realm that a search finds at this granule, or else in the rest; hiding other builds keeps it (`realm_kept`)
+-- the realm at granule `n` if there is one and build `c` leases the granule, otherwise `rest`; hiding other builds does
+-- not change the result (`realm_or_kept`)
 abbrev realm_or : ℕ → ℕ → Option ℕ → Cell → Option Seen → Option Seen
 realm_or c n lease cell rest = cond (same_lease lease (Some c) && is_some cell.descriptor) (Some (record { number = n; cell = cell })) rest
 
@@ -75,7 +77,8 @@ realm_kept p c n other (l ∷ leases) (cell ∷ machine) =
     ap (λ rest. realm_or c n (unleased p l) (hidden p l cell) rest) (realm_kept p c (suc n) other leases machine)
     ∙ realm_or_kept p c n other l cell (realm_from c (suc n) leases machine)
 
--- a command has the same answer and effect with some builds hidden
+-- if builds are hidden, the updates of a build that is not hidden have the same effect, and, if free granules are
+-- blank, those of a hidden build change nothing visible
 module _ (p : Option ℕ → Bool) (free : p None ≡ false) (c : ℕ) where
   after_outcome-masked : p (Some c) ≡ false → (o fewer : Outcome) (w v : World) → ((us : List Update) → o ≡ Ok us → fewer ≡ Ok us) → after_outcome c o w ≡ Some v
       → after_outcome c fewer (masked p w) ≡ Some (masked p v)
@@ -90,13 +93,13 @@ IsClean-after_outcome : (c : ℕ) (o : Outcome) (w v : World) → IsClean w → 
 IsClean-after_outcome c (Ok us) w v clean e = IsClean-updated_all c us w v clean e
 IsClean-after_outcome c (Err rmi) w v clean e = cc
 
--- a free granule stays blank
+-- if all free granules are blank before a step, all free granules are blank after it
 pub IsClean-step : (limits : Limits) (w v : World) (e : Event) → IsClean w → step limits w e ≡ Some v → IsClean v
 unfolding step
 IsClean-step limits w v e clean s = IsClean-after_outcome e.build _ w v clean (guarded (is_allowed limits w e) _ v s).1
 
 module _ (limits : Limits) (p : Option ℕ → Bool) (free : p None ≡ false) (w v : World) (e : Event) where
-  -- an event of a build that is not hidden is accepted as well if others are hidden
+  -- an accepted event of a build that is not hidden is also accepted in the world with other builds hidden
   pub step-masked : p (Some e.build) ≡ false → step limits w e ≡ Some v → step limits (masked p w) e ≡ Some (masked p v)
   unfolding step
   step-masked other s =
@@ -120,12 +123,13 @@ module _ (limits : Limits) (p : Option ℕ → Bool) (free : p None ≡ false) (
       (outcome_of limits.vmids limits.aux fewer e.act (realm_of c w) (map (seen w.machine) (named e.act))) w v
       (outcome_of-fewer limits used fewer (used-hidden p w.leases w.machine) e.act (realm_of c w) (map (seen w.machine) (named e.act))) both.1
 
-  -- an event of a hidden build is not seen
+  -- if free granules are blank, a step of a hidden build changes nothing visible
   pub masked-own_step : p (Some e.build) ≡ true → IsClean w → step limits w e ≡ Some v → masked p v ≡ masked p w
   unfolding step
   masked-own_step own clean s = masked-own_after_plan p free e.build own _ w v clean (guarded (is_allowed limits w e) _ v s).1
 
--- the world without a build has the steps of all other builds, and the part of a build has that build's own steps
+-- if free granules are blank, the world without build `b` follows the steps of the other builds alone, and the part of
+-- `b` follows the steps of `b` alone
 module _ (limits : Limits) (b : ℕ) (w v : World) (e : Event) where
   pub step-without : e.build ≢ b → step limits w e ≡ Some v → step limits (without w b) e ≡ Some (without v b)
   step-without apart s = step-masked limits (is_of b) refl w v e (ne_eqb e.build b apart) s
@@ -133,15 +137,15 @@ module _ (limits : Limits) (b : ℕ) (w v : World) (e : Event) where
   pub without-own_step : e.build ≡ b → IsClean w → step limits w e ≡ Some v → without v b ≡ without w b
   without-own_step own clean s = masked-own_step limits (is_of b) refl w v e (eq-eqb e.build b own) clean s
 
-  -- others change nothing of the part of b
+  -- if free granules are blank, a step of another build changes nothing in the part of `b`
   pub part_of-other_step : e.build ≢ b → IsClean w → step limits w e ≡ Some v → part_of v b ≡ part_of w b
   part_of-other_step apart clean s = masked-own_step limits (is_of_other b) refl w v e (ap not (ne_eqb e.build b apart)) clean s
 
-  -- a step of b is one of its part alone
+  -- a step of `b` is also a step in the part of `b` alone, and leads to the part of `b` in the new world
   pub step-part_of : e.build ≡ b → step limits w e ≡ Some v → step limits (part_of w b) e ≡ Some (part_of v b)
   step-part_of own s = step-masked limits (is_of_other b) refl w v e (ap not (eq-eqb e.build b own)) s
 
--- whether the build leases a granule is seen in its part
+-- a build leases a granule in its own part exactly if it leases the granule in the world
 pub leased_in_part : (b : ℕ) (w : World) (g : ℕ) → is_leased_to (Some b) (part_of w b).leases g ≡ is_leased_to (Some b) w.leases g
 leased_in_part b w g = ap (λ o. option_eq same_lease o (Some (Some b))) (slice_get-map (unleased (is_of_other b)) w.leases g) ∙ of_lease (slice_get w.leases g)
   where

@@ -41,7 +41,8 @@ module _ (p : Option ℕ → Bool) (free : p None ≡ false) (c : ℕ) (other : 
   after_shown (Lease g) = other
   after_shown (Free g) = free
 
-  -- the update is the same if others are hidden
+  -- if the granule has the lease that an update requires, hiding other builds before the update or after it gives the
+  -- same world
   masked-updated : (u : Update) (w : World) → is_leased_to (lease_before c u) w.leases (granule_of u) ≡ true → masked p (updated c u w) ≡ updated c u (masked p w)
   masked-updated u w h =
       let g = granule_of u in
@@ -85,14 +86,15 @@ module _ (p : Option ℕ → Bool) (free : p None ≡ false) (c : ℕ) (own : p 
   before_gone (Lease g) = stays p None free
   before_gone (Free g) = gone p (Some c) own
 
-  -- the cell that is updated is hidden or blank before the update too, since it is the build's, or free
+  -- if free granules are blank, a granule's visible cell is blank before an update by a hidden build
   before_hidden : (u : Update) (cell : Cell) → (lease_before c u ≡ None → cell ≡ blank) → hidden p (lease_before c u) cell ≡ blank
   before_hidden (Put g x) cell unheld = hide p (Some c) cell own
   before_hidden (PutByte g o v) cell unheld = hide p (Some c) cell own
   before_hidden (Lease g) cell unheld = show p None cell free ∙ unheld refl
   before_hidden (Free g) cell unheld = hide p (Some c) cell own
 
-  -- the update is not seen if the build is hidden
+  -- if free granules are blank and the granule has the required lease, an update by a hidden build changes nothing
+  -- visible
   masked-own_updated : (u : Update) (w : World) → IsClean w → is_leased_to (lease_before c u) w.leases (granule_of u) ≡ true → masked p (updated c u w) ≡ masked p w
   masked-own_updated u w clean h =
       let g = granule_of u in

@@ -20,14 +20,15 @@ after_append limits (x ∷ xs) ys w =
       | Some v ↦ after_append limits xs ys v
     ]
 
--- if all events of two parts are in turn, so are those of the first part, and those of the second part after it
+-- if `AllInTurn` holds of two joined lists of events, it holds of the first list, and of the second list after the
+-- first
 AllInTurn_split : (before xs ys : List Event) → AllInTurn before (xs ++ ys) → AllInTurn before xs × AllInTurn (before ++ xs) ys
 AllInTurn_split before [] ys h = (tt, subst (λ start. AllInTurn start ys) (sym (append-nil before)) h)
 AllInTurn_split before (x ∷ xs) ys h =
     let rest = AllInTurn_split (before ++ x ∷ []) xs ys h.1 in
     ((h.0, rest.0), subst (λ start. AllInTurn start ys) (append_assoc before (x ∷ []) xs) rest.1)
 
--- a legal history's first part is legal, and the second goes on from its world
+-- the first part `p` of a history is legal, and after it the second part `s` leads to `w` and satisfies `AllInTurn`
 pub record Split (limits : Limits) (p s : List Event) (w : World) : Type 0 where
   pub base : World
   pub legal : IsLegal limits p

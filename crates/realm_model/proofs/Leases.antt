@@ -1,4 +1,4 @@
--- Lemmas on lists of leases and of cells: tests of a lease, and the lists after a write at one granule.
+-- Lemmas on the comparison of two leases, and on lists of leases and of cells after a write at one granule.
 use Rattle.std.proofs.Common.{◌≡◌, ℕ, zero, suc, true, false, List, [], ◌∷◌, map, set, Option, Some, None, refl, sym, ap, ◌∙◌, ◌||◌}
 use Rattle.std.specs.Prelude.{slice_get, option_map, ◌==◌, replicate}
 use Rattle.std.specs.Option.{option_eq}
@@ -21,7 +21,7 @@ pub lease_same : (a : Option ℕ) → same_lease a a ≡ true
 lease_same None = refl
 lease_same (Some x) = eq-eqb x x refl
 
--- if the test for a lease passes, the granule has that lease
+-- if `o` passes the comparison with `lease`, `o` is `Some lease`
 leased_there : (o : Option (Option ℕ)) (lease : Option ℕ) → option_eq same_lease o (Some lease) ≡ true → o ≡ Some lease
 leased_there None lease e = cc
 leased_there (Some l) lease e = ap Some (lease_is l lease e)
@@ -32,7 +32,7 @@ leased lease leases g e = leased_there (slice_get leases g) lease e
 pub leased_from : (lease : Option ℕ) (leases : List (Option ℕ)) (g : ℕ) → slice_get leases g ≡ Some lease → is_leased_to lease leases g ≡ true
 leased_from lease leases g e = ap (λ o. option_eq same_lease o (Some lease)) e ∙ lease_same lease
 
--- if a change of all leases leaves a granule's lease as it is, the granule has that lease after the change
+-- applying `f` to all leases keeps the lease of a granule, if `f` does not change that lease
 pub leased-map : (f : Option ℕ → Option ℕ) (lease : Option ℕ) (leases : List (Option ℕ)) (g : ℕ) → f lease ≡ lease
     → is_leased_to lease leases g ≡ true → is_leased_to lease (map f leases) g ≡ true
 leased-map f lease leases g kept e =
@@ -49,8 +49,8 @@ each-set f (x ∷ ls) [] (suc g) l c = refl
 each-set f (x ∷ ls) (y ∷ cs) zero l c = refl
 each-set f (x ∷ ls) (y ∷ cs) (suc g) l c = ap (λ r. f x y ∷ r) (each-set f ls cs g l c)
 
--- if each cell is changed according to its lease, the new cell of a granule is its old one, changed according to the
--- granule's lease
+-- if `f` leaves a blank cell with a given lease blank, `each f` replaces the cell of a granule with that lease by the
+-- result of `f`
 pub cell_at-each : (f : Option ℕ → Cell → Cell) (ls : List (Option ℕ)) (cells : Machine) (g : ℕ) (lease : Option ℕ)
     → f lease blank ≡ blank → slice_get ls g ≡ Some lease → cell_at (each f ls cells) g ≡ f lease (cell_at cells g)
 cell_at-each f [] cells g lease none e = cc

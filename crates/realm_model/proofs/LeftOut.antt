@@ -66,7 +66,7 @@ acts_of-erase b c apart (e ∷ es) =
       | false ↦ λ other. map-act c e (erase b es) ∙ ap (acts_or (e.build == c) e) rest ∙ sym (map-act c e es)
     ] refl
 
--- no operation of the build itself is left
+-- a build has no operations in a history from which its events are left out
 pub acts_of-erased : (b : ℕ) (es : List Event) → acts_of b (erase b es) ≡ []
 acts_of-erased b [] = refl
 acts_of-erased b (e ∷ es) = elim (e.build == b) as (λ t. (e.build == b) ≡ t → acts_of b (cond (not t) (e ∷ erase b es) (erase b es)) ≡ []) [
@@ -78,7 +78,7 @@ IsInTurn-erase : (b : ℕ) (before : List Event) (e : Event) → e.build ≢ b �
 unfolding open_entries
 IsInTurn-erase b before e apart turn = λ r. ap (λ acts. option_and_then reverse_of (last_or None (unmatched acts))) (acts_of-erase b e.build apart before) ∙ turn r
 
--- if a history gets one more event, so does the history without a build, unless the event is of that build
+-- appending an event to a history appends the event to the history without a build, unless the event is of that build
 pub erase_push : (b : ℕ) (before : List Event) (e : Event) (t : Bool) → (e.build == b) ≡ t → erase b (before ++ e ∷ []) ≡ erase b before ++ cond (not t) (e ∷ []) []
 erase_push b before e t h = filter-append (λ x. not (x.build == b)) before (e ∷ []) ∙ ap (λ t. erase b before ++ cond (not t) (e ∷ []) []) h
 

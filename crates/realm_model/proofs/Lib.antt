@@ -1,4 +1,4 @@
--- Proofs about the realm model, by topic. The first topic: lemmas on tests, lists and maps.
+-- Proofs about the realm model, by topic. The first topic: lemmas on Booleans, lists and maps.
 pub mod Booleans
 pub mod Lists
 pub mod SetEach
@@ -7,7 +7,7 @@ pub mod Roots
 pub mod Same
 pub mod SameAct
 pub mod PairedKinds
--- the updates of a command, and their effect
+-- modules on the updates of a command, and on their effect
 pub mod Outcomes
 pub mod Walks
 pub mod Leases
@@ -17,27 +17,27 @@ pub mod Written
 pub mod NewRealms
 pub mod Puts
 pub mod Changes
--- a build left out
+-- modules on leaving out a build
 pub mod UsedVmids
 pub mod Clean
 pub mod HiddenUpdates
 pub mod HiddenSteps
 pub mod LeftOut
--- histories with one more event, and open operations
+-- modules on histories with one more event, and on open operations
 pub mod Stack
 pub mod Growth
 pub mod HistoryParts
 pub mod Reached
--- a build alone
+-- the module on the events of one build alone
 pub mod TakenAlone
--- steps
+-- modules on the conditions and the effect of a step
 pub mod StepSays
 pub mod Blocks
 pub mod StepBack
--- pages of builds, and the free set
+-- modules on the pages of builds, and on the free set
 pub mod Pages
 pub mod FreeSets
--- reached worlds
+-- modules on the invariants of reached worlds
 pub mod Parts
 pub mod RowKinds
 pub mod Rows
@@ -59,13 +59,13 @@ pub mod Reaching
 pub mod ZeroPages
 pub mod Vmids
 pub mod Reachable
--- capacity
+-- modules on the history capacity that builds use
 pub mod RunningRecs
 pub mod RealmAfter
 pub mod PartRealm
 pub mod Room
 pub mod Accepted
--- owning the same, and undoing
+-- modules on worlds with the same ownership, and on undoing operations
 pub mod OwnsSame
 pub mod Unpaired
 pub mod Reversal
@@ -75,30 +75,30 @@ pub mod OwnLaws
 pub mod Emptied
 pub mod Progress
 pub mod PairsLeadBack
--- the realm of a build, by its history
+-- modules on the realm of a build, by the build's history
 pub mod RealmNumbers
 pub mod OpenRealm
 pub mod OpenVmids
--- two events of different builds
+-- modules on two adjacent events of different builds
 pub mod GoesThere
 pub mod Commuting
--- all undone
+-- modules on undoing all operations of a build
 pub mod Rests
 pub mod AtRest
 pub mod UndoAll
 pub mod Aborting
--- the ownership after operations
+-- modules on the ownership after an operation
 pub mod SameMappings
 pub mod Alike
 pub mod OwnFollows
--- marks
+-- modules on marks, and on rollbacks to a mark
 pub mod StaysThere
 pub mod OthersGoOn
 pub mod RollBack
 pub mod Marks
--- worked histories
+-- the module with examples of histories
 pub mod Examples
--- the open operations of a build, and its realm
+-- modules on the RECs and the VMID of a build's realm, by the build's open operations
 pub mod EachOfRange
 pub mod Made
 pub mod RecLists

@@ -1,4 +1,4 @@
--- The proof that every reached world satisfies the invariant that links realms to the granules that they name.
+-- The proof that the invariant that links realms to the granules that they name holds after any history.
 use Rattle.std.proofs.Common.{◌<◌, ◌++◌, arith, ◌≡◌, ℕ, ◌+◌, ◌-◌, true, false, cond, inl, inr, List, [], ◌∷◌, ◌++◌, map, Option, Some, None, refl, sym, ap, ◌∙◌, subst, arith}
 use Rattle.std.specs.Prelude.{option_map, is_some, ◌==◌}
 use Rattle.std.specs.Ordering.{nat_cmp, eq_by_cmp}

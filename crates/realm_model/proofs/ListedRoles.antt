@@ -11,7 +11,7 @@ use Rattle.realm_model.specs.Command.Check.{is_in}
 use Rattle.realm_model.proofs.Lists.{is_in_at, AllDistinct}
 
 module _ (role : ℕ → Role) where
-  -- the role of a granule, if it is in the list, whose places are counted from i on
+  -- the role of granule `k` by its index in a list, or None if it is not in the list; the first element has index `i`
   abbrev role_from : ℕ → List ℕ → ℕ → Option Role
   role_from i [] k = None
   role_from i (x ∷ xs) k = cond (k == x) (Some (role i)) (role_from (suc i) xs k)
@@ -52,7 +52,7 @@ module _ (role : ℕ → Role) where
       zero_plus : (i : ℕ) → 0 + i ≡ i
       zero_plus i = omega arith
 
--- the granule that is named at a place is the list's element there
+-- if `to` pairs the element at index `i` of a list with the state `s`, the element is `to.0`, and `s` is `to.1`
 pub listed_target : (s : GranuleState) (gs : List ℕ) (i : ℕ) (to : ℕ × GranuleState) → option_map (λ g. (g, s)) (slice_get gs i) ≡ Some to → (slice_get gs i ≡ Some to.0) × (s ≡ to.1)
 listed_target s gs i to h = of_place (slice_get gs i) h
   where

@@ -1,5 +1,5 @@
--- Lemmas on lists: the last element and the rest, look-ups after a write, membership, ranges of numbers, and lists
--- without duplicates.
+-- Lemmas on lists: the last element, look-ups after a write, membership, ranges of numbers, and lists without
+-- duplicates.
 use Rattle.std.proofs.Common.{◌≡◌, ◌≢◌, ℕ, zero, suc, ◌+◌, ◌-◌, ◌<◌, ◌≤◌, Bool, true, false, cond, ◌||◌, List, [], ◌∷◌}
 use Rattle.std.proofs.Common.{◌++◌, length, set, take, drop, reverse, Option, Some, None, refl, sym, ap, ◌∙◌, arith}
 use Rattle.std.specs.Prelude.{slice_get, ◌==◌}
@@ -115,7 +115,7 @@ is_in_head k xs = ap (λ t. t || is_in k xs) (eq-eqb k k refl)
 pub is_in_more : (k x : ℕ) (xs : List ℕ) → is_in k xs ≡ true → is_in k (x ∷ xs) ≡ true
 is_in_more k x xs e = elim (k == x) as (λ t. (t || is_in k xs) ≡ true) [ true ↦ refl | false ↦ e ]
 
--- a test that each element passes is passed by each number in the list
+-- if all elements of a list pass a test, each number that `is_in` finds in the list passes the test
 pub all_in : (test : ℕ → Bool) (xs : List ℕ) (k : ℕ) → list_all test xs ≡ true → is_in k xs ≡ true → test k ≡ true
 all_in test [] k h e = cc
 all_in test (x ∷ xs) k h e =

@@ -14,8 +14,8 @@ use Rattle.realm_model.specs.Undoing.{by}
 use Rattle.realm_model.proofs.Growth.{open_entries-own, takes_away}
 use Rattle.realm_model.proofs.Stack.{pushed_paired, pushed_other, kind, paired, back, other}
 
--- the operation that a reverse takes back: for UnData, which also reverses Data, it is Unknown. For an operation that
--- is no reverse it is Activate, as a placeholder
+-- the operation that a reverse operation reverses; for UnData, the reverse of Data and of Unknown, it is Unknown. For
+-- an operation that is no reverse it is Activate, as a placeholder
 abbrev pub taken_back : Act → Act
 taken_back (UnTake order first) = Take order first
 taken_back (Undelegate granule) = Delegate granule

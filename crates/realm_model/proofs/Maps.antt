@@ -34,7 +34,8 @@ pub same_place : (q k : ℕ × ℕ) → eq_by_cmp place_cmp q k ≡ true → q �
 same_place q k e = place_cmp-IsAntisymmetric q k (equal (place_cmp q k) e)
 
 module _ {K X Y : Type 0} {R : K → K → Ordering} (total : IsTotalOrder R) (f : X → Y) where
-  -- maps that are the same by `f` stay so if one gets a value that is the same by `f` as the other's value at that key
+  -- if `m` and `n` agree up to `f`, and `m` has at `k` an `x` with `f x ≡ f y`, they still agree after `y` is inserted
+  -- at `k` of `n`
   pub same_insert : (m n : FinMap R X) (k : K) (x y : X) → get m k ≡ Some x → f x ≡ f y → ((q : K) → option_map f (get m q) ≡ option_map f (get n q))
       → (q : K) → option_map f (get m q) ≡ option_map f (get (insert n k y) q)
   same_insert m n k x y there alike same q =

@@ -8,7 +8,7 @@ use Rattle.realm_model.specs.declared.act.Event.{Event}
 use Rattle.realm_model.specs.History.{open_entries}
 use Rattle.realm_model.specs.Marks.{Mark, mark_at, IsValidMark}
 
--- a mark is valid when it is made
+-- a mark is valid when it is set
 pub valid_now : (build : ℕ) (history : List Event) → IsValidMark (mark_at build history) history
 valid_now build history = record {
   place = omega arith;
@@ -23,7 +23,7 @@ module _ (mark : Mark) (history : List Event) (event : Event) (within : mark.pla
   abbrev Deep : List Event → Type 0
   Deep es = mark.depth ≤ length (open_entries mark.build es)
 
-  -- the events before the last one are as they were
+  -- if a history has at least `n` events, one more event at its end does not change the first `n`
   early : (n : ℕ) → n ≤ length history → take n next ≡ take n history
   early n h = take-append-le n history (event ∷ []) h
 
@@ -37,7 +37,8 @@ module _ (mark : Mark) (history : List Event) (event : Event) (within : mark.pla
     | false ↦ λ e. let not_past : n ≤ length history = ltb-false (length history) n e in low not_past
   ] refl
 
-  -- the mark is valid after one more event exactly if it was, and its build has at least `depth` operations open
+  -- the mark is valid after one more event exactly if it was valid before the event and its build has at least `depth`
+  -- operations open after the event
   pub stays_valid : IsValidMark mark next ↔ (IsValidMark mark history × (mark.depth ≤ length (open_entries mark.build next)))
   stays_valid = (
     λ s. (

@@ -1,5 +1,4 @@
--- Lemmas on the creation of a realm: the cells that its updates write, and the facts that follow if all its checks
--- pass.
+-- Lemmas on the cells that the creation of a realm writes, and on the facts that follow if all its checks pass.
 use Rattle.std.proofs.Common.{◌≡◌, ◌≤◌, ◌%◌, ℕ, true, false, cond, ◌&&◌, ◌||◌, not, List, [], ◌∷◌, map, Some, refl, sym, ap, ◌∙◌}
 use Rattle.std.specs.Prelude.{◌==◌, nat_le}
 use Rattle.std.specs.List.{list_all}
@@ -18,7 +17,7 @@ use Rattle.realm_model.proofs.Lists.{AllDistinct}
 use Rattle.realm_model.proofs.Roots.{starting_tables-AllDistinct}
 use Rattle.realm_model.proofs.Written.{each_put, put_seen, seen-each_put, put_at, put_at-each_put}
 
--- the RD of a realm that has just been made
+-- the cell of the RD of a new realm
 abbrev pub new_rd : ℕ → Root → ℕ → Cell
 new_rd rd root vmid = record { state = Rd; realm = Some rd; bytes = zero_page; descriptor = Some (new_realm vmid root) }
 

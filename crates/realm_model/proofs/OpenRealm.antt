@@ -52,13 +52,13 @@ module _ (b : ℕ) (w : World) (kept : IsKept b w) where
 
 -- ---- after an operation
 
--- an operation that destroys a realm does not fit a build without a realm
+-- an operation that destroys a realm does not satisfy `fits` if its build has no realm
 never_fits : (act : Act) (gs : List Seen) → is_realm_destroy act ≡ true → fits act None gs ≡ true → ⊥
 unfolding fits
 never_fits (UnRealm rd root vmid) gs d fit = cc
 never_fits _ gs d fit = cc
 
--- the realm stays the one that the operation made
+-- the same operation creates both realms, if they have the same RD
 abbrev Stays : RealmRow → RealmRow → Type 0
 Stays d e = (k : ℕ) → maker k e ≡ maker k d
 
@@ -96,7 +96,8 @@ module _ (limits : Limits) (b : ℕ) (w v : World) (kept : IsKept b w) (kept_v :
         maker_at b v kept_v there.0 then.0 then.1 ∙ ap (λ x. x ∷ []) (then.2 there.0) ∙ sym (maker_at b w kept there.0 there.1 there.2)
   ]
 
-  -- a realm that is made is the operation's, and there was none before
+  -- if an operation that can be reversed creates a realm, the build had none before, and has the operation's realm
+  -- afterwards
   realm_made : (act r : Act) → makes_realm act ≡ true → reverse_of act ≡ Some r → LeadsBack limits b w v r → step limits w (by b act) ≡ Some v
       → (makers (realm_of b w) ≡ []) × (makers (realm_of b v) ≡ act ∷ [])
   unfolding fits reverse_of new_realm
@@ -143,14 +144,14 @@ unfolding reverse_of is_reverse
 of_back (UnRealm rd root vmid) d = (refl, refl)
 of_back _ d = cc
 
--- an operation whose reverse destroys no realm makes none
+-- an operation whose reverse destroys no realm creates no realm
 plain_newest : (newest act : Act) → is_realm_destroy act ≡ false → reverse_of newest ≡ Some act → makes_realm newest ≡ false
 unfolding reverse_of
 plain_newest (Realm rd root vmid) act plain is = let never : true ≡ false = ap is_realm_destroy (same_Some _ _ is) ∙ plain in cc
 plain_newest _ act plain is = refl
 
--- an operation equal to one that destroys a realm destroys a realm; so (`realm_newest`) an operation whose reverse
--- destroys a realm makes one
+-- an operation destroys a realm if it is equal to one that does; by `realm_newest`, an operation whose reverse destroys
+-- a realm creates one
 ends : (act act2 : Act) → is_realm_destroy act2 ≡ true → Some act ≡ Some act2 → is_realm_destroy act ≡ true
 ends act act2 d is = ap is_realm_destroy (same_Some _ _ is) ∙ d
 

@@ -20,7 +20,7 @@ use Rattle.realm_model.proofs.Reachable.{realm_of_build}
 use Rattle.realm_model.proofs.RealmOf.{IsAt, IsAt-realm_of}
 use Rattle.realm_model.proofs.ZeroPages.{kept_reached}
 
--- whether operations use a VMID does not depend on those that make no realm
+-- leaving out an operation that creates no realm does not change whether some operation uses a VMID
 one_more : (vmid : ℕ) (act : Act) (acts : List Act) → list_any (uses_vmid vmid) (cond (makes_realm act) (act ∷ acts) acts) ≡ (uses_vmid vmid act || list_any (uses_vmid vmid) acts)
 one_more vmid (Realm rd root v) acts = refl
 one_more vmid _ acts = refl

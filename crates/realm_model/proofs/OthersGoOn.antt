@@ -1,5 +1,5 @@
--- The proof that other builds' events are accepted if one build's part of the world is put back to an earlier state
--- whose granules and VMID the build still has.
+-- The proof that putting back one build's part of the world to an earlier state prevents no other build's event. The
+-- build must still have the granules and the VMID of that state.
 use Rattle.std.proofs.Common.{◌≡◌, ◌≢◌, ℕ, zero, suc, true, false, cond, ◌⊎◌, inl, inr, not, List, [], ◌∷◌, length, Option, Some, None, sym, ap, ◌∙◌, arith, pred}
 use Rattle.std.specs.Prelude.{◌==◌, slice_get}
 use Rattle.std.proofs.lemmas.Option.{same_Some}
@@ -19,7 +19,7 @@ use Rattle.realm_model.proofs.UsedVmids.{used_at, used_by, used-hidden}
 use Rattle.realm_model.proofs.StaysThere.{HasStill}
 use Rattle.realm_model.proofs.GoesThere.{goes_there, vmid_unused, was_free}
 
--- a realm is in the part of a build or in the rest
+-- each realm is in the part of build `b` or in the world without `b`
 in_either : (b : ℕ) (leases : List (Option ℕ)) (machine : Machine) → length leases ≡ length machine → (k : ℕ) (d : RealmRow) → (cell_at machine k).descriptor ≡ Some d
     → ((cell_at (each (hidden (is_of_other b)) leases machine) k).descriptor ≡ Some d) ⊎ ((cell_at (each (hidden (is_of b)) leases machine) k).descriptor ≡ Some d)
 in_either b [] [] even k d is = cc
@@ -38,14 +38,14 @@ pub record IsBack (b : ℕ) (base y x : World) : Type 0 where
   pub rest : without x b ≡ without y b
 
 module _ (limits : Limits) (b : ℕ) (base y x : World) (back : IsBack b base y x) (still : HasStill b base y) where
-  -- each granule that the build leases in x is leased to it in y
+  -- each granule that the build leases in `x` is leased to the build in `y`
   own_there : (g : ℕ) → slice_get x.leases g ≡ Some (Some b) → slice_get y.leases g ≡ Some (Some b)
   own_there g e =
       let in_base : slice_get (part_of base b).leases g ≡ Some (Some b) =
       ap (λ (w : World). slice_get w.leases g) (sym back.part) ∙ leased (Some b) (part_of x b).leases g (leased_in_part b x g ∙ leased_from (Some b) x.leases g e) in
       leased (Some b) y.leases g (sym (leased_in_part b y g) ∙ leased_from (Some b) (part_of y b).leases g (still.leases g in_base))
 
-  -- each VMID that is in use in x is in use in y
+  -- each VMID that is in use in `x` is in use in `y`
   used_there : IsSquare x → (v : ℕ) → is_in v (used_vmids x.machine) ≡ true → is_in v (used_vmids y.machine) ≡ true
   used_there square v e =
       let user = used_by v x.machine e in

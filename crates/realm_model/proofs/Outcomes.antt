@@ -1,5 +1,5 @@
--- Lemmas on the checks of a command, one at a time: which outcome each leads to, and how a property of the updates
--- follows from them.
+-- Lemmas on the outcome of a command whose checks pass, and on properties that the command's updates have because the
+-- checks pass.
 use Rattle.std.proofs.Common.{◌≡◌, ℕ, Bool, true, false, cond, List, Some, None, Ok, Err, refl, ap, subst}
 use Rattle.std.specs.FinMap.{get}
 use Rattle.realm_model.specs.declared.rmi.Rmi.{Rmi}

@@ -95,7 +95,8 @@ alike_realm rd sd d e twin same = alike_put rd.number sd.number _ _ twin.number 
 
 module _ (r s : Rows) (same : SameMappings r s) (ipa level : ℕ) (a b : Walk) (ra : walk r ipa level ≡ Some a) (sb : walk s ipa level ≡ Some b)
     (at_a : (a.level == level) ≡ true) (at_b : (b.level == level) ≡ true) where
-  -- walks that end at the given level end at rows that are equal but for their RIPAS
+  -- if rows `r` and `s` differ at most in RIPAS, walks in both that end at the given level end at rows that differ at
+  -- most in RIPAS
   end_same : mapping_of_row a.row ≡ mapping_of_row b.row
   end_same = same_Some _ _ (ap (option_map mapping_of_row) (sym (walk_at r ipa level a ra (eqb-true a.level level at_a))) ∙ same (level, first_covered level ipa)
       ∙ ap (option_map mapping_of_row) (walk_at s ipa level b sb (eqb-true b.level level at_b)))
@@ -192,7 +193,8 @@ module _ (limits : Limits) (w v : World) (cells : (g : ℕ) → SameCell (cell_a
           ),
         )))))))
 
-    -- the number of a new REC is no part of ownership, but the operation names it
+    -- if a Rec operation satisfies `fits` in both worlds, so that the new REC gets the same number, and is refused in
+    -- neither, its updates are alike
     rec_follows : (g : ℕ) (aux : ArrayVec ℕ 16 (Unit {0})) (n : ℕ) → fits (Rec g aux n) (Some rd) (map (seen w.machine) (named (Rec g aux n))) ≡ true
         → fits (Rec g aux n) (Some sd) (map (seen v.machine) (named (Rec g aux n))) ≡ true
         → Follows (Rec g aux n) (Some rd) (Some sd)
@@ -239,7 +241,7 @@ module _ (limits : Limits) (w v : World) (cells : (g : ℕ) → SameCell (cell_a
       let same = row_same _ _ d e (cells rd).descriptor is ise in
       Agree-Ok _ _ (alike_put rd rd _ _ refl (cell_itself left), alike_lefts (starting_tables d.root) (starting_tables e.root) (ap starting_tables same.root))))
 
-  -- an operation that has a reverse or is one changes both worlds alike
+  -- an operation that has a reverse, or is a reverse, makes alike updates in both worlds, if it is refused in neither
   act_follows : (act : Act) (r s : Option Seen) → (is_paired act || is_reverse act) ≡ true → AreTwins r s
       → fits act r (map (seen w.machine) (named act)) ≡ true → fits act s (map (seen v.machine) (named act)) ≡ true → Follows act r s
   unfolding outcome_of named reverse_of is_reverse

@@ -49,7 +49,7 @@ pages_of-take b history order first =
 pages_less : (b : ℕ) (history : List Event) (act : Act) (away : TakesAway b history act) → pages_of b history ≡ pages_of b (history ++ by b act ∷ []) ++ pages_held away.newest
 pages_less b history act away = ap (flat_map pages_held) away.open_is ∙ pages_push b (history ++ by b act ∷ []) away.newest
 
--- the operation that an UnTake reverses holds the pages of the UnTake's block
+-- if the reverse of an operation is an UnTake, the pages that the operation gives its build are the UnTake's block
 held_by_pair : (newest : Act) (order first : ℕ) → reverse_of newest ≡ Some (UnTake order first) → pages_held newest ≡ block order first
 unfolding reverse_of
 held_by_pair (Take order first) order' first' e = of_same (same_Some _ _ e)

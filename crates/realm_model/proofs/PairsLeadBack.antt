@@ -29,7 +29,7 @@ use Rattle.realm_model.proofs.PairBack.{pair_whole}
 use Rattle.realm_model.proofs.Progress.{undone_step}
 
 module _ (limits : Limits) (b : ℕ) (w v : World) (kept : IsKept b w) (kept_v : IsKept b v) where
-  -- a REC that is made does not run
+  -- directly after a Rec operation, the REC that the operation created does not run
   new_rests : (g : ℕ) (aux : ArrayVec ℕ 16 (Unit {0})) (n : ℕ) → step limits w (by b (Rec g aux n)) ≡ Some v → is_running (realm_of b v) (Rec g aux n) ≡ false
   unfolding fits
   new_rests g aux n s = elim (part_realm b w kept) [

@@ -1,5 +1,5 @@
--- Proofs that a build's realm in a reached world is the realm in the build's part, and that the build's count of
--- running RECs is the count in that realm.
+-- Proofs that, after any history, a realm in a build's part of the world is the build's realm, and that `running_count`
+-- counts the running RECs of that realm.
 use Rattle.std.proofs.Common.{◌≡◌, ℕ, suc, true, false, cond, ◌&&◌, ◌⊎◌, inl, inr, List, [], ◌∷◌, length, Option, Some, None, refl, sym, ap, ◌∙◌}
 use Rattle.std.specs.Prelude.{is_some, filter}
 use Rattle.std.specs.FinMap.{get}
@@ -31,7 +31,7 @@ realm_from_some b n (l ∷ leases) (c ∷ machine) rd e =
       | false ↦ λ test e. realm_from_some b (suc n) leases machine rd e
     ] refl e
 
--- the number of RECs that run, by the realm's row
+-- the number of a realm's running RECs, given the realm's row; 0 if there is no realm
 abbrev pub counted : Option RealmRow → ℕ
 counted o =
     length (filter (λ n. elim o [ Some realm ↦ is_rec_running (get realm.recs n) | None ↦ false ]) (range_with_len 0 (elim o [ Some realm ↦ realm.next | None ↦ 0 ])))
@@ -40,7 +40,7 @@ module _ (b : ℕ) (w : World) (kept : IsKept b w) where
   abbrev W : World
   W = part_of w b
 
-  -- the part has no realm, or one
+  -- the build has no realm, or its part has an RD with a realm's row
   pub part_realm : (realm_of b w ≡ None) ⊎ ((k : ℕ) × (d : RealmRow) × ((cell_at W.machine k).descriptor ≡ Some d))
   part_realm = by_realm (realm_of b W) refl (IsAt-realm_of b W)
     where

@@ -1,4 +1,5 @@
--- The conditions on a build's part that hold in every reached world: on its cells, its realm, and the realm's rows.
+-- The conditions on a build's part of the world that hold after any history: on its cells, its realm, and the realm's
+-- rows.
 use Rattle.std.specs.Prelude.{◌≡◌, ℕ, ◌%◌, ◌<◌, true, Some, None, is_some}
 use Rattle.std.specs.FinMap.{get}
 use Rattle.granule_addr.specs.Ipa.{is_width}
@@ -17,7 +18,9 @@ pub record IsSoundRealm (realm : RealmRow) : Type 0 where
   pub recs : (number : ℕ) (rec : RecRow) → get realm.recs number ≡ Some rec → number < realm.next
   pub empty : HasEmptyRows realm.root.width realm.rows
 
--- A cell of a build whose realm, if it has one, has the RD `rd`
+-- The conditions on a granule's cell, in a part in which only `rd` can be an RD. An RD belongs to its own realm and has
+-- a realm's row, which is sound. No other granule has a realm's row, and an UNDELEGATED or DELEGATED granule belongs to
+-- no realm.
 pub record IsSoundCell (rd granule : ℕ) (cell : Cell) : Type 0 where
   pub realm : is_host_state cell.state ≡ true → cell.realm ≡ None
   pub descriptor : is_some cell.descriptor ≡ is_rd_state cell.state
@@ -29,7 +32,7 @@ pub record IsSoundPart (world : World) : Type 0 where
   pub rd : ℕ
   pub cells : (granule : ℕ) → IsSoundCell rd granule (cell_at world.machine granule)
 
--- the invariant of one build's part
+-- the build's part of the world satisfies `IsSoundPart`
 abbrev pub IsSoundFor : ℕ → World → Type 0
 IsSoundFor build world = IsSoundPart (part_of world build)
 
@@ -41,6 +44,6 @@ pub record IsLinked (cells : ℕ → Cell) : Type 0 where
       → ((cells to.0).state ≡ to.1) × ((cells to.0).realm ≡ Some rd) × (roles to.0 ≡ role)
   pub named : (granule : ℕ) → is_role_state (cells granule).state ≡ true → HasRole cells granule
 
--- the links in the part of a build
+-- `IsLinked` holds of the cells in the part of the build
 abbrev pub IsLinkedFor : ℕ → World → Type 0
 IsLinkedFor build world = IsLinked (λ granule. cell_at (part_of world build).machine granule)

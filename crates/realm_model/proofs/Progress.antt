@@ -46,7 +46,7 @@ all_part_leased : (b : ℕ) (w : World) (gs : List ℕ) → list_all (is_leased_
 all_part_leased b w [] h = refl
 all_part_leased b w (g ∷ gs) h = let parts = and_parts _ _ h in and_from _ _ (part_leased b w g parts.0) (all_part_leased b w gs parts.1)
 
--- a reverse names no granule that its operation did not name
+-- the reverse of an operation names only granules that the operation names
 named_back : (test : ℕ → Bool) (act : Act) → list_all test (named act) ≡ true → list_all test (named (rev act)) ≡ true
 unfolding named
 named_back test (Data g ipa source) h = and_from _ _ (and_parts _ _ h).0 refl

@@ -72,7 +72,7 @@ module _ (limits : Limits) (w : World) (clean : IsClean w) (sized : IsSized limi
     | of_build b lease same ↦ subst P same (own b)
   ]
 
-  -- a granule with a realm is leased by a build, and has the same realm in the build's part
+  -- the RD of each realm is leased by a build, and has the same row in the build's part
   pub realm_in_part : (g : ℕ) (d : RealmRow) → IsRealmAt w g d → (b : ℕ) × (slice_get w.leases g ≡ Some (Some b)) × ((in_part b g).descriptor ≡ Some d)
   realm_in_part g d is = elim (whose g) [
     | nobodys e ↦ absurd (true_false _ (ap is_some is) (ap (λ (c : Cell). is_some c.descriptor) e))

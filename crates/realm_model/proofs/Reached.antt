@@ -1,5 +1,5 @@
--- The proof by induction that a property holds in every reached world if it holds in the opening world and each step
--- preserves it.
+-- The proof by induction that a property holds in the world after any history, if it holds in the opening world and
+-- each event preserves it.
 use Rattle.std.proofs.Common.{◌≡◌, ℕ, List, [], ◌∷◌, length, Option, Some, None, Ok, Err, refl, sym, ◌∙◌, subst, ◌++◌}
 use Rattle.std.proofs.lemmas.Option.{same_Some, option_and_then_some}
 use Rattle.std.proofs.lemmas.List.{length-set, length-replicate, append_assoc, append-nil}
@@ -70,7 +70,8 @@ module _ (limits : Limits) (P : List Event → World → Type 0)
       subst (λ es. P es v) (append_assoc before (e ∷ []) es)
       (kept_legal (before ++ e ∷ []) es x v grown.legal grown.world_is (kept before w x e legal at_w h turns.0 stepped) turns.1 rest))
 
-  -- a property of the opening world that each event in turn preserves holds of every legal history and its world
+  -- a property of histories and their worlds holds of each legal history if it holds at the opening world and each step
+  -- that `IsInTurn` allows preserves it
   pub of_legal : P [] (opening limits) → (history : List Event) (w : World) → IsLegal limits history → replay limits history ≡ Some w → P history w
   unfolding after
   of_legal first history w legal at_w =

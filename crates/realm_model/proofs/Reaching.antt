@@ -27,7 +27,8 @@ use Rattle.realm_model.proofs.Walks.{walk_end}
 use Rattle.realm_model.proofs.RowKinds.{assigned_target}
 use Rattle.realm_model.proofs.Parts.{IsLinkedFor}
 
--- a cell of a part that is neither UNDELEGATED nor DELEGATED is leased by the build
+-- if free granules are blank, each granule of a build's part that is neither UNDELEGATED nor DELEGATED is leased by the
+-- build
 pub state_leased : (b : ℕ) (leases : List (Option ℕ)) (machine : Machine) → each scrubbed leases machine ≡ machine → (g : ℕ)
     → is_host_state (cell_at (each (hidden (is_of_other b)) leases machine) g).state ≡ false
     → slice_get (map (unleased (is_of_other b)) leases) g ≡ Some (Some b)

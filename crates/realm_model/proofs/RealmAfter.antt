@@ -39,7 +39,7 @@ module _ (limits : Limits) (w : World) (sound : IsSoundPart w) (T : RealmRow →
   abbrev now : ℕ → Cell
   now k = cell_at w.machine k
 
-  -- a realm that exists exists after the updates, changed as `T` allows
+  -- after the updates each realm still exists, and `T` relates its `RealmRow` before the updates to the one after
   abbrev S : List Update → Type 0
   S us = (k : ℕ) (d : RealmRow) → (now k).descriptor ≡ Some d → (e : RealmRow) × ((put_at us k (now k)).descriptor ≡ Some e) × T d e
 
@@ -69,7 +69,7 @@ module _ (limits : Limits) (w : World) (sound : IsSoundPart w) (T : RealmRow →
   realm_sound : (rd : Seen) (d : RealmRow) → now rd.number ≡ rd.cell → rd.cell.descriptor ≡ Some d → IsSoundRealm d
   realm_sound rd d at is = (subst (IsSoundCell sound.rd rd.number) at (sound.cells rd.number)).row d is
 
-  -- no realm's granule is touched
+  -- `S` holds of updates that change no realm's row, if `T` relates each row to itself
   module _ (same : (d : RealmRow) → T d d) where
     as_it_was : (us : List Update) → ((k : ℕ) (d : RealmRow) → (now k).descriptor ≡ Some d → (put_at us k (now k)).descriptor ≡ Some d) → S us
     as_it_was us stays k d there = (d, stays k d there, same d)
@@ -149,7 +149,7 @@ module _ (limits : Limits) (w : World) (sound : IsSoundPart w) (T : RealmRow →
 
 -- ---- steps
 
--- the number of RECs that run after an operation, by the number before
+-- if the first number of RECs runs before the operation, the second number runs after it
 abbrev pub RunsAfter : Act → ℕ → ℕ → Type 0
 RunsAfter (Enter n) x y = y ≡ x + 1
 RunsAfter (Exit n) x y = y + 1 ≡ x
@@ -171,7 +171,8 @@ allowed limits w sound (Enter n) k = λ d rec h there ready. (refl, running-star
 allowed limits w sound (Exit n) k = λ d rec h there ready. (refl, running-stop d.recs d.next n (record rec { state = Ready }) (h.recs n rec there) (ap is_rec_running there ∙ ap not ready) refl)
 allowed limits w sound act k = λ d e same. (ap (λ (x : RealmRow). x.vmid) same, ap (λ (x : RealmRow). running x.recs x.next) same)
 
--- the realm of a part exists after each operation but its destruction, changed as the operation allows
+-- if `T` allows each change of a realm by an operation, each realm still exists after the operation, and `T` relates
+-- its `RealmRow` before to the one after
 pub turned_by : (limits : Limits) (b : ℕ) (w v : World) (act : Act) (T : RealmRow → RealmRow → Type 0) → IsSquare w → (sound : IsSoundPart w)
     → (realm_of b w ≡ None → (k : ℕ) → (cell_at w.machine k).descriptor ≡ None)
     → Allows limits w sound T act → step limits w (by b act) ≡ Some v → (k : ℕ) (d : RealmRow) → (cell_at w.machine k).descriptor ≡ Some d → (e : RealmRow)
@@ -186,7 +187,7 @@ pub realm_turned : (limits : Limits) (b : ℕ) (w v : World) (act : Act) → IsS
     → step limits w (by b act) ≡ Some v → (k : ℕ) (d : RealmRow) → (cell_at w.machine k).descriptor ≡ Some d → (e : RealmRow) × ((cell_at v.machine k).descriptor ≡ Some e) × Turns act d e
 realm_turned limits b w v act square sound none plain = turned_by limits b w v act (Turns act) square sound none (allowed limits w sound act plain)
 
--- after a realm is created where there was none, each realm is the new one
+-- after a realm is created where there was none, no granule has a realm's row other than the new realm's
 made_new : (limits : Limits) (w : World) (rd : ℕ) (root : Root) (v : ℕ) (realm : Option Seen) → ((k : ℕ) → (cell_at w.machine k).descriptor ≡ None)
     → Yields (λ us. (k : ℕ) (e : RealmRow) → (put_at us k (cell_at w.machine k)).descriptor ≡ Some e → e ≡ new_realm v root)
     (outcome_of limits.vmids limits.aux (used_vmids w.machine) (Realm rd root v) realm (map (seen w.machine) (named (Realm rd root v))))
@@ -197,7 +198,7 @@ made_new limits w rd root v realm none =
     P : List Update → Type 0
     P us = (k : ℕ) (e : RealmRow) → (put_at us k (cell_at w.machine k)).descriptor ≡ Some e → e ≡ new_realm v root
 
--- a realm that is destroyed ran no REC, and no realm is left
+-- if the destruction of a realm is not refused, the realm had no running REC, and no realm is left
 destroyed : (limits : Limits) (w : World) (sound : IsSoundPart w) (rd : ℕ) (root : Root) (v : ℕ) (realm : Option Seen)
     → Yields (λ us. ((k : ℕ) (e : RealmRow) → (put_at us k (cell_at w.machine k)).descriptor ≡ Some e → ⊥)
     × ((k : ℕ) (d : RealmRow) → (cell_at w.machine k).descriptor ≡ Some d → running d.recs d.next ≡ 0))
@@ -214,8 +215,8 @@ destroyed limits w sound rd root v realm = Yields-with_realm P _ _ (λ d is. Yie
     P : List Update → Type 0
     P us = ((k : ℕ) (e : RealmRow) → (put_at us k (cell_at w.machine k)).descriptor ≡ Some e → ⊥) × ((k : ℕ) (d : RealmRow) → (cell_at w.machine k).descriptor ≡ Some d → running d.recs d.next ≡ 0)
 
--- After a step that creates a realm where there was none, each realm is the new one. After a step that destroys a realm
--- (`realm_gone_step`), no realm is left, and no REC of the realm was running.
+-- After a step that creates a realm where there was none, no granule has a realm's row other than the new realm's.
+-- After a step that destroys a realm (`realm_gone_step`), no realm is left, and no REC of the realm was running.
 pub realm_made_step : (limits : Limits) (b : ℕ) (w v : World) (rd : ℕ) (root : Root) (vmid : ℕ) → IsSquare w → ((k : ℕ) → (cell_at w.machine k).descriptor ≡ None)
     → step limits w (by b (Realm rd root vmid)) ≡ Some v
     → (k : ℕ) (e : RealmRow) → (cell_at v.machine k).descriptor ≡ Some e → e ≡ new_realm vmid root

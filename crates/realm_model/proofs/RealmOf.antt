@@ -1,5 +1,5 @@
--- Proofs that the RD of a build's realm is leased by the build and has the realm's row, and that other builds' steps
--- change neither.
+-- Proofs that a build leases the RD of its realm, that the RD's cell holds the realm's attributes, and that other
+-- builds' events change neither.
 use Rattle.std.proofs.Common.{◌≡◌, ◌≢◌, ℕ, zero, suc, ◌+◌, Bool, true, false, cond, ◌&&◌, not, List, [], ◌∷◌, ◌++◌, length, Option, Some, None, refl, sym, ap, ◌∙◌, subst, arith, pred}
 use Rattle.std.specs.Prelude.{is_some, slice_get, ◌==◌}
 use Rattle.std.proofs.lemmas.Bool.{and_parts, and_from, eq-eqb}
@@ -63,7 +63,7 @@ IsHeld-realm_from b front (l ∷ leases) (c ∷ machine) =
 pub IsHeld-realm_of : (b : ℕ) (w : World) → IsHeld b w.leases (realm_of b w)
 IsHeld-realm_of b w = IsHeld-realm_from b [] w.leases w.machine
 
--- a test that passes for a build's realm passes for the realm's RD and row
+-- if the realm of the RD `rd` passes a test by `realm_is`, the test holds of `rd` and the realm's row
 pub realm_test : (rd : Seen) (d : RealmRow) (test : Seen → RealmRow → Bool) → realm_is (Some rd) test ≡ true → rd.cell.descriptor ≡ Some d → test rd d ≡ true
 realm_test rd d test fit is = sym (ap (λ o. elim o [ Some realm ↦ test rd realm | None ↦ false ]) is) ∙ fit
 
@@ -85,11 +85,11 @@ no_row b n (l ∷ leases) [] clean none g = refl
 no_row b n (l ∷ leases) (c ∷ machine) clean none zero = no_row_here b l c (ap (head_or blank) clean) (neither _ _ _ none).0
 no_row b n (l ∷ leases) (c ∷ machine) clean none (suc g) = no_row b (suc n) leases machine (ap tail clean) (neither _ _ _ none).1 g
 
--- the realm of a build is that of its part
+-- a build has the same realm in its part as in the world
 pub realm_of-part_of : (b : ℕ) (w : World) → realm_of b (part_of w b) ≡ realm_of b w
 realm_of-part_of b w = realm_kept (is_of_other b) b 0 (ap not (eq-eqb b b refl)) w.leases w.machine
 
--- a step of another build leaves a build's realm as it is
+-- if free granules are blank, a step of another build leaves a build's realm as it is
 pub realm_of-other_step : (limits : Limits) (b : ℕ) (w v : World) (e : Event) → e.build ≢ b → IsClean w → step limits w e ≡ Some v → realm_of b v ≡ realm_of b w
 realm_of-other_step limits b w v e apart clean s = sym (realm_of-part_of b v) ∙ ap (realm_of b) (part_of-other_step limits b w v e apart clean s) ∙ realm_of-part_of b w
 

@@ -1,12 +1,12 @@
--- Lemmas about lists of numbered RECs, after a REC is added at the end or the last one is removed: which RECs are
--- found, and when the numbers rise.
+-- Lemmas on what a look-up by number finds in a list of RECs, and on lists with rising numbers, when the last REC is
+-- added or removed.
 use Rattle.std.proofs.Common.{◌≡◌, ℕ, zero, suc, ◌+◌, ◌<◌, ◌==◌, true, false, cond, List, [], ◌∷◌, ◌++◌, length, Option, Some, None, refl, sym, ap, ◌∙◌, subst, arith, ⊎_elim}
 use Rattle.std.specs.Prelude.{is_some}
 use Rattle.std.proofs.lemmas.Bool.{cases_eq, eq-eqb, ne_eqb}
 use Rattle.std.proofs.lemmas.List.{get_or_append_left, get_or-append-add, length-append}
 use Rattle.realm_model.specs.RecsOpen.{granule_in, number_at, IsRising}
 
--- the granule that a list has for the number `m`, or else that of one more REC after the list, if its number is `m`
+-- the granule of REC `m` in a list that ends with REC `number`, given the granule of REC `m` in the rest of the list
 abbrev pub or_last : Option ℕ → ℕ → ℕ → ℕ → Option ℕ
 or_last (Some g) number granule m = Some g
 or_last None number granule m = cond (number == m) (Some granule) None
@@ -33,7 +33,7 @@ push_same recs number granule none =
     ∙ ap (λ o. or_last o number granule number) none
     ∙ ap (λ t. cond t (Some granule) None) (eq-eqb number number refl)
 
--- a number that is in the list is found
+-- `granule_in` finds each number that is in the list
 pub found_at : (recs : List (ℕ × ℕ)) (i : ℕ) → i < length recs → is_some (granule_in recs (number_at recs i)) ≡ true
 found_at [] i inside = absurd (omega arith)
 found_at (rec ∷ recs) zero inside = ap (λ t. is_some (cond t (Some rec.1) (granule_in recs rec.0))) (eq-eqb rec.0 rec.0 refl)
@@ -42,7 +42,7 @@ found_at (rec ∷ recs) (suc i) inside = elim (rec.0 == number_at recs i) as (λ
   | false ↦ found_at recs i (omega arith)
 ]
 
--- a number that is not in the list is not found
+-- `granule_in` gives None for a number that is not in the list
 pub not_found : (recs : List (ℕ × ℕ)) (number : ℕ) → ((i : ℕ) → i < length recs → number_at recs i ≡ number → ⊥) → granule_in recs number ≡ None
 not_found [] number never = refl
 not_found (rec ∷ recs) number never =
@@ -78,7 +78,7 @@ rising_pop recs rec rising i j less inside =
     subst (λ n. n < number_at recs j) (before_last recs rec i (omega arith))
     (subst (λ n. number_at (recs ++ rec ∷ []) i < n) (before_last recs rec j inside) (rising i j less (omega arith)))
 
--- the last number is not among those before it
+-- if the numbers in a list rise, the last number is not among the numbers before it
 pub last_is_new : (recs : List (ℕ × ℕ)) (number granule : ℕ) → IsRising (recs ++ (number, granule) ∷ []) → granule_in recs number ≡ None
 last_is_new recs number granule rising = not_found recs number (λ i inside same.
     let count = long recs (number, granule) in

@@ -28,7 +28,7 @@ use Rattle.realm_model.proofs.Parts.{IsSoundPart, IsLinked}
 abbrev pub auxes : ℕ → List ℕ → List Update
 auxes n gs = each_put (held RecAux n) gs
 
--- the roles of the granules of a REC
+-- the role of granule `k` in REC `m`, whose granules are `g` and the auxiliary `gs`, or None if `k` is none of these
 abbrev rec_role : ℕ → ℕ → List ℕ → ℕ → Option Role
 rec_role m g gs k = cond (k == g) (Some (AsRec m)) (listed_role (AsAux m) gs k)
 
@@ -84,7 +84,8 @@ module _ (w : World) (sound : IsSoundPart w) (old : IsLinked (λ k. cell_at w.ma
       out k f = granules k
           ∙ elim (k == g) as (λ t. cond t (Some (AsRec m)) (listed_role (AsAux m) gs k) ≡ None → (t || is_in k gs) ≡ false) [ true ↦ λ f. cc | false ↦ λ f. listed_out (AsAux m) gs k f ] f
 
-      -- after the updates, the REC's granule has the cell of a REC, and each auxiliary granule that of an auxiliary
+      -- after the updates, the REC's granule has the cell of a REC, and (`at_aux`) each auxiliary granule has the cell
+      -- of an auxiliary granule
       at_rec : (k : ℕ) → k ≡ g → put_at us k (now k) ≡ c
       at_rec k here = written k (now k)
           ∙ ap (λ t. cond t (held RecAux n) (cond (k == g) c (now k))) (ap (λ j. is_in j gs) here ∙ different.0)

@@ -37,7 +37,7 @@ use Rattle.realm_model.proofs.Written.{IsSquare, put_at, put_last, cell_put}
 use Rattle.realm_model.proofs.ZeroPages.{IsKept}
 use Rattle.realm_model.specs.Places.{rec_granule}
 
--- the granule of a realm's REC of that number
+-- the granule of a realm's REC with the given number, or None if there is no such REC
 abbrev pub granule_of : RealmRow → ℕ → Option ℕ
 granule_of realm number = option_map (λ (rec : RecRow). rec.granule) (get realm.recs number)
 
@@ -155,7 +155,8 @@ module _ (limits : Limits) (b : ℕ) (w v : World) (kept : IsKept b w) (kept_v :
         | inr there ↦ granule_at b w kept m there.0 there.1 there.2 ∙ empty there.0 there.1 there.2 m
       ]
 
-  -- the RECs stay, unless one is made or removed
+  -- an operation that neither creates nor destroys a REC leaves the RECs of the build's realm the same, by number and
+  -- granule
   pub recs_stay : (act : Act) → is_of_recs act ≡ false → step limits w (by b act) ≡ Some v → StaysAll
   recs_stay (Realm rd root vmid) plain s = made_stays rd root vmid s
   recs_stay (UnRealm rd root vmid) plain s = gone_stays rd root vmid s
@@ -167,7 +168,7 @@ module _ (limits : Limits) (b : ℕ) (w v : World) (kept : IsKept b w) (kept_v :
 abbrev Gains : ℕ → RealmRow → RealmRow → Type 0
 Gains granule d e = (m : ℕ) → granule_of e m ≡ cond (eq_by_cmp nat_cmp m d.next) (Some granule) (granule_of d m)
 
--- a realm that exists gains a REC by the updates
+-- after the updates, each realm of the world still exists and has gained a REC with the given granule
 abbrev GainsBy : World → ℕ → List Update → Type 0
 GainsBy w granule us = (k : ℕ) (d : RealmRow) → (cell_at w.machine k).descriptor ≡ Some d → (e : RealmRow) × ((put_at us k (cell_at w.machine k)).descriptor ≡ Some e) × Gains granule d e
 
@@ -236,7 +237,7 @@ cond_none true = refl
 cond_none false = refl
 
 module _ (limits : Limits) (b : ℕ) (w v : World) (kept : IsKept b w) (kept_v : IsKept b v) where
-  -- a REC that is made has this granule and a number above all others, and the other RECs stay
+  -- the step adds a REC with this granule and the number `n`, above all others, and each other REC keeps its granule
   pub record IsRecMade (granule n : ℕ) : Type 0 where
     pub below : (m : ℕ) → is_some (rec_granule (realm_of b w) m) ≡ true → m < n
     pub gains : (m : ℕ) → rec_granule (realm_of b v) m ≡ cond (eq_by_cmp nat_cmp m n) (Some granule) (rec_granule (realm_of b w) m)
@@ -271,7 +272,8 @@ module _ (limits : Limits) (b : ℕ) (w v : World) (kept : IsKept b w) (kept_v :
       never None e h = cc
       never (Some rd) e h = cc
 
-  -- a REC that is removed is gone, and the others stay
+  -- after UnRec, the number of the destroyed REC has no granule, and each other REC number has the granule that it had
+  -- before
   pub rec_is_gone : (granule : ℕ) (aux : ArrayVec ℕ 16 (Unit {0})) (n : ℕ) → step limits w (by b (UnRec granule aux n)) ≡ Some v
       → (m : ℕ) → rec_granule (realm_of b v) m ≡ cond (eq_by_cmp nat_cmp m n) None (rec_granule (realm_of b w) m)
   rec_is_gone granule aux n s m =

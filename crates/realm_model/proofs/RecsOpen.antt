@@ -38,7 +38,8 @@ other_key m n apart = false_from (eq_by_cmp nat_cmp m n) (λ same. apart (nat_pl
 
 -- ---- what is open
 
--- the number and the granule of the REC that a reverse removes
+-- the number and the granule of the REC that a reverse operation removes, alone in a list; the empty list for any
+-- operation that removes no REC
 abbrev pub rec_removed : Act → List (ℕ × ℕ)
 rec_removed act = rec_made (taken_back act)
 
@@ -79,7 +80,7 @@ module _ (limits : Limits) (before : List Event) (w v : World) (legal : IsLegal 
       rising = subst IsRising (sym (same_open plain)) was.rising;
     }
 
-  -- the RECs are still those of the open Rec operations after a Rec operation makes one
+  -- the RECs are still those of the open Rec operations after a Rec operation creates a REC
   made_step : (granule : ℕ) (aux : ArrayVec ℕ 16 (Unit {0})) (n : ℕ) → IsInTurn before (by b (Rec granule aux n)) → step limits w (by b (Rec granule aux n)) ≡ Some v
       → RecsAreOpen (before ++ by b (Rec granule aux n) ∷ []) v b
   unfolding reverse_of

@@ -76,8 +76,10 @@ pub record Reversal (limits : Limits) (b : ℕ) (u w : World) (act r : Act) : Ty
 abbrev pub Leaves : World → ℕ → Type 0
 Leaves u g = SameCell (cell_at u.machine g) left
 
--- the ownership before updates is restored if the granules that were outside the realm leave it, and the others are
--- written as they were
+-- The ownership before the updates `us` is restored when the granules `gs` become DELEGATED again and the updates
+-- `tail` are made. This is done in `w`, a world with the ownership that `us` led to. Before `us`, the granules `gs`
+-- were DELEGATED and in no realm. `us` changed only `gs` and the granules of `tail`, and `tail` writes cells with the
+-- old ownership.
 pub back_left : (u w : World) (us tail : List Update) (gs : List ℕ) → map granule_of us ≡ gs ++ map granule_of tail
     → ((g : ℕ) → is_in g gs ≡ true → Leaves u g)
     → ((k : ℕ) (c : Cell) → is_in k (map granule_of tail) ≡ true → SameCell (cell_at u.machine k) (put_at tail k c))
@@ -96,7 +98,7 @@ back_left u w us tail gs granules leave tailed same k =
           ] refl)
     ] refl)
 
--- a last write of a cell with the old ownership restores the ownership of its granule
+-- if cell `x` has the ownership of granule `n` in world `u`, writing `x` to `n` restores that ownership
 pub tail_one : (u : World) (n : ℕ) (x : Cell) → SameCell (cell_at u.machine n) x → (k : ℕ) (c : Cell) → is_in k (n ∷ []) ≡ true → SameCell (cell_at u.machine k) (put_at (Put n x ∷ []) k c)
 tail_one u n x h k c e =
     let here : (k == n) ≡ true = at_one (k == n) e in
@@ -261,7 +263,8 @@ module _ (limits : Limits) (b : ℕ) (u w : World) (su : IsSoundPart u) (sw : Is
         ready_if = λ r. refl;
       }
 
-  -- the realm has a row that leads to the granule
+  -- if the row of `ipa` at a level leads to granule `g`, the build's realm passes the test that its row of `ipa` at
+  -- this level leads to `g`
   fits_row : (n level ipa g : ℕ) (d2 : RealmRow) (row : Row) → realm_of b w ≡ Some (seen w.machine n) → (cell_at w.machine n).descriptor ≡ Some d2
       → row_at d2.rows level ipa ≡ Some row → row.granule ≡ Some g → realm_is (realm_of b w) (λ x y. leads_to (row_at y.rows level ipa) g) ≡ true
   fits_row n level ipa g d2 row found there at granule =

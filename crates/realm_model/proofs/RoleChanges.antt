@@ -24,7 +24,7 @@ use Rattle.realm_model.proofs.Parts.{IsSoundPart, IsLinked}
 pub no_descriptor : (c : Cell) (e : RealmRow) → c.descriptor ≡ None → c.descriptor ≡ Some e → ⊥
 no_descriptor c e none some = true_false _ (ap is_some some) (ap is_some none)
 
--- a write of a cell with no realm row makes none
+-- if a granule has a realm's row after a cell without such a row is written, the granule had the same row before
 pub bare_one : (g : ℕ) (x : Cell) → x.descriptor ≡ None → (k : ℕ) (c : Cell) (e : RealmRow) → (put_at (Put g x ∷ []) k c).descriptor ≡ Some e → c.descriptor ≡ Some e
 bare_one g x none k c e h = elim (k == g) as (λ t. (cond t x c).descriptor ≡ Some e → c.descriptor ≡ Some e) [ true ↦ λ h. absurd (no_descriptor x e none h) | false ↦ λ h. h ] h
 
@@ -42,7 +42,7 @@ module _ (w : World) (sound : IsSoundPart w) where
       stands : (k : ℕ) (e : RealmRow) → (now k).descriptor ≡ Some e → k ≡ sound.rd
       stands k e is = (sound.cells k).alone (sym (sound.cells k).descriptor ∙ ap is_some is)
 
-  -- the RD of a realm has no role
+  -- the RD of a realm is not in the state of a role
   pub rd_no_role : (k : ℕ) (d : RealmRow) → (now k).descriptor ≡ Some d → is_role_state (now k).state ≡ false
   rd_no_role k d is = of_state (now k).state (sym (sound.cells k).descriptor ∙ ap is_some is)
     where
@@ -160,7 +160,7 @@ module _ (w : World) (sound : IsSoundPart w) where
             | false ↦ λ other. let cell = put_other us k (now k) out in (ap (λ (c : Cell). c.state) cell, ap (λ (c : Cell). c.realm) cell)
           ] refl)
 
-      -- the last update changes no granule that is UNDELEGATED or DELEGATED
+      -- the update of the RD changes no granule that is UNDELEGATED or DELEGATED
       elsewhere : (k : ℕ) → is_host_state (now k).state ≡ true → put_at all k (now k) ≡ put_at us k (now k)
       elsewhere k host = split k
           ∙ elim (k == n) as (λ t. (k == n) ≡ t → cond t z (put_at us k (now k)) ≡ put_at us k (now k)) [
@@ -195,9 +195,10 @@ module _ (w : World) (sound : IsSoundPart w) where
                 ] refl
           ] refl (sym (ap (λ (c : Cell). is_role_state c.state) (split g)) ∙ h)
 
-      -- The invariant holds if the realm names only granules that it named before, which are not updated, and fresh
-      -- ones that were UNDELEGATED or DELEGATED. Each granule that it names no longer must be updated, and each updated
-      -- granule in a role's state must be named.
+      -- The invariant holds if the realm names only granules that were named before and are not updated, and fresh
+      -- granules. Those were UNDELEGATED or DELEGATED, and the updates give them the realm and the state of their role.
+      -- Each granule that the realm names no longer must be updated, and each updated granule in a role's state must be
+      -- named.
       pub changed : (fresh : ℕ → Option Role) → ((k : ℕ) (q : Role) → fresh k ≡ Some q → is_host_state (now k).state ≡ true)
           → ((p : Role) (to : ℕ × GranuleState) → target e1 p ≡ Some to →
           ((target d p ≡ Some to) × (fresh to.0 ≡ None → old.roles to.0 ≡ p → is_in to.0 (map granule_of us) ≡ false))

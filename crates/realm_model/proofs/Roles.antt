@@ -1,6 +1,6 @@
--- Proofs about the states of granules with a role, and about changes that preserve the invariant that links realms to
--- the granules that they name. Each granule that a realm names after such a change had no role before, or keeps its
--- state and its realm.
+-- Proofs about the states of granules that have a role in a realm, and about changes that preserve the invariant that
+-- links realms to the granules that they name. Each granule that a realm names after such a change had no role before,
+-- or keeps its state and its realm.
 use Rattle.std.proofs.Common.{◌≡◌, ℕ, true, false, ◌⊎◌, inl, inr, List, Option, Some, None, refl, sym, ap, ◌∙◌}
 use Rattle.std.specs.Prelude.{option_map, slice_get}
 use Rattle.std.specs.FinMap.{get}
@@ -25,7 +25,7 @@ role_no_host Delegated h = cc
 role_no_host Rd h = cc
 role_no_host _ h = refl
 
--- a property of the states UNDELEGATED and DELEGATED holds of each state of a granule of the host
+-- if a property holds of UNDELEGATED and of DELEGATED, it holds of each state that satisfies `is_host_state`
 of_host : (P : GranuleState → Type 0) → P Undelegated → P Delegated → (s : GranuleState) → is_host_state s ≡ true → P s
 of_host P undelegated delegated Undelegated h = undelegated
 of_host P undelegated delegated Delegated h = delegated
@@ -82,8 +82,9 @@ abbrev pub SameHead : Cell → Cell → Type 0
 SameHead c d = (c.state ≡ d.state) × (c.realm ≡ d.realm)
 
 module _ (cells after : ℕ → Cell) (old : IsLinked cells) where
-  -- The invariant still holds if each granule that a realm names was named before and keeps its state and realm, or is
-  -- fresh and had no role. Each granule in a role's state must be named.
+  -- The invariant still holds if no realm is new and each granule that a realm names either keeps its role, state and
+  -- realm, or is fresh. A fresh granule had no role, and now has the realm and the state of its role. Each granule in a
+  -- role's state must be named.
   pub linked_after : (fresh : ℕ → Option Role) → ((k : ℕ) (q : Role) → fresh k ≡ Some q → is_role_state (cells k).state ≡ false)
       → ((k : ℕ) (e : RealmRow) → (after k).descriptor ≡ Some e → (d : RealmRow) × ((cells k).descriptor ≡ Some d) × ((p : Role) (to : ℕ × GranuleState) → target e p ≡ Some to →
       ((target d p ≡ Some to) × (fresh to.0 ≡ None → old.roles to.0 ≡ p → SameHead (after to.0) (cells to.0)))

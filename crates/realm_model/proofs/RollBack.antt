@@ -41,8 +41,8 @@ module _ (limits : Limits) (b : ℕ) (p : List Event) (base : World) (legal_p : 
   abbrev KeptHere : List Act → List Event → World → Type 0
   KeptHere st history w = Kept limits b (SameFor b) (IsSound b) (laws limits b) base below st history w
 
-  -- The other builds' events of the second part are legal after the first. They lead to a world in which the build's
-  -- part is as after the first part, and everything else is as after both.
+  -- Without the build's events, the second part `s` of a history is legal after the first part `p`. In the world that
+  -- results, the build's part is as after `p`, and everything else is as after both parts.
   record Both (s : List Event) (y : World) : Type 0 where
     pub stack : List Act
     pub kept : KeptHere stack (p ++ s) y
@@ -55,7 +55,7 @@ module _ (limits : Limits) (b : ℕ) (p : List Event) (base : World) (legal_p : 
   abbrev Deep : List Event → Type 0
   Deep history = length below ≤ length (open_entries b history)
 
-  -- `Both` still holds after one more event in turn, if the build then satisfies `Deep`
+  -- `Both` still holds after one more step that `IsInTurn` allows, if `Deep` holds after this step
   both_step : (s : List Event) (y v : World) (e : Event) → replay limits (p ++ s) ≡ Some y → Both s y → IsInTurn (p ++ s) e → step limits y e ≡ Some v
       → Deep (p ++ (s ++ e ∷ [])) → Both (s ++ e ∷ []) v
   both_step s y v e at_y h turn stepped deep =
@@ -90,7 +90,7 @@ module _ (limits : Limits) (b : ℕ) (p : List Event) (base : World) (legal_p : 
             }
       ] refl
 
-  -- `Both` still holds after further events in turn, if the build satisfies `Deep` before and after each of them
+  -- `Both` still holds after further steps that `AllInTurn` allows, if `Deep` holds before and after each of them
   both_after : (s es : List Event) (y v : World) → IsLegal limits (p ++ s) → replay limits (p ++ s) ≡ Some y → Both s y → AllInTurn (p ++ s) es → after limits es y ≡ Some v
       → ((n : ℕ) → Deep (p ++ (s ++ take n es))) → Both (s ++ es) v
   unfolding after
@@ -119,7 +119,8 @@ module _ (limits : Limits) (b : ℕ) (p : List Event) (base : World) (legal_p : 
 
 -- ---- the mark
 
--- without the build's events from `place` on, a history is the same whether or not the build does more at its end
+-- further events of the build at the end of a history do not change the history without the build's events from `place`
+-- on
 erase_after_own : (b place : ℕ) (history : List Event) (acts : List Act) → place ≤ length history → erase_after b place (history ++ map (by b) acts) ≡ erase_after b place history
 erase_after_own b place history acts within =
     (λ i. take-append-le place history (map (by b) acts) within i ++ erase b (drop-append-le place history (map (by b) acts) within i))

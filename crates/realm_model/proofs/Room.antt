@@ -116,21 +116,22 @@ module _ (limits : Limits) (b : ℕ) (w v : World) (kept : IsKept b w) (kept_v :
 
 -- ---- the capacity
 
--- a paired operation takes two entries of a build's capacity, and keeps the count of running RECs
+-- an operation that has a reverse takes the capacity of two events, and keeps the count of running RECs
 room_of_paired : (act : Act) (x y : ℕ) → is_paired act ≡ true → RunsAfter act x y → (room_taken act ≡ 2) × (y ≡ x)
 unfolding room_taken reverse_of
 room_of_paired (Enter n) x y p r = cc
 room_of_paired (Exit n) x y p r = cc
 room_of_paired act x y p r = (ap (λ t. cond t 2 (cond (is_reverse act) 0 1)) p, r)
 
--- a reverse takes no entry, and keeps the count of running RECs
+-- a reverse takes no capacity, and keeps the count of running RECs
 room_of_back : (act : Act) (x y : ℕ) → is_paired act ≡ false → is_reverse act ≡ true → RunsAfter act x y → (room_taken act ≡ 0) × (y ≡ x)
 unfolding room_taken is_reverse
 room_of_back (Enter n) x y p b r = cc
 room_of_back (Exit n) x y p b r = cc
 room_of_back act x y p b r = ((λ i. cond (p i) 2 (cond (b i) 0 1)), r)
 
--- any other operation takes one entry, plus the change of the count of running RECs
+-- an operation that neither has a reverse nor is one takes the capacity of one event, plus the change of the count of
+-- running RECs
 room_of_other : (act : Act) (x y : ℕ) → is_paired act ≡ false → is_reverse act ≡ false → RunsAfter act x y → y + 1 ≡ x + room_taken act
 unfolding room_taken
 room_of_other (Enter n) x y p b r = omega arith

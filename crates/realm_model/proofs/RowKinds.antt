@@ -29,7 +29,7 @@ free_above level Unassigned g low k e = ap (mapping Unassigned) k
 free_above level Assigned g low k e = let three : level ≡ 3 = k.0 in absurd (omega arith)
 free_above level Table g low k e = cc
 
--- each row of sound rows satisfies `IsKind`: it has a granule or none, as its level and state require
+-- in sound rows, each row has a granule or none, as its level and state require (`IsKind`)
 pub shape_of : {width : ℕ} (rows : Rows) (place : ℕ × ℕ) (row : Row) → IsSoundRows width (mapping_at rows) → get rows place ≡ Some row → IsKind place.0 row.state row.granule
 shape_of rows place row sound there = subst (IsShaped place.0) (ap (option_map mapping_of_row) there) (sound.shaped place)
 
@@ -59,7 +59,7 @@ unassigned_target Unassigned g t = refl
 unassigned_target Assigned g t = cc
 unassigned_target Table g t = cc
 
--- above the last level a row that is no table leads nowhere
+-- at levels up to 2, a row that is not TABLE leads to no granule
 pub above_target : (level : ℕ) (h : EntryState) (g : Option ℕ) → level ≤ 2 → IsKind level h g → is_table_state h ≡ false → kind_target h g ≡ None
 above_target level Unassigned g low k t = refl
 above_target level Assigned g low k t = let three : level ≡ 3 = k.0 in absurd (omega arith)

@@ -26,7 +26,7 @@ differs q k = eq_by_cmp place_cmp q k ≡ false
 pub get-put_row_other : (rows : Rows) (k q : ℕ × ℕ) (row : Row) → differs q k → get (insert rows k row) q ≡ get rows q
 get-put_row_other rows k q row apart = get-insert place_total rows k row q ∙ ap (λ t. cond t (Some row) (get rows q)) apart
 
--- `put_rows` does not change the row at a place where it puts none
+-- `put_rows` changes no row outside the `n` places at which it puts rows
 pub get-put_rows_other : (change : Option Row → Row) (rows : Rows) (level first n : ℕ) (q : ℕ × ℕ)
     → ((k : ℕ) → k < n → differs q (level, first + k * covered_count level)) → get (put_rows change rows level first n) q ≡ get rows q
 unfolding put_rows
@@ -87,7 +87,7 @@ covered_pos level =
       | false ↦ elim (level == 2) as (λ t. 1 ≤ cond t (2 ^ 9) 1) [ true ↦ lit≤ tt | false ↦ lit≤ tt ]
     ]
 
--- each of `n` adjacent rows of a level is among the rows that are removed for the IPA granules that they cover
+-- if `drop_rows` removes the range that `n` adjacent rows of a level cover, it removes each of these rows
 pub among_put : (level first n k : ℕ) → k < n → is_among level first (n * covered_count level) (level, first + k * covered_count level) ≡ true
 among_put level first n k h =
     let c = covered_count level in

@@ -18,7 +18,7 @@ use Rattle.granule_addr.proofs.Runs.{range_with_len_more}
 -- ---- numbers in a row that pass a test
 
 module _ (p q : ℕ → Bool) (n : ℕ) (same : (k : ℕ) → k ≢ n → q k ≡ p k) where
-  -- two tests that differ at most in the number `n` select the same numbers from a range above `n`
+  -- tests that agree on all numbers but `n` select the same numbers from a range above `n`
   count_outside : (a m : ℕ) → n < a → filter q (range_with_len a m) ≡ filter p (range_with_len a m)
   count_outside a zero out = refl
   count_outside a (suc m) out =
@@ -27,7 +27,7 @@ module _ (p q : ℕ → Bool) (n : ℕ) (same : (k : ℕ) → k ≢ n → q k �
       other : (a : ℕ) → n < a → a ≢ n
       other a out e = omega arith
 
-  -- if two tests differ only in the number `n` of a range, the test that `n` passes selects one number more
+  -- if two tests agree on all numbers of a range but `n`, the test that `n` passes selects one number more
   count_more : (a m : ℕ) → a ≤ n → n < a + m → p n ≡ false → q n ≡ true → length (filter q (range_with_len a m)) ≡ length (filter p (range_with_len a m)) + 1
   count_more a zero low high off on = absurd (omega arith)
   count_more a (suc m) low high off on =

@@ -8,7 +8,8 @@ use denote.Enum.Compared.{Each, by}
 use denote.Enum.Declared.{Record, Choice, left_or, right_or, values_one}
 use denote.Struct.Field.{Field}
 
--- The test decides equality. This is a record, so that a value's type determines the test.
+-- The test passes for two values exactly if they are equal. This is a record, so that a value's type determines the
+-- test.
 pub record DecidesEquality {A : Type 0} (test : A → A → Bool) : Type 0 where
   pub tells : (x y : A) → Decides (test x y) (x ≡ y)
 

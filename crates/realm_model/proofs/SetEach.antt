@@ -1,5 +1,5 @@
--- Lemmas about a list after the same element is written at several indexes: the length of the list, and its element at
--- each index.
+-- Lemmas on the length of a list, and on its element at each index, after the same element is written at several
+-- indexes.
 use Rattle.std.proofs.Common.{◌≡◌, ℕ, zero, suc, ◌<◌, true, false, cond, List, [], ◌∷◌, length, set, get_or, Some, refl, sym, ap, ◌∙◌, subst}
 use Rattle.std.specs.Prelude.{slice_get, ◌==◌}
 use Rattle.std.proofs.lemmas.Bool.{eqb-true, eqb-false}
@@ -25,7 +25,8 @@ module _ {X : Type 0} (x : X) where
       ∙ ap (cond (is_in k places) (Some x)) (slice_get-set xs p k x (get_or xs p x) (slice_get-get_or xs p x (inside p (is_in_head p places))))
       ∙ cond_or (k == p) (is_in k places) (Some x) (slice_get xs k)
 
-  -- `set_each` puts the element at the given indexes and changes no other; past its end a list reads as that element
+  -- after `set_each`, each given index has the element `x`, and any other index its old element; an index past the end
+  -- counts as having `x`
   pub get_or-set_each : (places : List ℕ) (xs : List X) (k : ℕ) → get_or (set_each x places xs) k x ≡ cond (is_in k places) x (get_or xs k x)
   unfolding set_each
   get_or-set_each [] xs k = refl

@@ -1,4 +1,4 @@
--- The proof that in every reached world the invariants of a build's part hold for each build.
+-- The proof that, after any history, the invariants of a build's part hold for each build.
 use Rattle.std.proofs.Common.{◌≡◌, ℕ, zero, suc, Bool, true, false, cond, List, [], ◌∷◌, map, length, pred, Option, Some, None, Ok, Err, refl, sym, ap, ◌∙◌, subst, arith}
 use Rattle.std.specs.Prelude.{is_some, ◌==◌, replicate}
 use Rattle.std.proofs.lemmas.Bool.{and_parts, eqb-true, eqb-false}
@@ -27,7 +27,8 @@ use Rattle.realm_model.proofs.Written.{IsSquare-updated_all, IsSquare}
 use Rattle.realm_model.proofs.Leases.{cell_at-replicate}
 use Rattle.realm_model.proofs.Parts.{IsSoundCell, IsSoundPart, IsSoundFor}
 
--- a free granule is blank in a part too
+-- if free granules are blank, free granules are blank with builds hidden too; by `part_length`, hiding builds does not
+-- change the number of granules
 module _ (p : Option ℕ → Bool) where
   part_clean : (leases : List (Option ℕ)) (machine : Machine) → each scrubbed leases machine ≡ machine
       → each scrubbed (map (unleased p) leases) (each (hidden p) leases machine) ≡ each (hidden p) leases machine
@@ -50,7 +51,7 @@ IsClean-part_of w b clean = part_clean (is_of_other b) w.leases w.machine clean
 pub IsSquare-part_of : (w : World) (b : ℕ) → IsSquare w → IsSquare (part_of w b)
 IsSquare-part_of w b h = length-map w.leases (unleased (is_of_other b)) ∙ h ∙ sym (part_length (is_of_other b) w.leases w.machine h)
 
--- cells without a realm's row are sound whatever the realm's RD is
+-- a cell without a realm's row that satisfies `IsSoundCell` for one RD satisfies `IsSoundCell` for every RD
 sound_anywhere : (o p g : ℕ) (c : Cell) → IsSoundCell o g c → c.descriptor ≡ None → IsSoundCell p g c
 sound_anywhere o p g c h none = record { realm = h.realm; descriptor = h.descriptor; alone = λ e. absurd (true_false _ e (sym h.descriptor ∙ ap is_some none)); itself = h.itself; row = h.row }
 

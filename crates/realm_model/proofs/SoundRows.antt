@@ -107,7 +107,7 @@ module _ {width : ℕ} (old : Rows) (level ipa : ℕ) (above : Row) (sound : IsS
   not_first : (level == 1) ≡ false
   not_first = ne_eqb level 1 (λ e. let l = at.low in omega (arith, l, e))
 
-  -- there is no row below a row that is no table
+  -- there is no row below a row that is not TABLE
   pub none_under : is_table above ≡ false → (q : ℕ × ℕ) → q.0 ≡ level → first_covered (level - 1) q.1 ≡ ipa → mapping_at old q ≡ None
   none_under plain q same under = absent (mapping_at old q) (λ some.
       let parent : has_table (mapping_at old) q ≡ true = sound.below q some in
@@ -368,7 +368,7 @@ module _ {width : ℕ} (old : Rows) (level ipa : ℕ) (above : Row) (sound : IsS
 
 -- ---- a realm with no table below its root
 
--- the realm has only rows of starting tables, and they lead nowhere
+-- if no row of a starting table is TABLE, the realm has only rows of starting tables, and they lead nowhere
 module _ {width : ℕ} (rows : Rows) (sound : IsSoundRows width (mapping_at rows)) (plain : has_root_table width rows ≡ false) where
   no_root_table : all_rows (λ row. not (is_table row)) rows 1 0 (512 * start_count width) ≡ true
   no_root_table = not_false _ plain

@@ -48,8 +48,8 @@ is_zero (suc n) = false
 abbrev opened_step : Bool → Act → ℕ → List Act → List Act
 opened_step p x n rest = cond (p && is_zero n) (x ∷ rest) rest
 
--- the number `n` of reverses without a match in a list, after one more reverse: `n + 1` if the list has no unmatched
--- operation, and otherwise `n`
+-- the number of unmatched reverses of a list after a reverse is appended, given the list's unmatched operations and the
+-- number before
 abbrev more : List Act → ℕ → ℕ
 more [] n = suc n
 more (x ∷ xs) n = n

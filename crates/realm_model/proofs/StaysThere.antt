@@ -23,7 +23,8 @@ use Rattle.realm_model.proofs.OwnsSame.{descriptor_some}
 use Rattle.realm_model.proofs.OwnLaws.{laws, SameFor}
 use Rattle.realm_model.proofs.Chain.{Chain}
 
--- each granule that the build leases in world `w` it leases in `v` too, and its realm keeps its RD and VMID
+-- the build leases in world `v` each granule that it leases in `w`, and its realm in `w`, if any, has the same RD and
+-- VMID in `v`
 pub record HasStill (b : ℕ) (w v : World) : Type 0 where
   pub leases : (g : ℕ) → slice_get (part_of w b).leases g ≡ Some (Some b) → slice_get (part_of v b).leases g ≡ Some (Some b)
   pub vmid : (k : ℕ) (d : RealmRow) → (cell_at (part_of w b).machine k).descriptor ≡ Some d → (e : RealmRow) × ((cell_at (part_of v b).machine k).descriptor ≡ Some e) × (e.vmid ≡ d.vmid)

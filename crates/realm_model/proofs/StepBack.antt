@@ -1,4 +1,5 @@
--- Proofs that an accepted step met its conditions, and that it has the effect of its command's updates.
+-- Proofs that an accepted event meets the conditions of `is_allowed`, and that the new world is the result of the
+-- updates of the event's command.
 use Rattle.std.proofs.Common.{◌≡◌, ℕ, true, List, map, Some, Ok, Err, refl, sym, ap, ◌∙◌}
 use Rattle.std.specs.Prelude.{nat_lt}
 use Rattle.std.specs.List.{list_all}
@@ -14,7 +15,7 @@ use Rattle.realm_model.specs.Undoing.{by}
 use Rattle.realm_model.proofs.Booleans.{guarded}
 use Rattle.realm_model.proofs.Outcomes.{Yields}
 
--- the requirements that a step met
+-- the conditions of `is_allowed` on an operation in a world, one field for each
 pub record Asked (limits : Limits) (b : ℕ) (w : World) (act : Act) : Type 0 where
   pub below : nat_lt b limits.builds ≡ true
   pub leases : list_all (is_leased_to (holder b act) w.leases) (named act) ≡ true
@@ -29,7 +30,7 @@ asked limits b w v act s =
     let first = and_parts _ _ ranged.0 in
     record { below = first.0; leases = first.1; range = ranged.1; fit = outer.1 }
 
--- if the updates of a command have the property P, a step with the command makes updates that have it
+-- if `P` holds of the updates in an operation's outcome, a step of the operation makes updates that satisfy `P`
 pub done : (limits : Limits) (b : ℕ) (w v : World) (act : Act) (P : List Update → Type 0)
     → Yields P (outcome_of limits.vmids limits.aux (used_vmids w.machine) act (realm_of b w) (map (seen w.machine) (named act))) → step limits w (by b act) ≡ Some v
     → (us : List Update) × P us × (updated_all b us w ≡ Some v)

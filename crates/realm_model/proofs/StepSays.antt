@@ -138,7 +138,7 @@ same_step limits w x y event h k =
     let leases : x.leases ≡ y.leases = h.leases ∙ sym k.leases in
     λ i. record { machine = machine i; leases = leases i }
 
--- `step` and `IsStep` agree on an event if any guest write in it reaches a granule of its build
+-- `step` and `IsStep` agree on an event that is no guest's write, or that writes to a granule which its build leases
 pub step_says : (limits : Limits) (w : World) (event : Event) → ReachesOwn limits event.build w event.act (realm_of event.build w) → StepIsExact limits w event
 step_says limits w event reach v = (
   step_is limits w v event,

@@ -14,7 +14,8 @@ by_level P level h two three = elim (level == 2) as (λ t. (level == 2) ≡ t �
   | false ↦ λ e h. subst P (sym (eqb-true level 3 h)) three
 ] refl h
 
--- the place of a table: level 2 or 3, and the first IPA granule of an entry of the level above
+-- the level is 2 or 3, and the IPA granule is the first that an entry of the level above covers; the other fields
+-- follow from this
 pub record IsTablePlace (ipa level : ℕ) : Type 0 where
   pub low : (1 ≤ level - 1) × (level - 1 ≤ 2) × (level - 1 + 1 ≡ level)
   pub first : first_covered (level - 1) ipa ≡ ipa
@@ -30,7 +31,8 @@ among_from level ipa n i h k = and_from _ _ (and_from _ _ (eq-eqb level level re
 among_to : (level ipa n i : ℕ) → is_among level ipa n (level, i) ≡ true → (ipa ≤ i) × (i < ipa + n)
 among_to level ipa n i h = let both = and_parts _ _ h in (leb-true ipa i (and_parts _ _ both.0).1, ltb-true i (ipa + n) both.1)
 
--- Arithmetic of a table that covers `big` IPA granules, by 512 entries of `small` each.
+-- The arithmetic facts below hold of a table that covers `big` IPA granules by 512 entries of `small` IPA granules
+-- each.
 record IsGrid (big small : ℕ) : Type 0 where
   first : (ipa : ℕ) → ipa % big ≡ 0 → ipa / big * big ≡ ipa
   inside : (ipa i : ℕ) → ipa % big ≡ 0 → i / big * big ≡ ipa → (ipa ≤ i) × (i < ipa + 512 * small)

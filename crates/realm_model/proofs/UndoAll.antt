@@ -31,7 +31,7 @@ use Rattle.realm_model.proofs.LeftOut.{noninterference}
 use Rattle.realm_model.proofs.FreeSets.{free_set-without, part_of-without}
 use Rattle.realm_model.proofs.ZeroPages.{kept_reached}
 
--- the operation is the reverse of another, and has no reverse itself
+-- the operation is a reverse operation, and has no reverse itself
 abbrev Back : Act → Type 0
 Back r = (is_paired r ≡ false) × (is_reverse r ≡ true)
 
@@ -59,7 +59,7 @@ module _ (limits : Limits) (b : ℕ) (base : World) (below : List Act) where
   abbrev pub KeptOver : List Act → List Event → World → Type 0
   KeptOver st history w = Kept limits b (SameFor b) (IsSound b) (laws limits b) base below st history w
 
-  -- each open operation has one reverse
+  -- a stack whose operations all have reverses is undone by as many events as it has operations
   pub counted : (st : List Act) (w : World) → Chain limits b (SameFor b) (IsSound b) (laws limits b) base below st w → length (events b st) ≡ length st
   counted [] w h = refl
   counted (act ∷ st) w h =

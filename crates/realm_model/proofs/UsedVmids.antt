@@ -30,7 +30,7 @@ used_at (c ∷ machine) (suc k) d is = of_row c.descriptor (used_at machine k d 
     of_row None rest = rest
     of_row (Some r) rest = is_in_more d.vmid r.vmid (used_vmids machine) rest
 
--- a realm that has the VMID
+-- a realm of the machine has the VMID
 pub record HasUser (v : ℕ) (machine : Machine) : Type 0 where
   pub at : ℕ
   pub realm : RealmRow
@@ -52,7 +52,7 @@ used_by v (c ∷ machine) e = of_row c.descriptor refl (used_by v machine) e
       | false ↦ λ other e. later (rest e)
     ] refl e
 
--- each realm that is seen while some builds are hidden is there also when none is
+-- a realm that remains when some builds are hidden is at the same granule when none is hidden
 row_shown : (p : Option ℕ → Bool) (leases : List (Option ℕ)) (machine : Machine) (k : ℕ) (d : RealmRow) → (cell_at (each (hidden p) leases machine) k).descriptor ≡ Some d
     → (cell_at machine k).descriptor ≡ Some d
 row_shown p [] machine k d is = cc
@@ -60,7 +60,7 @@ row_shown p (l ∷ leases) [] k d is = cc
 row_shown p (l ∷ leases) (c ∷ machine) zero d is = elim (p l) as (λ t. (cond t blank c).descriptor ≡ Some d → c.descriptor ≡ Some d) [ true ↦ λ is. cc | false ↦ λ is. is ] is
 row_shown p (l ∷ leases) (c ∷ machine) (suc k) d is = row_shown p leases machine k d is
 
--- each VMID that is in use while some builds are hidden is in use also when none is
+-- a VMID that is in use when some builds are hidden is also in use when none is hidden
 pub used-hidden : (p : Option ℕ → Bool) (leases : List (Option ℕ)) (machine : Machine) (v : ℕ) → is_in v (used_vmids (each (hidden p) leases machine)) ≡ true → is_in v (used_vmids machine) ≡ true
 used-hidden p leases machine v e =
     let user = used_by v (each (hidden p) leases machine) e in

@@ -1,4 +1,4 @@
--- The proof that the VMIDs of realms are in range and distinct in every reached world.
+-- The proof that, after any history, the VMIDs of realms are in range and distinct.
 use Rattle.std.proofs.Common.{◌≡◌, ◌≢◌, ℕ, ◌≤◌, true, false, cond, ◌⊎◌, inl, inr, List, [], ◌∷◌, map, replicate, Option, Some, None, refl, sym, ap, ◌∙◌, subst}
 use Rattle.std.specs.Prelude.{◌==◌, is_some}
 use Rattle.std.proofs.lemmas.Bool.{eqb-true}
@@ -42,7 +42,7 @@ module _ (limits : Limits) (w : World) (Made : ℕ → RealmRow → Type 0) wher
   abbrev now : ℕ → Cell
   now k = cell_at w.machine k
 
-  -- in world `w` the granule has a realm with the VMID of `e`, or `Made` says that the realm `e` is new
+  -- in world `w` the granule is the RD of a realm with the VMID of `e`, or `Made` holds of the granule and `e`
   abbrev pub From : ℕ → RealmRow → Type 0
   From k e = ((d : RealmRow) × ((now k).descriptor ≡ Some d) × (d.vmid ≡ e.vmid)) ⊎ Made k e
 
@@ -181,7 +181,7 @@ made_apart : (limits : Limits) (w : World) (act : Act) (k h : ℕ) (d e : RealmR
 made_apart limits w (Realm rd root v) k h d e is m = λ same. let new = m.2 in true_false _ (used_at w.machine k d is) (ap (λ n. is_in n (used_vmids w.machine)) (same ∙ m.1) ∙ new.free)
 made_apart limits w _ k h d e is m = absurd m
 
--- each realm after a step was there before the step with the same VMID, or the step creates it
+-- each realm after a step had the same RD and VMID before the step, or is created by the step
 pub realm_before : (limits : Limits) (w v : World) (b : ℕ) (act : Act) → IsSquare w → step limits w (by b act) ≡ Some v
     → (k : ℕ) (e : RealmRow) → (cell_at v.machine k).descriptor ≡ Some e → From limits w (IsMade limits w act) k e
 realm_before limits w v b act square s k e is =

@@ -31,8 +31,8 @@ use Rattle.realm_model.specs.VmidsUsed.{VmidsFollowSteps}
 
 -- ---- the VMIDs of open operations
 
--- the VMID of the realm that an operation creates, or (`vmid_removed`) of the one that it destroys, alone in a list;
--- the empty list if there is none
+-- the VMID that an operation gives to a new realm, as a list of at most one element; `vmid_removed` is that of a realm
+-- that the operation destroys
 abbrev vmid_made : Act → List ℕ
 vmid_made (Realm rd root vmid) = vmid ∷ []
 vmid_made _ = []
@@ -77,7 +77,7 @@ has_vmid b v w (Some rd) is h = by_row rd.cell.descriptor refl h
     by_row None row h = cc
     by_row (Some realm) row h = record { rd = rd; realm = realm; is = is; row = row; same = alone_in v realm.vmid h }
 
--- a build has one realm at most
+-- the operations that created a build's realm gave it at most one VMID
 one_at_most : (o : Option Seen) → length (flat_map vmid_made (makers o)) ≤ 1
 one_at_most None = omega arith
 one_at_most (Some rd) = by_row rd.cell.descriptor

@@ -1,4 +1,4 @@
--- Lemmas on RTT walks: the level at which a walk ends, and the row at that level.
+-- Lemmas on the level at which an RTT walk ends, and on the row at that level.
 use Rattle.std.proofs.Common.{◌≡◌, ℕ, zero, suc, ◌≤◌, Some, None, refl, sym, ap, ◌∙◌, arith}
 use Rattle.std.proofs.lemmas.Option.{same_Some}
 use Rattle.realm_model.specs.Rows.{Row, Rows, Walk, walk, row_at}
@@ -31,7 +31,7 @@ walk_end rows ipa (suc level) end e =
       | None ↦ λ there e. walk_end rows ipa level end e
     ] refl e
 
--- a walk ends above a level that has no row there
+-- if a level has no row that covers the IPA granule, a walk to that level ends where a walk to the level above ends
 pub walk_above : (rows : Rows) (ipa level : ℕ) → row_at rows (suc level) ipa ≡ None → walk rows ipa (suc level) ≡ walk rows ipa level
 unfolding walk
 walk_above rows ipa level none = ap (λ o. elim o [ Some row ↦ Some (record { level = suc level; row = row }) | None ↦ walk rows ipa level ]) none

@@ -13,7 +13,7 @@ use Rattle.realm_model.proofs.Leases.{set_lease, leased}
 use Rattle.realm_model.specs.Command.Check.{is_in}
 use Rattle.realm_model.proofs.Lists.{slice_get-set}
 
--- a world with a lease for each cell
+-- the world has as many leases as cells
 abbrev pub IsSquare : World → Type 0
 IsSquare w = length w.leases ≡ length w.machine
 
@@ -67,7 +67,7 @@ pub put_more : (us vs : List Update) (k : ℕ) (c : Cell) → put_at (us ++ vs) 
 put_more [] vs k c = refl
 put_more (u ∷ us) vs k c = put_more us vs k (cond (k == granule_of u) (cell_after u c) c)
 
--- the last write stays
+-- if the last of some updates writes `x` to a granule, the granule has the cell `x` after them
 pub put_last : (us : List Update) (n : ℕ) (x c : Cell) → put_at (us ++ Put n x ∷ []) n c ≡ x
 put_last us n x c = put_more us (Put n x ∷ []) n c ∙ ap (λ t. cond t x (put_at us n c)) (eq-eqb n n refl)
 
@@ -94,8 +94,7 @@ pub seen-each_put : (m : Machine) (x : Cell) (gs : List ℕ) → map (put_seen x
 seen-each_put m x [] = refl
 seen-each_put m x (g ∷ gs) = ap (λ r. Put g x ∷ r) (seen-each_put m x gs)
 
--- if a property of update lists stays true with `f x` in front, it stays true with one `f x` for each `x` of a list in
--- front
+-- if putting `f x` in front of a list of updates preserves `P`, putting all of `map f xs` in front preserves `P`
 module _ {X : Type 0} (P : List Update → Type 0) (f : X → Update) (more : (x : X) (us : List Update) → P us → P (f x ∷ us)) where
   pub each_in_front : (xs : List X) (us : List Update) → P us → P (map f xs ++ us)
   each_in_front [] us h = h

@@ -1,4 +1,4 @@
--- The proof that the pages of tables, RDs, RECs and DELEGATED granules are zero in every reached world.
+-- The proof that, after any history, the bytes of each granule are zero unless its state is UNDELEGATED or DATA.
 use Rattle.std.proofs.Common.{◌≡◌, ℕ, Bool, true, false, cond, List, [], ◌∷◌, map, Option, Some, None, refl, sym, ap, ◌∙◌, subst}
 use Rattle.std.specs.Prelude.{◌==◌, option_map}
 use Rattle.std.proofs.lemmas.Bool.{eqb-true, eqb-false}
@@ -87,7 +87,7 @@ module _ (limits : Limits) (w : World) (linked : IsLinked (λ k. cell_at w.machi
   all : (us : List Update) → AllKeepZero us → Z us
   all us keeps k = zero_put us k (now k) keeps (zero k)
 
-  -- `IsZeroCell` holds of the cell of a realm's RD; this does not depend on the realm's row
+  -- an RD that a command gets satisfies `IsZeroCell`, since each cell of the world does
   realm_zero : (rd : Seen) → now rd.number ≡ rd.cell → IsZeroCell rd.cell
   realm_zero rd at = λ s. ap (λ (c : Cell). c.bytes) (sym at) ∙ zero rd.number (ap (λ (c : Cell). is_zero_state c.state) at ∙ s)
 
@@ -186,7 +186,7 @@ zero_step limits b w v e sound linked zero s = elim (e.build == b) as (λ t. (e.
         part_zero limits b (part_of w b) (part_of v b) e.act (IsSquare-part_of w b sound.square) linked zero
         (subst (λ d. step limits (part_of w b) d ≡ Some (part_of v b)) same (step-part_of limits b w v e own s))
 
--- the invariants of a build's part in every reached world
+-- the build's part of the world satisfies the invariants that hold in every reached world
 pub record IsKept (b : ℕ) (w : World) : Type 0 where
   pub sound : IsSound b w
   pub linked : IsLinkedFor b w

@@ -1,4 +1,4 @@
--- Operations: the granules that they name, and pairs of an operation and its reverse.
+-- The granules that operations name, and pairs of an operation and its reverse.
 use Rattle.std.specs.Prelude.{ℕ, ◌^◌, List, [], ◌∷◌, Bool, true, false, Option, Some, None, is_some}
 use Rattle.std.specs.List.{range_with_len}
 use Rattle.granule_addr.specs.Root.{starting_tables}
@@ -6,7 +6,7 @@ use Rattle.realm_model.specs.declared.act.Act.{Act}
 use Rattle.realm_model.specs.declared.act.Act.TheVariants.{Take, UnTake, Fill, Peek, Delegate, Undelegate, Realm, UnRealm, Activate}
 use Rattle.realm_model.specs.declared.act.Act.TheVariants.{Rtt, UnRtt, Ripas, Data, Unknown, UnData, Rec, UnRec, Enter, Exit, Poke}
 
--- the granules of a block, in rising order
+-- the granules of the block with the given order and first granule, the lowest first
 abbrev pub block : ℕ → ℕ → List ℕ
 block order first = range_with_len first (2 ^ order)
 
@@ -33,7 +33,7 @@ named (Enter number) = []
 named (Exit number) = []
 named (Poke number ipa offset value) = []
 
--- the operation is a command: it neither leases a block nor gives one back
+-- the operation neither leases a block nor gives one back, so it is a command
 abbrev pub is_command : Act → Bool
 is_command (Take order first) = false
 is_command (UnTake order first) = false
@@ -61,7 +61,7 @@ reverse_of _ = None
 abbrev pub is_paired : Act → Bool
 is_paired act = is_some (reverse_of act)
 
--- the operation is the reverse of another
+-- the operation is a reverse operation, as UnTake is of Take
 unfoldable pub is_reverse : Act → Bool
 is_reverse (UnTake order first) = true
 is_reverse (Undelegate granule) = true

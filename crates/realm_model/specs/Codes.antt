@@ -1,4 +1,4 @@
--- Encodings of rows, RECs, realms, granules and machines, which let a struct have a machine as its view.
+-- Encodings that let contracts use rows, RECs, realms, granules and machines as the values of structs.
 use Rattle.std.specs.Prelude.{ℕ, List, Option, refl}
 use Rattle.std.specs.Coded.{Coded, code_by, coded×, coded_ℕ, coded_list, coded_option}
 use Rattle.std.specs.FinMap as map

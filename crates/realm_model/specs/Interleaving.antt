@@ -1,4 +1,4 @@
--- Schedules of events: a build's events alone, histories with the same events of each build, and events that commute.
+-- A build's events alone, histories with the same events of each build, and events that commute.
 use Rattle.std.specs.Prelude.{◌≡◌, ◌≢◌, ◌↔◌, ◌⊎◌, ℕ, List, [], ◌∷◌, ◌++◌, option_map}
 use Rattle.std.specs.List.{Contains}
 use Rattle.realm_model.specs.declared.act.Act.{Act}
@@ -45,13 +45,13 @@ vmids_given_back _ = []
 abbrev pub Meet : List ℕ → List ℕ → Type 0
 Meet xs ys = (x : ℕ) × Contains xs x × Contains ys x
 
--- An operation gives back a granule or a VMID that another takes.
+-- The first operation gives back a granule or a VMID that the second takes.
 abbrev pub GivesTo : Act → Act → Type 0
 GivesTo act taker =
     Meet (granules_given_back act) (granules_taken taker) ⊎ Meet (vmids_given_back act) (vmids_taken taker)
 
--- The event `other` can come before `one` exactly if it takes nothing that `one` gives back. If it can, both sequences
--- lead to the same world.
+-- The event `other` can come before `one` exactly if `other` takes nothing that `one` gives back. If it can, both
+-- sequences lead to the same world.
 pub record Commute (limits : Limits) (history : List Event) (one other : Event) : Type 0 where
   pub other_first : IsLegal limits (history ++ other ∷ one ∷ []) ↔ ¬ GivesTo one.act other.act
   pub same_world : IsLegal limits (history ++ other ∷ one ∷ []) → replay limits (history ++ other ∷ one ∷ []) ≡ replay limits (history ++ one ∷ other ∷ [])

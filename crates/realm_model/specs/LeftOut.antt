@@ -9,7 +9,7 @@ use Rattle.realm_model.specs.Step.{step}
 use Rattle.realm_model.specs.History.{erase, open_entries, replay, IsInTurn}
 use Rattle.realm_model.specs.Room.{used_room, room_taken}
 
--- Without the events of a build, another build has the same operations open and the same capacity used.
+-- Leaving out a build changes neither the open operations nor the used capacity of another build.
 pub record KeepsItsRoom (history : List Event) (world : World) (build other : ℕ) : Type 0 where
   pub left_open : open_entries other (erase build history) ≡ open_entries other history
   pub room : used_room other (erase build history) (without world build) ≡ used_room other history world
@@ -18,9 +18,9 @@ pub record KeepsItsRoom (history : List Event) (world : World) (build other : �
 abbrev pub OthersKeepTheirRoom : List Event → World → ℕ → ℕ → Type 0
 OthersKeepTheirRoom history world build other = build ≢ other → KeepsItsRoom history world build other
 
--- An event is accepted after a history, with `capacity` entries and `most` open operations allowed for each build. It
--- is in turn and a step, and its build has the capacity that it takes. If its operation has a reverse, the build has
--- fewer than `most` operations open before.
+-- The event is accepted after the history `before`, with limits of `capacity` history entries and `most` open
+-- operations for each build. The event satisfies `IsInTurn` and is a step, and its build has the capacity that the
+-- event takes. If the event's operation has a reverse, the build has fewer than `most` operations open before.
 pub record IsAccepted (limits : Limits) (capacity most : ℕ) (before : List Event) (event : Event) : Type 0 where
   pub world : World
   pub world_is : replay limits before ≡ Some world
@@ -36,12 +36,14 @@ AllAccepted limits capacity most before [] = Unit {0}
 AllAccepted limits capacity most before (event ∷ events) =
     IsAccepted limits capacity most before event × AllAccepted limits capacity most (before ++ event ∷ []) events
 
--- Each build other than `build` has used at most `capacity` entries and has never had more than `most` operations open.
+-- Each build other than `build` has used a capacity of at most `capacity` and has never had more than `most` operations
+-- open.
 pub record OthersHaveRoom (capacity most : ℕ) (history : List Event) (world : World) (build : ℕ) : Type 0 where
   pub used : (other : ℕ) → build ≢ other → used_room other history world ≤ capacity
   pub few_open : (other n : ℕ) → build ≢ other → length (open_entries other (take n history)) ≤ most
 
--- If the other builds have enough capacity, each event of the history without `build` is accepted in sequence.
+-- If the other builds stay within the given capacity and number of open operations, the events of the history without
+-- `build` are accepted in sequence.
 abbrev pub WhatIsLeftIsAccepted : Limits → ℕ → ℕ → List Event → World → ℕ → Type 0
 WhatIsLeftIsAccepted limits capacity most history world build =
     OthersHaveRoom capacity most history world build → AllAccepted limits capacity most [] (erase build history)

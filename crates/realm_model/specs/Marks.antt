@@ -1,4 +1,4 @@
--- Marks (points to which a build can be rolled back): their validity, and the effect of a rollback.
+-- The validity of marks (points to which a build can be rolled back), and the effect of a rollback.
 use Rattle.std.specs.Prelude.{◌≡◌, ◌↔◌, ℕ, ◌≤◌, List, [], ◌∷◌, ◌++◌, length, map, reverse, take, drop, false, Some}
 use Rattle.std.specs.List.{list_any}
 use Rattle.realm_model.specs.declared.act.Act.{Act}
@@ -10,7 +10,8 @@ use Rattle.realm_model.specs.Ownership.{OwnsSame}
 use Rattle.realm_model.specs.Running.{is_running}
 use Rattle.realm_model.specs.Undoing.{by, reverses}
 
--- a mark: its build, and, when the mark was set, the number of the build's open operations and the history's length
+-- a mark, given by its build, by the number of operations that the build had open when the mark was set, and by the
+-- history's length at that moment
 pub record Mark : Type 0 where
   pub build : ℕ
   pub depth : ℕ
@@ -26,8 +27,8 @@ pub record IsValidMark (mark : Mark) (history : List Event) : Type 0 where
   pub depth : length (open_entries mark.build (take mark.place history)) ≡ mark.depth
   pub since : (n : ℕ) → mark.place ≤ n → mark.depth ≤ length (open_entries mark.build (take n history))
 
--- A mark inside the history is valid after one more event exactly if it was valid before and its build then has at
--- least `depth` operations open.
+-- A mark inside the history is valid after one more event exactly if it was valid before and its build has at least
+-- `depth` operations open after the event.
 abbrev pub StaysValid : Mark → List Event → Event → Type 0
 StaysValid mark history event =
     mark.place ≤ length history → IsValidMark mark (history ++ event ∷ []) ↔ (IsValidMark mark history × (mark.depth ≤ length (open_entries mark.build (history ++ event ∷ []))))
@@ -36,16 +37,16 @@ StaysValid mark history event =
 abbrev pub erase_after : ℕ → ℕ → List Event → List Event
 erase_after build place history = take place history ++ erase build (drop place history)
 
--- the operations above the mark: those that its build has open, without the `depth` oldest
+-- the operations that the mark's build has open, without the `depth` oldest
 abbrev pub above : Mark → List Event → List Act
 above mark history = drop mark.depth (open_entries mark.build history)
 
--- the events that reverse the open operations above the mark, the newest first
+-- the events that reverse the open operations that are newer than the mark, the newest first
 abbrev pub rolling_back : Mark → List Event → List Event
 rolling_back mark history = map (by mark.build) (reverses (reverse (above mark history)))
 
--- All that the build opened above the mark is undone, by one reverse for each operation. The world owns the same as
--- that of the history without what the build did after the mark. Outside the build's part the two are equal in full.
+-- The build's open operations that are newer than the mark are undone, by one reverse for each. The world owns the same
+-- as that of the history without what the build did after the mark. Outside the build's part the two are equal in full.
 pub record IsRolledBack (limits : Limits) (mark : Mark) (history : List Event) : Type 0 where
   pub legal : IsLegal limits (history ++ rolling_back mark history)
   pub erased : IsLegal limits (erase_after mark.build mark.place history)

@@ -1,10 +1,10 @@
--- The Realm Initial Measurement (RIM): its value in a new realm, and its extension by measurement events. RMM 1.0,
+-- The value of the Realm Initial Measurement (RIM) in a new realm, and its extension by measurement events. RMM 1.0,
 -- Realm measurement; the bytes of an event are this profile's own.
 use Rattle.std.specs.Prelude.{ℕ, List, ◌∷◌, ◌++◌, replicate}
 use Rattle.std.specs.Int.{to_be_bytes, w32}
 use Rattle.sha2.specs.Sha256.{sha256}
 
--- the measurement of a new realm
+-- the measurement that a realm begins with: 32 zero bytes
 unfoldable pub zero_measurement : List ℕ
 zero_measurement = replicate 32 0
 

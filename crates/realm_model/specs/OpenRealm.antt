@@ -14,7 +14,7 @@ abbrev pub makes_realm : Act → Bool
 makes_realm (Realm rd root vmid) = true
 makes_realm _ = false
 
--- the operation that creates a realm with this RD, and with the row's starting tables and VMID
+-- the operation that creates a realm with this RD, and with the starting tables and the VMID of the given realm
 abbrev pub maker : ℕ → RealmRow → Act
 maker rd realm = Realm rd realm.root realm.vmid
 

@@ -20,7 +20,7 @@ use Rattle.realm_model.specs.Command.Rec.{rec_create, rec_enter, rec_exit, rec_d
 
 -- ---- the granules that a command names, by their number
 
--- An operation names as many granules as its command takes, so the refusals for too few never occur.
+-- An operation names as many granules as its command takes, so the refusals below, for too few granules, never occur.
 
 -- the outcome that `f` gives for the granule that a command names
 abbrev pub on_one : List Seen → (Seen → Outcome) → Outcome
@@ -31,7 +31,7 @@ on_one (g ∷ gs) f = f g
 abbrev pub on_two : List Seen → (Seen → Seen → Outcome) → Outcome
 on_two gs f = on_one gs (λ g. elim gs [ [] ↦ Err error_input | x ∷ rest ↦ on_one rest (λ h. f g h) ])
 
--- the outcome that `f` gives for the granules that a command names: the first one, and the rest
+-- the outcome that `f` gives for the granules that a command names, as the first one and the rest
 abbrev pub on_more : List Seen → (Seen → List Seen → Outcome) → Outcome
 on_more [] f = Err error_input
 on_more (g ∷ gs) f = f g gs
@@ -41,7 +41,7 @@ abbrev pub on_realm : Option Seen → (Seen → Outcome) → Outcome
 on_realm None f = Err error_input
 on_realm (Some rd) f = f rd
 
--- The outcome of an operation: its updates, or its refusal by the first check that fails. It depends on the machine's
+-- The updates of an operation, or its refusal by the first check that fails. The outcome depends on the machine's
 -- limits of VMIDs and auxiliary granules, the VMIDs in use, the realm of the operation's build and the granules that it
 -- names. Take and UnTake are not commands of the RMM: a block is leased, or it is given back.
 unfoldable pub outcome_of : ℕ → ℕ → List ℕ → Act → Option Seen → List Seen → Outcome
@@ -68,7 +68,7 @@ outcome_of vmids aux used (Poke number ipa offset value) realm gs = on_realm rea
 
 -- ---- the conditions on an operation's own fields
 
--- the build has a realm, and the test holds of the realm's RD and row
+-- the build has a realm, and the test holds of the realm and its RD
 abbrev pub realm_is : Option Seen → (Seen → RealmRow → Bool) → Bool
 realm_is None test = false
 realm_is (Some rd) test = elim rd.cell.descriptor [ Some realm ↦ test rd realm | None ↦ false ]
@@ -84,8 +84,8 @@ is_root a b = a.first == b.first && a.width == b.width
 abbrev pub leads_to : Option Row → ℕ → Bool
 leads_to row granule = elim row [ Some r ↦ option_eq nat_eq r.granule (Some granule) | None ↦ false ]
 
--- Each number of an operation that its command does not check is in range. A block begins where one may, values are
--- bytes, offsets are inside a page.
+-- Those numbers of an operation that its command does not check are in range. A block begins where one may, values are
+-- bytes, and offsets are inside a page.
 abbrev pub is_in_range : Act → Bool
 is_in_range (Take order first) = is_block_start order first
 is_in_range (UnTake order first) = is_block_start order first

@@ -1,5 +1,5 @@
--- Ownership in a world: everything except bytes, RIPAS, measurements, next REC numbers, and the states of realms and
--- RECs.
+-- The ownership in a world, which is everything except bytes, RIPAS, measurements, next REC numbers, and the states of
+-- realms and RECs.
 use Rattle.std.specs.Prelude.{◌≡◌, ℕ, List, Option, Some, None, option_map}
 use Rattle.std.specs.FinMap.{get}
 use Rattle.realm_model.specs.declared.states.EntryState.{EntryState}
@@ -40,8 +40,7 @@ pub record SameCell (c d : Cell) : Type 0 where
   pub realm : c.realm ≡ d.realm
   pub descriptor : SameDescriptor c.descriptor d.descriptor
 
--- Ownership is the same in two worlds: each granule has the same lease, state and realm, and each realm is the same by
--- `SameRealm`.
+-- Each granule has the same lease, state and realm in both worlds, and each realm is the same by `SameRealm`.
 pub record OwnsSame (w v : World) : Type 0 where
   pub leases : w.leases ≡ v.leases
   pub cells : (granule : ℕ) → SameCell (cell_at w.machine granule) (cell_at v.machine granule)

@@ -15,10 +15,10 @@ abbrev pub IsRealmAt : World → ℕ → RealmRow → Type 0
 IsRealmAt world rd realm = (cell_at world.machine rd).descriptor ≡ Some realm
 
 pub record IsReachable (limits : Limits) (world : World) : Type 0 where
-  -- there is a cell and a lease for each page
+  -- there is a cell and a lease for each granule of the machine
   pub cells : length world.machine ≡ limits.pages
   pub leases : length world.leases ≡ limits.pages
-  -- A free granule is blank. An UNDELEGATED or DELEGATED one belongs to no realm. The page of a granule is zero in
+  -- A free granule is blank. An UNDELEGATED or DELEGATED one belongs to no realm. The bytes of a granule are zero in
   -- every state but UNDELEGATED and DATA.
   pub free : (granule : ℕ) → slice_get world.leases granule ≡ Some None → cell_at world.machine granule ≡ blank
   pub host : (granule : ℕ) → is_host_state (cell_at world.machine granule).state ≡ true → (cell_at world.machine granule).realm ≡ None
@@ -32,19 +32,21 @@ pub record IsReachable (limits : Limits) (world : World) : Type 0 where
   -- Each realm's VMID is in range, and no other realm has it.
   pub vmid : (rd : ℕ) (realm : RealmRow) → IsRealmAt world rd realm → (1 ≤ realm.vmid) × (realm.vmid ≤ limits.vmids)
   pub vmids : (g h : ℕ) (realm other : RealmRow) → IsRealmAt world g realm → IsRealmAt world h other → realm.vmid ≡ other.vmid → g ≡ h
-  -- A realm has one of the widths that realms may have, and its starting tables begin at a multiple of their count.
+  -- Each realm has a possible IPA width, and the number of its first starting table is a multiple of the number of its
+  -- starting tables.
   pub width : (rd : ℕ) (realm : RealmRow) → IsRealmAt world rd realm → is_width realm.root.width ≡ true
   pub aligned : (rd : ℕ) (realm : RealmRow) → IsRealmAt world rd realm → realm.root.first % start_count realm.root.width ≡ 0
-  -- Each row has the shape of its state and, below level 1, a TABLE row above. No row of a starting table or of another
-  -- table is missing, so every walk ends at a row. Rows of unprotected IPAs are UNASSIGNED and EMPTY, and TABLE rows
-  -- count as EMPTY. Each REC's number is below the next.
+  -- Each row leads to a granule or to none, as the row's state requires, and, below level 1, has a TABLE row above it.
+  -- No row of a starting table or of another table is missing, so every walk in the realm's address space ends at a
+  -- row. Rows of unprotected IPAs are UNASSIGNED and EMPTY, and TABLE rows count as EMPTY. Each REC's number is below
+  -- the next.
   pub rows : (rd : ℕ) (realm : RealmRow) → IsRealmAt world rd realm → IsSoundRows realm.root.width (mapping_at realm.rows)
   pub full : (rd : ℕ) (realm : RealmRow) → IsRealmAt world rd realm → IsFull realm.root.width (mapping_at realm.rows)
   pub walks : (rd : ℕ) (realm : RealmRow) → IsRealmAt world rd realm → (ipa level : ℕ) → ipa < served_space realm.root.width → 1 ≤ level → is_some (walk realm.rows ipa level) ≡ true
   pub empty : (rd : ℕ) (realm : RealmRow) → IsRealmAt world rd realm → HasEmptyRows realm.root.width realm.rows
   pub recs : (rd : ℕ) (realm : RealmRow) → IsRealmAt world rd realm → (number : ℕ) (rec : RecRow) → get realm.recs number ≡ Some rec → number < realm.next
-  -- Each granule that a realm names is in the state that goes with its role, belongs to the realm, and is leased by its
-  -- build. No granule is named in two roles. Each granule in such a state is named by a realm.
+  -- Each granule that a realm names is in the state of its role, belongs to the realm, and is leased by the build that
+  -- leases the RD. No granule is named in two roles. Each granule in such a state is named by a realm.
   pub names : (rd : ℕ) (realm : RealmRow) → IsRealmAt world rd realm → (role : Role) (granule : ℕ) (state : GranuleState) → target realm role ≡ Some (granule, state)
       → ((cell_at world.machine granule).state ≡ state) × ((cell_at world.machine granule).realm ≡ Some rd)
       × (slice_get world.leases granule ≡ slice_get world.leases rd)

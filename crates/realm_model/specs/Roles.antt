@@ -11,8 +11,7 @@ use Rattle.realm_model.specs.Machine.{RealmRow, Cell}
 use Rattle.realm_model.specs.Ownership.{Mapping, granules_of_rec}
 use Rattle.realm_model.specs.Sound.{mapping_at}
 
--- A role that a granule can have in a realm: a starting table, the target of a row, a REC, or an auxiliary granule of a
--- REC.
+-- A role of a granule in a realm: a starting table, the target of a row, a REC, or an auxiliary granule of a REC.
 pub data Role : Type 0 where
   AsStart : (index : ℕ) → Role
   AtRow : (place : ℕ × ℕ) → Role
@@ -42,7 +41,7 @@ target realm (AtRow place) = row_target (mapping_at realm.rows place)
 target realm (AsRec number) = option_map (λ rec. (rec.0, InRec)) (option_map granules_of_rec (get realm.recs number))
 target realm (AsAux number index) = aux_target (option_map granules_of_rec (get realm.recs number)) index
 
--- the state goes with some role: it is REC, REC_AUX, DATA or RTT
+-- the state is REC, REC_AUX, DATA or RTT, which are the states that go with a role
 abbrev pub is_role_state : GranuleState → Bool
 is_role_state Undelegated = false
 is_role_state Delegated = false

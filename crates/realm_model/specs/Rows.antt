@@ -18,7 +18,7 @@ pub record Row : Type 0 where
   pub ripas : Ripas
   pub granule : Option ℕ
 
--- The order of places: by level, and then by first IPA granule.
+-- The comparison of two places by level, and then by first IPA granule.
 abbrev pub place_cmp : ℕ × ℕ → ℕ × ℕ → Ordering
 place_cmp = then_cmp (on (λ p. p.0) nat_cmp) (on (λ p. p.1) nat_cmp)
 
@@ -26,19 +26,19 @@ place_cmp = then_cmp (on (λ p. p.0) nat_cmp) (on (λ p. p.1) nat_cmp)
 abbrev pub Rows : Type 0
 Rows = FinMap place_cmp Row
 
--- the row at a level that covers an IPA granule, or None if there is none
+-- the row of the given level that covers an IPA granule, or None if there is no such row
 abbrev pub row_at : Rows → ℕ → ℕ → Option Row
 row_at rows level ipa = get rows (level, first_covered level ipa)
 
 -- ---- walks. RMM 1.0, RTT walk
 
--- the end of a walk: its level, and the row there
+-- the level and the row at which a walk ends
 pub record Walk : Type 0 where
   pub level : ℕ
   pub row : Row
 
--- The end of a walk: the deepest row that covers the IPA granule, at the given level or above; None if no row covers it
--- there.
+-- The end of a walk, which is the deepest row at the given level or above that covers the IPA granule; None if there is
+-- no such row.
 unfoldable pub walk : Rows → ℕ → ℕ → Option Walk
 walk rows ipa zero = None
 walk rows ipa (suc level) = elim (row_at rows (suc level) ipa) [
@@ -52,7 +52,7 @@ walk rows ipa (suc level) = elim (row_at rows (suc level) ipa) [
 abbrev pub unassigned : Ripas → Row
 unassigned ripas = record { state = Unassigned; ripas = ripas; granule = None }
 
--- an ASSIGNED row that has the given RIPAS and leads to the given page
+-- an ASSIGNED row that has the given RIPAS and leads to the given granule
 abbrev pub assigned : Ripas → ℕ → Row
 assigned ripas granule = record { state = Assigned; ripas = ripas; granule = Some granule }
 
@@ -82,7 +82,7 @@ is_table row = is_table_state row.state
 abbrev pub table_of : Row → Option ℕ
 table_of row = if is_table row then row.granule else None
 
--- the page that a row leads to, or None if the row is not ASSIGNED
+-- the granule that a row leads to, or None if the row is not ASSIGNED
 abbrev pub data_of : Row → Option ℕ
 data_of row = if is_assigned row then row.granule else None
 
@@ -94,22 +94,22 @@ unmapped_ripas Destroyed = Destroyed
 
 -- ---- several rows at once
 
--- All `n` rows of a level from an IPA granule on exist, and the test holds of each. Commands ask only for rows of a
--- table, and these all exist, so no command is refused for a missing row.
+-- All of `n` adjacent rows of a level, the first at IPA granule `first`, exist, and the test holds of each. Commands
+-- ask only for rows of a table, and these all exist, so no command is refused for a missing row.
 unfoldable pub all_rows : (Row → Bool) → Rows → ℕ → ℕ → ℕ → Bool
 all_rows test rows level first zero = true
 all_rows test rows level first (suc n) =
     elim (get rows (level, first + n * covered_count level)) [ Some row ↦ test row | None ↦ false ]
     && all_rows test rows level first n
 
--- the rows after `change` is applied to `n` rows of a level, from an IPA granule on
+-- the rows after `change` is applied to `n` adjacent rows of a level, the first at IPA granule `first`
 unfoldable pub put_rows : (Option Row → Row) → Rows → ℕ → ℕ → ℕ → Rows
 put_rows change rows level first zero = rows
 put_rows change rows level first (suc n) =
     let place : ℕ × ℕ = (level, first + n * covered_count level) in
     insert (put_rows change rows level first n) place (change (get rows place))
 
--- the rows without those of a level that begin at one of the `count` IPA granules from `first` on
+-- the rows, less each row of the given level whose IPA granule is at least `first` and below `first + count`
 unfoldable pub drop_rows : Rows → ℕ → ℕ → ℕ → Rows
 drop_rows rows level first count =
     retain_keys rows (λ place. not (place.0 == level && nat_le first place.1 && nat_lt place.1 (first + count)))
@@ -119,18 +119,18 @@ put_row rows level ipa row = insert rows (level, first_covered level ipa) row
 
 -- ---- the rows after commands
 
--- The rows of a new realm with a given IPA width: 512 for each of its starting tables. RMM 1.0, RMI_REALM_CREATE.
--- Rows of unprotected IPAs are like the others, which is this profile's own.
+-- The rows of a new realm with a given IPA width, 512 for each of its starting tables. RMM 1.0, RMI_REALM_CREATE. Rows
+-- of unprotected IPAs are like the others, which is this profile's own.
 unfoldable pub root_rows : ℕ → Rows
 root_rows width = put_rows (λ _. unassigned Empty) empty 1 0 (512 * start_count width)
 
--- The rows with one more table at an IPA granule: the row above leads to it, and its rows have the RIPAS of the row
--- above. RMM 1.0, RMI_RTT_CREATE.
+-- The rows after a table of the given level is added at an IPA granule. The row above leads to the table. The table's
+-- rows are UNASSIGNED and have the given RIPAS, which RMI_RTT_CREATE takes from the row above. RMM 1.0, RMI_RTT_CREATE.
 unfoldable pub with_table : Rows → ℕ → ℕ → ℕ → Ripas → Rows
 with_table rows level ipa granule ripas =
     put_rows (λ _. unassigned ripas) (put_row rows (level - 1) ipa (table granule)) level ipa 512
 
--- The rows after a table is removed: its own rows are gone, and the row above is UNASSIGNED and DESTROYED. RMM 1.0,
+-- The rows after a table is removed. The table's rows are gone, and the row above is UNASSIGNED and DESTROYED. RMM 1.0,
 -- RMI_RTT_DESTROY.
 unfoldable pub without_table : Rows → ℕ → ℕ → Rows
 without_table rows level ipa =
@@ -145,7 +145,7 @@ abbrev pub as_ram : Option Row → Row
 as_ram None = unassigned Ram
 as_ram (Some row) = record row { ripas = Ram }
 
--- The rows after the `count` pages from an IPA granule on become RAM. RMM 1.0, RMI_RTT_INIT_RIPAS.
+-- The rows after `count` pages, the first at IPA granule `ipa`, become RAM. RMM 1.0, RMI_RTT_INIT_RIPAS.
 unfoldable pub with_ram : Rows → ℕ → ℕ → Rows
 with_ram rows ipa count = put_rows as_ram rows 3 ipa count
 
@@ -161,6 +161,6 @@ is_table_place ipa level = (level == 2 || level == 3) && ipa % covered_count (le
 
 -- ---- the pages that one call makes RAM. RMM 1.0, RMI_RTT_INIT_RIPAS, input conditions
 
--- the `count` pages from an IPA granule on are 1 to 512 pages of one table of level 3
+-- `count` is 1 to 512, and one table of level 3 covers the `count` pages from IPA granule `ipa` on
 abbrev pub is_page_run : ℕ → ℕ → Bool
 is_page_run ipa count = nat_le 1 count && nat_le count 512 && ipa / 512 == (ipa + count - 1) / 512

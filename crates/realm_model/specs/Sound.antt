@@ -1,4 +1,5 @@
--- The invariants of the rows of a realm's translation tables, and classes of granule states.
+-- The invariants of the rows of a realm's translation tables, and of the bytes of granules, and predicates on granule
+-- states.
 use Rattle.std.specs.Prelude.{◌≡◌, ℕ, ◌+◌, ◌-◌, ◌<◌, ◌≤◌, ◌==◌, ◌||◌, Bool, true, false, Option, Some, None, is_some, option_map}
 use Rattle.std.specs.FinMap.{get}
 use Rattle.granule_addr.specs.Ipa.{first_covered, is_protected_at}
@@ -34,16 +35,17 @@ is_table_kind (Some row) = is_table_state row.state
 abbrev pub has_table : (ℕ × ℕ → Option Mapping) → ℕ × ℕ → Bool
 has_table rows place = place.0 == 1 || is_table_kind (rows (place.0 - 1, first_covered (place.0 - 1) place.1))
 
--- a row can have this place: its level is 1 to 3, and its IPA granule is the first that the row covers, within an
--- address space of the width
+-- a row can have this place: the level is 1 to 3, and the IPA granule is the first that the row covers, inside an
+-- address space of this width
 pub record IsPlace (width : ℕ) (place : ℕ × ℕ) : Type 0 where
   pub least : 1 ≤ place.0
   pub most : place.0 ≤ 3
   pub first : first_covered place.0 place.1 ≡ place.1
   pub inside : place.1 < served_space width
 
--- Each row has a valid place and, below level 1, a TABLE row above it, and leads to a granule as its state requires. An
--- UNASSIGNED row has no granule. An ASSIGNED row, of level 3, and a TABLE row, of level 1 or 2, have one.
+-- Each row has a valid place, leads to a granule or to none, as the row's state requires, and, below level 1, has a
+-- TABLE row above it. An UNASSIGNED row has no granule. An ASSIGNED row, of level 3, and a TABLE row, of level 1 or 2,
+-- have one.
 pub record IsSoundRows (width : ℕ) (rows : ℕ × ℕ → Option Mapping) : Type 0 where
   pub placed : (place : ℕ × ℕ) → is_some (rows place) ≡ true → IsPlace width place
   pub shaped : (place : ℕ × ℕ) → IsShaped place.0 (rows place)
@@ -69,7 +71,7 @@ abbrev pub is_rd_state : GranuleState → Bool
 is_rd_state Rd = true
 is_rd_state _ = false
 
--- a granule in this state has a page of zeros; only in UNDELEGATED and DATA may it have other bytes
+-- the state is one in which all bytes of a granule are zero: any but UNDELEGATED and DATA
 abbrev pub is_zero_state : GranuleState → Bool
 is_zero_state Undelegated = false
 is_zero_state Data = false

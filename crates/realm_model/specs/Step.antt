@@ -1,4 +1,4 @@
--- The step of the model by one event: the conditions on the event, and the world after it.
+-- The step that an event makes in the model: the conditions on the event, and the world after it.
 use Rattle.std.specs.Prelude.{ℕ, List, Bool, cond, ◌&&◌, nat_lt, map, Option, None, Ok, Err, option_map}
 use Rattle.std.specs.List.{list_all, filter_map}
 use Rattle.realm_model.specs.declared.act.Act.{Act}

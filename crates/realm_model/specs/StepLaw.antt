@@ -23,10 +23,9 @@ leases_after build (Take order first) leases = set_each (Some build) (block orde
 leases_after build (UnTake order first) leases = set_each None (block order first) leases
 leases_after build _ leases = leases
 
--- An event leads from one world to another. The build exists. Each granule named is inside the machine and leased by
--- the build, or by nobody for a Take. The operation's own numbers are in range, and its own fields agree with the
--- machine. Its command is not refused. The machine is changed as the command says, and the leases as the operation
--- says.
+-- The event leads from `world` to `next`. The build exists. Each granule named is inside the machine and leased by the
+-- build, or by nobody for a Take. The operation's own numbers are in range, and its own fields agree with the machine.
+-- Its command is not refused. The machine is changed as the command says, and the leases as the operation says.
 pub record IsStep (limits : Limits) (world : World) (event : Event) (next : World) : Type 0 where
   pub build : event.build < limits.builds
   pub granules : All (λ granule. slice_get world.leases granule ≡ Some (holder event.build event.act)) (named event.act)
@@ -37,6 +36,6 @@ pub record IsStep (limits : Limits) (world : World) (event : Event) (next : Worl
   pub machine : next.machine ≡ machine_after_all updates world.machine
   pub leases : next.leases ≡ leases_after event.build event.act world.leases
 
--- `step` leads to a world exactly if IsStep holds, so the lease checks of updates never fail
+-- `step` leads to a world exactly if `IsStep` holds, so the lease checks of updates never fail
 abbrev pub StepIsExact : Limits → World → Event → Type 0
 StepIsExact limits world event = (next : World) → (step limits world event ≡ Some next) ↔ IsStep limits world event next

@@ -15,7 +15,7 @@ use Rattle.realm_model.specs.History.{erase, open_entries, pages_of, replay, IsL
 abbrev pub by : ℕ → Act → Event
 by build act = record { build = build; act = act }
 
--- the reverses of the paired operations in a list, in the same sequence
+-- the reverses of those operations in a list that have a reverse, in the same sequence
 abbrev pub reverses : List Act → List Act
 reverses [] = []
 reverses (act ∷ acts) = elim (reverse_of act) [ Some r ↦ r ∷ reverses acts | None ↦ reverses acts ]
@@ -54,7 +54,7 @@ abbrev pub NewestCanBeUndone : Limits → List Event → ℕ → World → Act �
 NewestCanBeUndone limits history build world act =
     last_or None (open_entries build history) ≡ Some act → is_running (realm_of build world) act ≡ false → IsUndoneNext limits history build act
 
--- if no REC of a build runs, all that the build has open can be undone, and the build leaves nothing behind
+-- if no REC of a build runs, all that the build has open can be undone, which leads to the world without the build
 abbrev pub AllCanBeUndone : Limits → List Event → ℕ → World → Type 0
 AllCanBeUndone limits history build world = IsAtRest (realm_of build world) → IsUndone limits history build world
 
@@ -62,13 +62,14 @@ AllCanBeUndone limits history build world = IsAtRest (realm_of build world) → 
 abbrev pub NothingOpenIsNoninterference : Limits → List Event → ℕ → World → Type 0
 NothingOpenIsNoninterference limits history build world = open_entries build history ≡ [] → replay limits (erase build history) ≡ Some world
 
--- a reverse operation is accepted, and leads back to a world with the same ownership
+-- the operation `back` is accepted in the world `middle`, and leads to a world with the same ownership as `world`
 pub record LeadsBack (limits : Limits) (build : ℕ) (world middle : World) (back : Act) : Type 0 where
   pub end : World
   pub stepped : step limits middle (by build back) ≡ Some end
   pub owns : OwnsSame world end
 
--- if a paired operation is accepted, its reverse is accepted right after it, and leads back to the same ownership
+-- if an operation that has a reverse is accepted, the reverse is accepted directly after it, and restores the ownership
+-- from before the operation
 abbrev pub PairLeadsBack : Limits → ℕ → World → Act → Act → World → Type 0
 PairLeadsBack limits build world act back middle =
     reverse_of act ≡ Some back → step limits world (by build act) ≡ Some middle → LeadsBack limits build world middle back

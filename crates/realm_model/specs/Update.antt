@@ -1,16 +1,16 @@
--- The updates of a command: each changes one granule, and they are made in sequence.
+-- The updates of a command, each of one granule, and the machine after the updates in sequence.
 use Rattle.std.specs.Prelude.{ℕ, List, [], ◌∷◌, Option, Some, None, Result, Ok, Err, slice_set}
 use Rattle.realm_model.specs.declared.rmi.Rmi.{Rmi}
 use Rattle.realm_model.specs.Machine.{Cell, Machine, blank, cell_at}
 
--- An update: a granule gets a new cell or a new byte, is leased, or is given back and becomes blank.
+-- A change of one granule, which gets a new cell or a new byte, is leased, or is given back and becomes blank.
 pub data Update : Type 0 where
   Put : (granule : ℕ) (cell : Cell) → Update
   PutByte : (granule : ℕ) (offset : ℕ) (value : ℕ) → Update
   Lease : (granule : ℕ) → Update
   Free : (granule : ℕ) → Update
 
--- The outcome of a command: its updates, or the refusal by the first check that fails.
+-- The updates of a command, or its refusal by the first check that fails.
 abbrev pub Outcome : Type 0
 Outcome = Result (List Update) Rmi
 
@@ -52,7 +52,7 @@ unfoldable pub machine_after_all : List Update → Machine → Machine
 machine_after_all [] machine = machine
 machine_after_all (update ∷ updates) machine = machine_after_all updates (machine_after update machine)
 
--- A machine after a command: a refusal changes nothing.
+-- The machine after a command, which does not change if the command is refused.
 abbrev pub machine_after_command : Outcome → Machine → Machine
 machine_after_command (Ok updates) machine = machine_after_all updates machine
 machine_after_command (Err rmi) machine = machine

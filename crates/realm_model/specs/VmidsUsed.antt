@@ -14,7 +14,8 @@ use Rattle.realm_model.specs.Undoing.{by}
 abbrev pub is_vmid_used : Machine → ℕ → Bool
 is_vmid_used machine vmid = is_in vmid (used_vmids machine)
 
--- in the new machine the VMID is in use or not, as `used` says, and nothing changes for other VMIDs
+-- in the new machine the VMID is in use exactly if `used` is true, and each other VMID is in use exactly if it was in
+-- the old machine
 pub record IsUsedNow (old new : Machine) (vmid : ℕ) (used : Bool) : Type 0 where
   pub one : is_vmid_used new vmid ≡ used
   pub others : (other : ℕ) → other ≢ vmid → is_vmid_used new other ≡ is_vmid_used old other
@@ -26,7 +27,8 @@ VmidsFollow (Realm rd root vmid) old new = IsUsedNow old new vmid true
 VmidsFollow (UnRealm rd root vmid) old new = IsUsedNow old new vmid false
 VmidsFollow _ old new = (vmid : ℕ) → is_vmid_used new vmid ≡ is_vmid_used old vmid
 
--- a step that is in turn changes the VMIDs in use as its operation says
+-- An accepted operation changes the VMIDs in use as `VmidsFollow` says. A reverse operation is required to undo its
+-- build's newest open operation.
 abbrev pub VmidsFollowSteps : Limits → List Event → World → ℕ → Act → World → Type 0
 VmidsFollowSteps limits history world build act next =
     IsInTurn history (by build act) → step limits world (by build act) ≡ Some next → VmidsFollow act world.machine next.machine

@@ -1,4 +1,5 @@
--- The world (the machine, and the lease of each granule): a build's realm, its updates, and its part of the world.
+-- The world, which is the machine with the lease of each granule, and the realm, the updates and the part of a build in
+-- a world.
 use Rattle.std.specs.Prelude.{ℕ, suc, List, [], ◌∷◌, Bool, false, ◌&&◌, not, ◌==◌, nat_eq, cond, Option, Some, None, is_some, slice_get, slice_set, map, filter, length, replicate}
 use Rattle.std.specs.List.{range_with_len}
 use Rattle.std.specs.Option.{option_eq}
@@ -9,13 +10,13 @@ pub record World : Type 0 where
   pub machine : Machine
   pub leases : List (Option ℕ)
 
--- The world at the start: nobody leases anything, and each granule is blank.
+-- The world at the start, in which nobody leases anything and each granule is blank.
 abbrev pub opening : Limits → World
 opening limits = record { machine = replicate limits.pages blank; leases = replicate limits.pages None }
 
 -- ---- leases
 
--- two leases are the same: both to the same build, or both none
+-- both leases are to the same build, or both are None
 abbrev pub same_lease : Option ℕ → Option ℕ → Bool
 same_lease a b = option_eq nat_eq a b
 
@@ -23,20 +24,20 @@ same_lease a b = option_eq nat_eq a b
 abbrev pub is_leased_to : Option ℕ → List (Option ℕ) → ℕ → Bool
 is_leased_to lease leases granule = option_eq same_lease (slice_get leases granule) (Some lease)
 
--- The free set: the granules that nobody leases, in rising order.
+-- The granules that nobody leases, in rising order.
 abbrev pub free_set : World → List ℕ
 free_set world = filter (is_leased_to None world.leases) (range_with_len 0 (length world.leases))
 
 -- ---- the realm of a build
 
--- the first RD granule from granule n on that the build leases, or None if there is none
+-- the first RD granule from granule `n` on that the build leases, or None if there is none
 unfoldable pub realm_from : ℕ → ℕ → List (Option ℕ) → Machine → Option Seen
 realm_from build n [] cells = None
 realm_from build n (lease ∷ leases) [] = None
 realm_from build n (lease ∷ leases) (cell ∷ cells) =
     cond (same_lease lease (Some build) && is_some cell.descriptor) (Some (record { number = n; cell = cell })) (realm_from build (suc n) leases cells)
 
--- The realm of a build: the RD granule that the build leases, or None if it leases none.
+-- The realm of a build, given by the RD granule that the build leases; None if it leases none.
 abbrev pub realm_of : ℕ → World → Option Seen
 realm_of build world = realm_from build 0 world.leases world.machine
 
@@ -72,8 +73,8 @@ unleased hides lease = cond (hides lease) None lease
 abbrev pub hidden : (Option ℕ → Bool) → Option ℕ → Cell → Cell
 hidden hides lease cell = cond (hides lease) blank cell
 
--- the world with some builds hidden: each granule whose lease `hides` selects is free and blank, so the realms of these
--- builds are gone
+-- the world with some builds hidden, where each granule whose lease `hides` selects is free and blank, and the hidden
+-- builds' realms are gone
 abbrev pub masked : (Option ℕ → Bool) → World → World
 masked hides world = record {
   machine = each (hidden hides) world.leases world.machine;
@@ -87,11 +88,12 @@ abbrev pub is_of_other : ℕ → Option ℕ → Bool
 is_of_other build None = false
 is_of_other build (Some other) = not (other == build)
 
--- The world without a build: what it leases is free and blank, and its realm is removed.
+-- The world without a build, where the granules that the build leased are free and blank, and the build's realm is
+-- removed.
 abbrev pub without : World → ℕ → World
 without world build = masked (is_of build) world
 
--- The part of a build: the world without what others lease. In a world that a history leads to, free granules are
--- blank, so the part has only what the build leases.
+-- The part of a build, which is the world without what other builds lease. In a world that a history leads to, free
+-- granules are blank, so the part has only what the build leases.
 abbrev pub part_of : World → ℕ → World
 part_of world build = masked (is_of_other build) world

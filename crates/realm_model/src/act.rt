@@ -5,8 +5,8 @@ ghost use Rattle.realm_model.specs.Kind.{act_kind};
 use arrayvec::ArrayVec;
 use granule_addr::{BuildId, Gran, IpaGran, Level, Order, PageOff, RecNo, Root, Vmid};
 
-/// An accepted operation: a command, or the lease or the return of a block. It has the granules that it named and the
-/// answer that it got.
+/// An operation: an accepted command, or the lease or return of a block, with its operands and the granules, VMID, REC
+/// number or byte that its build got.
 ///
 /// `UnTake`, `Undelegate`, `UnRealm`, `UnRtt`, `UnData` and `UnRec` are reverses. `UnData` is the reverse of `Data` and
 /// of `Unknown`.
@@ -265,7 +265,7 @@ impl Act {
         kind_of(self).is_some()
     }
 
-    /// Returns whether the operation is the reverse of another.
+    /// Returns whether the operation is a reverse operation, as UNDELEGATE is of DELEGATE.
     #[tactic(auto, unfolding(crate::specs::Act::is_reverse))]
     pub fn is_reverse(&self) -> bool
         ensures { result ≡ acts.is_reverse self.now }
@@ -302,7 +302,7 @@ pub enum Kind {
     Rec,
 }
 
-/// Returns the kind of an operation. Returns `None` if the operation has no reverse.
+/// Returns the kind of an operation, or `None` if the operation has no reverse.
 pub fn kind_of(act: &Act) -> Option<Kind>
     ensures { result ≡ act_kind act.now }
 {

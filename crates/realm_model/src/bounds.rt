@@ -1,6 +1,7 @@
-//! The capacity of a build's journal, and the smallest and largest settings for a history's capacity per build.
+//! The greatest number of operations that a build can have open, and the smallest and largest settings for a history's
+//! capacity per build.
 
-/// The capacity of a build's journal, in operations. A build can have at most that many operations open at once.
+/// The greatest number of operations that a build can have open at once.
 pub const JOURNAL_ROOM: u16 = 512;
 
 /// The smallest allowed setting for a history's capacity per build, in entries.

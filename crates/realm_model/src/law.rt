@@ -32,8 +32,8 @@ pub fn builds_can_be_taken_alone()
     ensures { (limits : Limits) (history : List Event) (build : ℕ) → IsLegal limits history → IsLegalAlone limits history build }
 {}
 
-/// The model's world does not depend on the schedule of builds. Two legal histories in which each build has the same
-/// sequence of events lead to the same world of the model.
+/// Two legal histories in which each build has the same sequence of events lead to the same world of the model,
+/// whatever their schedules.
 pub fn schedule_does_not_matter()
     ensures { (limits : Limits) (history other : List Event) → IsLegal limits history → IsLegal limits other → HasSameEvents history other → replay limits history ≡ replay limits other }
 {}
@@ -153,7 +153,7 @@ pub fn builds_stay_at_rest()
     ensures { (limits : Limits) (history : List Event) (world : World) (build : ℕ) (event : Event) (next : World) → replay limits history ≡ Some world → StaysAtRest limits world build event next }
 {}
 
-/// No other build can hold up the abort of a build that runs no RECs. Each undo is accepted whatever other builds do,
+/// No other build can prevent the abort of a build that runs no RECs. Each undo is accepted whatever other builds do,
 /// and the finished abort leaves nothing behind.
 pub fn aborts_go_on()
     ensures { (limits : Limits) (history later : List Event) (build : ℕ) (begun world : World)

@@ -26,7 +26,7 @@ impl Status {
     }
 }
 
-/// A refusal by the RMM: a status and an index. The index is a table's level for RMI_ERROR_RTT, and 0 otherwise.
+/// A refusal by the RMM, with a status and an index. The index is a table's level for RMI_ERROR_RTT, and 0 otherwise.
 #[derive(Clone, Copy, Debug, PartialEq, Eq)]
 pub struct Rmi {
     pub status: Status,

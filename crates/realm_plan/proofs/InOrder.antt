@@ -1,5 +1,5 @@
--- Proofs that a plan's contents have the fault of their first faulty part; the parts are the steps, the schedule, the
--- integers and the lengths, in this sequence.
+-- Proofs that a plan's fault is that of the first faulty part: of the steps, the schedule, the integers or the lengths,
+-- in this sequence.
 use Rattle.std.proofs.Common.{◌≡◌, ℕ, false, List, length, Result, Ok, refl}
 use Rattle.realm_plan.specs.declared.step.PlanStep.{PlanStep}
 use Rattle.realm_plan.specs.Contents.{Contents}

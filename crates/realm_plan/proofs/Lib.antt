@@ -3,7 +3,7 @@ pub mod Documents
 pub mod Fronts
 pub mod InOrder
 pub mod Views
--- the words of steps and their numbers
+-- proofs about the words and numbers in the texts of steps
 pub mod Auxiliaries
 pub mod StepMeans
 pub mod StepSpells

@@ -1,4 +1,5 @@
--- A proof that a word and numbers that mean a step are the step's own, and that these numbers are in their ranges.
+-- A proof that if a word and numbers mean a step, the step is spelled with that word and those numbers, and the numbers
+-- are in their ranges.
 use Rattle.std.proofs.Common.{◌≡◌, ℕ, List, [], ◌∷◌, true, false, cond, leb, Some, None, option_map, codes, refl, subst}
 use Rattle.std.proofs.lemmas.Bool.{leb-true}
 use Rattle.decimal_text.specs.Ranges.{AreAtMost}

@@ -39,7 +39,7 @@ refusal_name (refusal.NoBlock order) = codes "11 NoBlock"
 refusal_name refusal.NoVmid = codes "12 NoVmid"
 refusal_name (refusal.Rmi rmi) = codes "13 Rmi"
 
--- the numbers that a refusal carries, if any: a page, an order, or a status with its index
+-- the numbers that a refusal carries, if any: a page, the order of a block, or a status with its index
 abbrev pub refusal_numbers : Refusal → List ℕ
 refusal_numbers (refusal.NotLeased page) = page ∷ []
 refusal_numbers (refusal.NoBlock order) = order ∷ []
@@ -49,8 +49,7 @@ refusal_numbers _ = []
 abbrev pub refusal_text : Refusal → List ℕ
 refusal_text refusal = refusal_name refusal ++ spelled_numbers (refusal_numbers refusal)
 
--- the number that a reply carries, if any: a block's first page by its number in the build, a byte, a VMID or a REC's
--- number
+-- the number that a reply carries, if any: the page number at which a block begins, a byte, a VMID or a REC's number
 abbrev pub reply_numbers : Reply → List ℕ
 reply_numbers reply.Done = []
 reply_numbers (reply.FirstPage page) = page ∷ []

@@ -19,7 +19,7 @@ abbrev pub whole_of : Option ℤ → Option Data → Option ℤ
 whole_of default None = default
 whole_of default (Some value) = as_integer value
 
--- the four whole numbers of a plan; all but `pages` have a default
+-- the integers at a plan's keys `pages`, `vmids`, `aux` and `history`; all keys but `pages` have a default
 unfoldable pub integers_at : Members → Option PlanIntegers
 integers_at ms =
     whole_of None (get_member (codes "pages") ms) >>= (λ pages.

@@ -1,4 +1,5 @@
--- The specification's view of the code's type `Contents`, the values of a plan's TOML keys.
+-- The conversion of the code's `Contents`, which are the values of a plan's TOML keys, to the specification's
+-- `Contents`.
 use Rattle.std.specs.Prelude.{map}
 use Rattle.realm_plan.specs.Contents.{Contents}
 use Rattle.realm_plan.specs.declared.contents.Contents as code

@@ -21,14 +21,14 @@ state_word RecAux = codes "REC_AUX"
 state_word Data = codes "DATA"
 state_word Rtt = codes "RTT"
 
--- the sum of a page's bytes if the page is UNDELEGATED or DATA, and otherwise no number
+-- a list with the sum of a page's bytes if the page is UNDELEGATED or DATA, and otherwise the empty list
 abbrev pub sum_numbers : GranuleState → ℕ → List ℕ
 sum_numbers Undelegated sum = sum ∷ []
 sum_numbers Data sum = sum ∷ []
 sum_numbers _ sum = []
 
--- the line of a page: its build, its number in the build, its state, and the sum of its bytes if it is UNDELEGATED or
--- DATA
+-- the line for a page: the build's number, the page's number and state, and the sum of its bytes if the page is
+-- UNDELEGATED or DATA
 abbrev pub page_line : ℕ → ℕ → GranuleState → ℕ → List ℕ
 page_line build page state sum =
     decimal build ++ (codes " page" ++ (then_number page ++ (32 ∷ state_word state ++ (spelled_numbers (sum_numbers state sum) ++ 10 ∷ []))))
@@ -37,7 +37,7 @@ abbrev pub realm_word : RealmState → List ℕ
 realm_word realm.New = codes "NEW"
 realm_word realm.Active = codes "ACTIVE"
 
--- the line of a build's realm: the build, and the realm's state and VMID
+-- the line for a build's realm, with the build's number and the realm's state and VMID
 abbrev pub realm_line : ℕ → RealmState → ℕ → List ℕ
 realm_line build state vmid = decimal build ++ (codes " realm " ++ (realm_word state ++ (codes " vmid" ++ (then_number vmid ++ 10 ∷ []))))
 

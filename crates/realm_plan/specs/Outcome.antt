@@ -1,4 +1,4 @@
--- The condition that a call returns the specified value or plan fault, unless an allocation fails.
+-- Definitions of what a call returns: the specified value or plan fault, or an error if an allocation fails.
 use Rattle.std.specs.Prelude.{◌≡◌, Result, Ok, Err, Option, Some, None}
 use Rattle.realm_plan.specs.declared.fault.PlanFault.{PlanFault}
 use Rattle.realm_plan.specs.declared.fault.PlanError.{PlanError}
@@ -18,8 +18,8 @@ abbrev pub Fails : {Y : Type 0} → PlanError → Result Y PlanFault → Type 0
 Fails errors.Memory read = Unit {0}
 Fails (errors.Fault fault) read = read ≡ Err fault
 
--- The result of a call is the specified value, as `view` sees it, or the specified fault. If its error is `Memory`,
--- nothing is stated.
+-- A call returned the specified fault, the error `Memory`, or a value that `view` maps to the specified value. With
+-- `Memory` nothing is stated of what was specified.
 abbrev pub Gives : {X Y : Type 0} → (X → Y) → Result X PlanError → Result Y PlanFault → Type 0
 Gives view (Ok x) read = read ≡ Ok (view x)
 Gives view (Err e) read = Fails e read

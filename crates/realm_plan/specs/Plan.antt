@@ -24,12 +24,12 @@ abbrev pub builds_of : ℕ → List (List (List ℕ)) → Result (List (List Pla
 builds_of b [] = Ok []
 builds_of b (texts ∷ more) = steps_of b 0 texts >>= (λ ss. builds_of (b + 1) more >>= (λ bs. Ok (ss ∷ bs)))
 
--- the build that an entry of the schedule names, if it is one of `count` builds
+-- the build that an entry of the schedule names, if that build is one of `count` builds
 abbrev pub build_named : ℕ → ℤ → Option ℕ
 build_named count (pos n) = if nat_lt n count then Some n else None
 build_named count (negsuc n) = None
 
--- the builds that the schedule names from index k on, or the fault of the first entry that names none
+-- the builds that the schedule names from index k on, or the fault of the first entry that names no build
 abbrev pub order_of : ℕ → ℕ → List ℤ → Result (List ℕ) PlanFault
 order_of count k [] = Ok []
 order_of count k (entry ∷ entries) = or_fault (fault.Order k) (build_named count entry) >>= (λ b. order_of count (k + 1) entries >>= (λ bs. Ok (b ∷ bs)))
@@ -44,7 +44,7 @@ between low high (negsuc n) = Err fault.Limit
 abbrev pub within : Bool → Result (Unit {0}) PlanFault
 within holds = if holds then Ok tt else Err fault.Limit
 
--- the four numbers of a plan, if each is within its limits, and otherwise the fault `Limit`
+-- the values of a plan's four integer keys, if each is within its limits, and otherwise the fault `Limit`
 unfoldable pub plan_numbers_of : Contents → Result Numbers PlanFault
 plan_numbers_of c =
     between 1 4096 c.pages >>= (λ pages.
@@ -62,8 +62,8 @@ check_lengths builds order =
 
 -- ---- the plan
 
--- A plan: four settings, the steps of each build, and a schedule. If the plan gives up, a build whose step is refused
--- leaves out its remaining steps, and aborts.
+-- A plan, with the settings of its machine, the steps of each build, and a schedule. If the plan gives up, a build
+-- whose step is refused leaves out its remaining steps, and aborts.
 pub record Plan : Type 0 where
   pub pages : ℕ
   pub vmids : ℕ
@@ -87,8 +87,8 @@ plan_of_contents c =
 unfoldable pub document_of : List ℕ → Option Members
 document_of bytes = if is_utf8 bytes then parse_document bytes else None
 
--- The plan that the bytes spell, or the fault for which they spell none. Of several faults it is the first in the order
--- of their numbers, but too many bytes, a fault of limits, come before all others.
+-- The plan that the bytes spell, or the fault that makes the bytes an invalid plan. Of several faults, the first in the
+-- sequence of their numbers counts. But too many bytes are the fault `Limit`, whatever else is wrong.
 unfoldable pub plan_of : List ℕ → Result Plan PlanFault
 plan_of bytes =
     if nat_lt 1048576 (length bytes) then Err fault.Limit

@@ -1,4 +1,4 @@
--- The specification's view of the code's type `Plan`.
+-- The conversion of the code's `Plan` to the specification's `Plan`.
 use Rattle.std.specs.Prelude.{map}
 use Rattle.realm_plan.specs.Plan.{Plan}
 use Rattle.realm_plan.specs.declared.plan.Plan as code

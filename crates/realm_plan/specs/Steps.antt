@@ -1,4 +1,4 @@
--- Tables of the words of plan steps: for each word, the step that it means with its numbers.
+-- The plan step that a text spells as a word, such as `take`, followed by numbers.
 use Rattle.std.specs.Prelude.{ℕ, nat_le, List, [], ◌∷◌, codes, if◌then◌else◌, Option, None, option_map}
 use Rattle.std.specs.Option.{option_or}
 use Rattle.std.specs.Str.{bytes_eq}
@@ -23,7 +23,7 @@ page_step_at word ns =
     else if bytes_eq word (codes "delegate") then one page (λ p. whole (Delegate p)) ns
     else None
 
--- the `realm` step that leaves out the IPA width, if the numbers are two pages
+-- the `realm` step without an IPA width, if the numbers are two page numbers
 abbrev pub short_realm_at : List ℕ → Option PlanStep
 short_realm_at ns = two page page (λ rd root. WidthLeftOut rd root) ns
 

@@ -10,7 +10,7 @@ use Rattle.host_commands.specs.declared.cmd.Step.TheVariants.{Ask, Undo, Abort, 
 use Rattle.realm_plan.specs.declared.step.PlanStep.{PlanStep}
 use Rattle.realm_plan.specs.declared.step.PlanStep.TheVariants.{Whole, WidthLeftOut}
 
--- the highest number that a page of a build can have: numbers begin at 0, and the largest machine has 4096 pages
+-- the highest number that a page of a build can have: numbers begin at 0, and the largest machine has 4096 granules
 abbrev pub page : ℕ
 page = 4095
 
@@ -50,7 +50,7 @@ spelling_of it = spelled it.word it.numbers
 abbrev pub spelling : PlanStep → List ℕ
 spelling step = spelling_of (written_step step)
 
--- a step that creates a REC names at most 16 auxiliary pages
+-- if the step creates a REC, it names at most 16 auxiliary pages
 abbrev pub HasCount : PlanStep → Type 0
 HasCount (Whole (Ask (Rec p auxiliaries))) = array_vec_len auxiliaries ≤ 16
 HasCount _ = Unit {0}

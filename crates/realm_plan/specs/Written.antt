@@ -1,5 +1,5 @@
--- The texts of the steps of each build in the document that some bytes spell; none if they spell no document with a
--- plan's keys.
+-- The texts of each build's steps, read from the bytes of a plan; none if the bytes spell no document with a plan's
+-- keys.
 use Rattle.std.specs.Prelude.{ℕ, List, Option, option_map}
 use Rattle.realm_plan.specs.Contents.{◌>>=◌, contents_of}
 use Rattle.realm_plan.specs.Plan.{document_of}

@@ -28,7 +28,7 @@ pub enum PlanFault {
     Limit,
 }
 
-/// The error of parsing a plan: a fault in its bytes, or a failed allocation.
+/// The error of parsing a plan, which is a fault in the bytes or a failed allocation.
 #[derive(Clone, Copy, Debug, Error)]
 pub enum PlanError {
     /// A failed allocation.

@@ -1,4 +1,4 @@
-//! Operands of steps: pages, offsets, and lists of at most 17 numbers.
+//! The operands of steps, which are pages, offsets, and lists of at most 17 numbers.
 ghost use Rattle.std.specs.Prelude.{◌≡◌, [], ◌∷◌};
 
 use arrayvec::ArrayVec;

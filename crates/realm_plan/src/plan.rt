@@ -1,4 +1,4 @@
-//! The type of plans: a machine, builds with their steps, and a schedule.
+//! The type of plans, which have a machine, builds with their steps, and a schedule.
 ghost use Rattle.host_commands.specs.declared.cmd.Step.TheVariants.{Abort};
 ghost use Rattle.realm_plan.specs.declared.step.PlanStep.TheVariants.{Whole};
 ghost use Rattle.std.specs.Prelude.{◌≡◌, ◌<◌, ◌≤◌, true, map, All, IfOk, vec_len};
@@ -16,7 +16,7 @@ use toml::Table;
 /// The maximum number of bytes of a plan.
 pub const MOST_BYTES: usize = 1_048_576;
 
-/// A plan: the sizes of a machine, the steps of its builds, and a schedule.
+/// A plan, with the settings of its machine, the steps of each build, and a schedule.
 pub struct Plan {
     pub pages: u16,
     pub vmids: u8,
@@ -26,11 +26,11 @@ pub struct Plan {
     pub history: u16,
     /// The steps of each build.
     pub builds: Vec<Vec<PlanStep>>,
-    /// The schedule: for each turn, the build that takes it.
+    /// The schedule, which gives the build of each turn.
     pub order: Vec<BuildId>,
-    /// Whether a build skips its remaining steps and aborts after one of its steps is refused.
+    /// A flag that makes builds give up: after a refused step, a build skips its remaining steps and aborts.
     pub gives_up: bool,
-    /// The abort step: if `gives_up` is set, a build performs it after one of its steps is refused.
+    /// The step `abort`, which a build performs after one of its steps is refused, if `gives_up` is set.
     pub abort: PlanStep,
     pub ghost pages_in_limits: { (1 ≤ pages) × (pages ≤ 4096) },
     pub ghost vmids_in_limits: { 1 ≤ vmids },

@@ -11,7 +11,7 @@ use decimal_text::{cut_at_space, numbers_of};
 use granule_addr::IpaWidth;
 use host_commands::{Cmd, Step};
 
-/// A step of a plan, which may leave out the IPA width of a realm.
+/// A step as a plan states it: a `realm` step may leave out the IPA width.
 #[derive(Drop)]
 pub enum PlanStep {
     /// A step that is written with all its numbers.

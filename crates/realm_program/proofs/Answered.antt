@@ -49,7 +49,8 @@ no_page_missing host build cmd none =
 -- ---- the granules that are named
 
 module _ (pages : List ℕ) (few : All (λ page. page < 4096) pages) where
-  -- the granule of each page of the build is below 4,096, so the check of this bound returns the granule
+  -- if all granules of a build are below 4,096, a test for numbers below 4,096 accepts the granule of any of the
+  -- build's pages
   granule_there : (page granule : ℕ) → slice_get pages page ≡ Some granule → option_and_then (λ number. if nat_lt number 4096 then Some number else None) (Some granule) ≡ Some granule
   granule_there page granule is =
       let inside = slice_get_within pages page granule is in
@@ -57,7 +58,8 @@ module _ (pages : List ℕ) (few : All (λ page. page < 4096) pages) where
       ap (λ t. if t then Some granule else None) (lt-ltb granule 4096 below)
 
 module _ (host : HostView) (build : ℕ) (few : All (λ page. page < 4096) (pages_of build host.history)) where
-  -- if no check finds a missing page, the granules that the host finds for page numbers are those of all these pages
+  -- if all granules of a build are below 4,096, and the checks find none of the pages `numbers` missing, the host finds
+  -- the granules of these pages, in sequence
   are_granules : (numbers : List ℕ) → first_that_holds (page_checks (summary_of host) build numbers) ≡ None
       → AreGranules (pages_of build host.history) numbers (filter_map (λ page. granule_of_page host build page) numbers)
   are_granules [] none = refl

@@ -56,7 +56,8 @@ module _ (allocated : Allocated) (act : Act) where
 
 module _ (pages : List ℕ) (cmd : Cmd) (act : Act) (granules : List ℕ) (allocated : Allocated) (o : Option Act)
     (are : AreGranules pages (operands cmd) granules) (allocated_is : allocated ≡ allocated_in act) (o_is : o ≡ act_of cmd granules allocated) where
-  -- if the command can ask for the operation, `act_of` returns it for the granules that were found
+  -- if `cmd` can ask for `act`, then `act_of` returns `act`, given the granules of the command's pages and the values
+  -- allocated for `act`
   made_again : IsMadeOf pages cmd act → o ≡ Some act
   made_again made =
       let same : granules ≡ made.granules = same_granules granules made.granules (sym are ∙ made.are_granules) in

@@ -1,4 +1,5 @@
--- Proofs that a run by workers either has the specified output text or fails with a correct reason.
+-- Proofs that a plan's run by workers has the specified output text, or fails for a reason that `IsWithoutWorkersText`
+-- allows.
 use Rattle.std.proofs.Common.{◌≡◌, inl, inr, ℕ, ◌∷◌, [], ◌++◌, List, length, sym, subst, ◌∙◌, ap, ap₂}
 use Rattle.std.specs.Global.{Vec}
 use Rattle.std.specs.List.{AllZip, flat_map}
@@ -58,7 +59,8 @@ module _ (plan : Plan) (passes stops : ℕ → ℕ → Type 0) (opened : HostVie
   ended_run : IsEndedRun plan passes stops opened host left.workers
   ended_run = record { run = left.run; ended = left.ended; given_back = subst (IsHostGivenBack opened host) left.seats_are back }
 
-  -- if the host can't be closed with the seats of a run, the run is a mismatch
+  -- if a build does not have exactly one seat, or its seat's events are not its events in the history, the run is a
+  -- mismatch
   pub not_closed : (fault : CloseFault) → IsFault fault host seats → IsMismatch plan passes stops opened
   not_closed fault bad = record { host = host; workers = left.workers; is_run = ended_run; differs = inl (fault, subst (IsFault fault host) left.seats_are bad) }
 
@@ -71,7 +73,8 @@ module _ (plan : Plan) (passes stops : ℕ → ℕ → Type 0) (opened : HostVie
     differs = inr (λ fit. bad (reports_fit host.history left.workers reports left.reports_are fit));
   }
 
-  -- if the host is closed and all reports match, the reports, the map and the audit line are the run's text
+  -- if each build has one seat, and all seats and reports match the history, the run's text is the reports, the map and
+  -- `audit ok`
   pub is_text : (text : List ℕ) → IsClosed host seats → All (ReportFits host.history) reports
       → text ≡ flat_map (report_lines plan) reports ++ (map_text host ++ audit_line) → IsWorkersText plan passes stops opened text
   is_text text closed fit whole = record {

@@ -17,7 +17,8 @@ use Rattle.realm_program.proofs.KeptPlan.{plan_from_kept}
 
 -- ---- the plan
 
--- if parsing the kept bytes of an input fails, the input has no plan, or allocation failed
+-- if the kept bytes of an input cannot be parsed, then either allocation failed, or the whole input has the fault that
+-- was found
 pub faulty_plan : (input : Option (List ℕ)) (bytes : List ℕ) (error : PlanError) → IfSome input (λ xs. bytes ≡ kept_of xs) → Fails error (plan_of bytes)
     → HasNoPlan input (fault_of_plan error)
 faulty_plan input bytes plan_error.Memory kept fails = tt
@@ -26,7 +27,8 @@ faulty_plan input bytes (plan_error.Fault fault) kept fails = plan_from_kept inp
 -- ---- the text
 
 module _ (texts : Plan → List ℕ → Type 0) (without : Plan → Fault → Type 0) (unread : Bool) (input : Option (List ℕ)) where
-  -- if there is no plan, to write nothing is a specified end
+  -- if no plan was read because of `fault`, and a read failed in the case of `Device`, an unchanged output and `fault`
+  -- satisfy `IsEnd`
   pub no_plan : (output : Option (List ℕ)) (fault : Fault) → HasNoPlan input fault → (fault ≡ Device → unread ≡ true) → IsEnd texts without unread input output output (Err fault)
   no_plan output (PlanIsFaulty fault) none read = (none, keeps_same output)
   no_plan output EraseNamesNoBuild none read = absurd none
@@ -35,7 +37,8 @@ module _ (texts : Plan → List ℕ → Type 0) (without : Plan → Fault → Ty
   no_plan output Mismatch none read = absurd none
   no_plan output Device none read = rw (read refl) (keeps_same output)
 
-  -- if a plan has no text, to write nothing is a specified end
+  -- if the input's plan has no text because of `fault`, and `fault` is no fault of the plan or of a device, an
+  -- unchanged output and `fault` satisfy `IsEnd`
   pub no_text : (output : Option (List ℕ)) (plan : Plan) (fault : Fault) → IsPlanOf input plan → without plan fault → IsFaultOfText fault
       → IsEnd texts without unread input output output (Err fault)
   no_text output plan (PlanIsFaulty fault) of_input none of_text = absurd of_text
@@ -45,12 +48,13 @@ module _ (texts : Plan → List ℕ → Type 0) (without : Plan → Fault → Ty
   no_text output plan Mismatch of_input none of_text = (record { plan = plan; of_input = of_input; no_text = none }, keeps_same output)
   no_text output plan Device of_input none of_text = absurd of_text
 
-  -- to write only a prefix of the text is a specified end, with the fault `Device`
+  -- if no read failed, and a prefix of the text of the input's plan was written, the new output and the fault `Device`
+  -- satisfy `IsEnd`
   pub cut : (old new : Option (List ℕ)) (plan : Plan) (text : List ℕ) → unread ≡ false → IsPlanOf input plan → texts plan text → AppendsFront old new text
       → IsEnd texts without unread input old new (Err Device)
   cut old new plan text read of_input is_text written = rw read (record { text = text; text_of = record { plan = plan; of_input = of_input; is_text = is_text }; written = written })
 
-  -- if the whole text was written, the text is printed as specified
+  -- if the whole text of the input's plan was written, the old and the new output satisfy `IsPrinted`
   pub printed : (old new : Option (List ℕ)) (plan : Plan) (text : List ℕ) → IsPlanOf input plan → texts plan text → Appends old new text → IsPrinted texts input old new
   printed old new plan text of_input is_text written = record { text = text; text_of = record { plan = plan; of_input = of_input; is_text = is_text }; written = written }
 

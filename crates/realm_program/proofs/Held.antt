@@ -24,7 +24,7 @@ slice_get-append_right [] ys k j e = ap (slice_get ys) (let same : k ≡ j = ome
 slice_get-append_right (x ∷ xs) ys zero j e = absurd (omega arith)
 slice_get-append_right (x ∷ xs) ys (suc k) j e = slice_get-append_right xs ys k j (omega arith)
 
--- the number at a place of a range is the first number plus the place
+-- the number at index `place` of a range of consecutive numbers is the first number plus `place`
 pub slice_get-range_with_len : (first count place : ℕ) → place < count → slice_get (range_with_len first count) place ≡ Some (first + place)
 slice_get-range_with_len first count place inside =
     let long = length-range_with_len first count in
@@ -66,7 +66,7 @@ no_granule f (n ∷ ns) (g ∷ gs) (suc i) d inside none e =
     let tail : map f ns ≡ map (λ granule. Some granule) gs = cc in
     no_granule f ns gs i d (omega arith) none tail
 
--- two lists of granules for the same pages are equal
+-- if two lists are equal once `Some` is put around each element, they are equal
 pub same_granules : (xs ys : List ℕ) → map (λ granule. Some granule) xs ≡ map (λ granule. Some granule) ys → xs ≡ ys
 same_granules [] [] e = refl
 same_granules [] (y ∷ ys) e = cc
@@ -76,11 +76,12 @@ same_granules (x ∷ xs) (y ∷ ys) e =
     let tail : map (λ granule. Some granule) xs ≡ map (λ granule. Some granule) ys = cc in
     (λ i. same_Some x y head i ∷ same_granules xs ys tail i)
 
--- a place in a block is below the number of the block's granules
+-- if `place` is an index in the list of a block's granules, `place` is below 2^order
 pub place_below : (order place first : ℕ) → place < length (block order first) → place < 2 ^ order
 place_below order place first inside = let long = length-range_with_len first (2 ^ order) in omega arith
 
--- the granule at a place of a block is the block's first granule plus the place; none if that is not below 4,096
+-- the granule of page `place` of a taken block is the block's first granule plus `place`, or none if the sum is not
+-- below 4,096
 pub granule_of_number-block : (act : Act) (order first place number : ℕ) (made : Option ℕ) → act ≡ Take order first → number ≡ first → place < length (pages_held act)
     → made ≡ (if nat_lt (number + place) 4096 && nat_lt (number + place) 4096 then Some (number + place) else None) → made ≡ granule_of_number (pages_held act) place
 granule_of_number-block act order first place number made is same inside made_is =

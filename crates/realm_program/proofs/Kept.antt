@@ -1,4 +1,4 @@
--- Proofs that the bytes read from an input are those that must be kept: the whole input, or its first 1,048,577 bytes.
+-- Proofs that the bytes read from an input are the whole input, or the first 1,048,577 bytes of a longer one.
 use Rattle.std.proofs.Common.{◌≡◌, ℕ, ◌+◌, ◌≤◌, List, [], ◌++◌, length, take, Option, Some, None, sym, ap, ◌∙◌, arith}
 use mathlib.Core.List.{append-nil}
 use Rattle.std.specs.Prelude.{IfSome}
@@ -11,7 +11,7 @@ use Rattle.realm_program.specs.Whole.{kept_of, ReadsOnce}
 taken_at_limit : (kept : ℕ) (xs ys front : List ℕ) → xs ≡ front ++ ys → length front ≡ kept → front ≡ take kept xs
 taken_at_limit kept xs ys front joined full = rw (joined, ← full) (sym (take-append_seam front ys))
 
--- if at most `kept` bytes were read and none is left, they are the first `kept` bytes of the input
+-- if an input has at most `kept` bytes and all were read, cutting the input off after `kept` bytes gives the bytes read
 taken_at_end : (kept : ℕ) (xs ys front : List ℕ) → xs ≡ front ++ ys → ys ≡ [] → length front ≤ kept → front ≡ take kept xs
 taken_at_end kept xs ys front joined none few =
     let whole : xs ≡ front = joined ∙ ap (λ t. front ++ t) none ∙ append-nil front in
@@ -23,7 +23,8 @@ kept_at_limit None b front h full = tt
 kept_at_limit (Some xs) None front h full = absurd h
 kept_at_limit (Some xs) (Some ys) front h full = taken_at_limit 1048577 xs ys front h full
 
--- if the last read gave nothing, since the input is at its end, the bytes read before are those to keep
+-- if at most 1,048,577 bytes were read, and the next read reached the end without a byte, `kept_of` gives the bytes
+-- read
 pub kept_at_end : (a b c : Option (List ℕ)) (front more : List ℕ) → Consumes a b front → Consumes b c more → more ≡ [] → IsAtEnd c → length front ≤ 1048577 → IfSome a (λ xs. front ≡ kept_of xs)
 unfolding kept_of
 kept_at_end None b c front more h k none ends few = tt

@@ -29,7 +29,7 @@ plan_of-kept_of bytes = elim (cases_Bool (ltb 1048576 (length bytes))) [
   | inr short ↦ ap plan_of (all_kept 1048576 bytes short)
 ]
 
--- the result of parsing the kept bytes of an input is that of parsing the whole input, if the input is known
+-- if an input is known, parsing the whole input has the same result as parsing its kept bytes
 pub plan_from_kept : (known : Option (List ℕ)) (bytes : List ℕ) (read : Result Plan PlanFault) → IfSome known (λ xs. bytes ≡ kept_of xs) → plan_of bytes ≡ read → IfSome known (λ xs. plan_of xs ≡ read)
 plan_from_kept None bytes read kept is = tt
 plan_from_kept (Some xs) bytes read kept is = sym (plan_of-kept_of xs) ∙ ap plan_of (sym kept) ∙ is

@@ -1,5 +1,5 @@
--- A proof that two runs in threads with the same final workers have the same text, in whatever sequence the builds took
--- the lock.
+-- A proof that two runs of a plan in threads have the same text if each worker's seat, steps and report are the same
+-- after both. The builds may have taken the lock in different sequences.
 use Rattle.std.proofs.Common.{◌≡◌, ℕ, List, ◌++◌, sym, ap, ◌∙◌, subst}
 use Rattle.std.specs.List.{flat_map}
 use Rattle.host_ledger.specs.View.{HostView}

@@ -6,7 +6,8 @@ use Rattle.std.proofs.lemmas.List.{map-append, length-map}
 use Rattle.realm_program.specs.Fitting.{granule_of_number, ArePushed, HaveNoGranules}
 
 module _ (pages : List ℕ) where
-  -- `ArePushed` still holds after one more page, whose granule is added at the end
+  -- `ArePushed` still holds if one more page is added to the page numbers, and the granule of that page to the end of
+  -- the list
   pub pushed_more : (numbers before now after : List ℕ) (number granule : ℕ) → ArePushed pages numbers before now
       → granule_of_number pages number ≡ Some granule → after ≡ now ++ granule ∷ [] → ArePushed pages (numbers ++ number ∷ []) before after
   pushed_more numbers before now after number granule pushed is after_is = (

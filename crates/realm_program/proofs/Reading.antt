@@ -27,13 +27,13 @@ use Rattle.realm_program.specs.Fitting.{AnswerFits, LineFits, DoesFit, accepted_
 abbrev pub FitsHere : List Step → List Act → Option Event → ReportLine → Type 0
 FitsHere steps opened next line = IsSomeAnd (question_at steps line.asked) (λ asked. AnswerFits (flat_map pages_held opened) opened next asked line.answer)
 
--- a result that says whether `FitsHere` holds for a list of operations also says it for an equal list
+-- if two lists of operations are equal, a result that decides `FitsHere` for one list decides `FitsHere` for the other
 pub fits_here_of : (steps : List Step) (acts opened : List Act) (next : Option Event) (line : ReportLine) (r : Bool) → acts ≡ opened → IsTrue r
     ↔ FitsHere steps acts next line → IsTrue r ↔ FitsHere steps opened next line
 fits_here_of steps acts opened next line r same says = subst (λ (xs : List Act). IsTrue r ↔ FitsHere steps xs next line) same says
 
--- The first `count` events of the build are passed, and `opened` are the operations that these leave open. The build's
--- next event is at index `next` of the history; if it has none, `next` is the history's end.
+-- Before index `next` of the history, the build has `count` events, and the operations `opened` are open after these
+-- events. The build's next event is at index `next`. If the build has no next event, `next` is the history's end.
 pub record IsAt (build : ℕ) (history : List Event) (count next : ℕ) (opened : List Act) : Type 0 where
   pub within : next ≤ length history
   pub rest : drop count (events_of build history) ≡ events_of build (drop next history)
@@ -41,7 +41,8 @@ pub record IsAt (build : ℕ) (history : List Event) (count next : ℕ) (opened 
   pub enough : count ≤ length (events_of build history)
   pub opened_is : opened ≡ open_entries build (take count (events_of build history))
 
--- The first `count` lines are read, and each of them matches. One event of the build is passed for each accepted line.
+-- The first `count` lines of a report are read, and each of them matches the history. Before index `next`, the build
+-- has one event for each accepted line.
 pub record IsReadTo (build : ℕ) (steps : List Step) (lines : List ReportLine) (history : List Event) (count next : ℕ) (opened : List Act) : Type 0 where
   pub at : IsAt build history (accepted_count (take count lines)) next opened
   pub fit : (place : ℕ) → place < count → (line : ReportLine) → slice_get lines place ≡ Some line → LineFits build steps history (accepted_count (take place lines)) line
@@ -70,7 +71,8 @@ module _ {build : ℕ} {history : List Event} {count next : ℕ} {opened : List 
       ∙ first_own build (drop next history) (subst (λ o. IfSome o (λ event. event.build ≡ build)) (slice_get-drop history next) at.own)
       ∙ sym (slice_get-drop history next)
 
-  -- a line that matches the open operations and the next event matches after `count` events of the build
+  -- if a line matches the open operations and the build's next event, it matches the history after the first `count`
+  -- events of the build
   pub fits_from : (steps : List Step) (line : ReportLine) → FitsHere steps opened (slice_get history next) line → LineFits build steps history count line
   fits_from steps line here =
       subst (λ acts. FitsHere steps acts (slice_get (events_of build history) count) line) at.opened_is
@@ -81,7 +83,8 @@ module _ {build : ℕ} {history : List Event} {count next : ℕ} {opened : List 
       subst (λ event. FitsHere steps opened event line) next_is
       (subst (λ acts. FitsHere steps acts (slice_get (events_of build history) count) line) (sym at.opened_is) fits)
 
-  -- one more event is passed: it changes the open operations, and the build's event after it is at index `later`
+  -- If `event` is at index `next`, `IsAt` holds again after `event`, with `later` as the index of the build's next
+  -- event. If the build has no next event, `later` is the history's end.
   pub at_more : (event : Event) (later : ℕ) (more : List Act) → slice_get history next ≡ Some event → more ≡ pushed opened event.act → later ≤ length history
       → events_of build (drop later history) ≡ events_of build (drop (next + 1) history) → IfSome (slice_get history later) (λ after. after.build ≡ build)
       → IsAt build history (count + 1) later more
@@ -106,7 +109,7 @@ module _ {build : ℕ} {history : List Event} {count next : ℕ} {opened : List 
             ∙ ap (open_entries build) (sym grown);
       }
 
-  -- `next` is the end of the history if and only if all events of the build are passed
+  -- `next` is the end of the history if and only if `count` is the number of all events of the build
   pub all_followed : (nat_eq next (length history) ≡ true) ↔ (count ≡ length (events_of build history))
   all_followed = (
     (λ t.
@@ -125,7 +128,7 @@ module _ {build : ℕ} {history : List Event} {count next : ℕ} {opened : List 
 
 -- ---- lines
 
--- if an accepted answer matches, the build has a next event
+-- if `AnswerFits` holds for an accepted answer, the build has a next event
 answer_has : (pages : List ℕ) (opened : List Act) (next : Option Event) (asked : Question) (answer : Answer) → AnswerFits pages opened next asked answer
     → is_done answer ≡ true → (event : Event) × (next ≡ Some event)
 answer_has pages opened (Some event) asked answer fits done = (event, refl)
@@ -175,7 +178,7 @@ module _ {build : ℕ} {steps : List Step} {lines : List ReportLine} {history : 
   read_stop line r inside is says fails does =
       true_false r (says.1 (fits_here read.at steps line (does.each count line (slice_get_read lines (length lines) count line refl inside is)))) fails
 
-  -- if the next line matches, each of the first `count + 1` lines matches
+  -- if the first `count` lines match the history, and the next line too, each of the first `count + 1` lines matches
   fit_more : (line : ReportLine) → count < length lines → line ≡ get_or lines count line → FitsHere steps opened (slice_get history next) line
       → (place : ℕ) → place < count + 1 → (one : ReportLine) → slice_get lines place ≡ Some one → LineFits build steps history (accepted_count (take place lines)) one
   fit_more line inside is fits =

@@ -1,4 +1,5 @@
--- Proofs that reports match a history if and only if their workers do, and that both have the same text.
+-- Proofs that all reports match a history if and only if `WorkerFits` holds for each worker that left a report. The
+-- text of the reports is the text of the workers.
 use Rattle.std.proofs.Common.{◌≡◌, ℕ, ◌++◌, List, [], ◌∷◌, refl, sym, subst, ap₂}
 use Rattle.std.specs.Global.{Vec}
 use Rattle.std.specs.List.{AllZip, flat_map}

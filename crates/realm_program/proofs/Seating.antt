@@ -1,4 +1,4 @@
--- Proofs that creating a worker for each session handle (seat) gives the new workers of a plan's builds, in sequence.
+-- Proofs that creating a worker for each seat gives the new workers of a plan's builds, in sequence.
 use Rattle.std.proofs.Common.{◌≡◌, ℕ, zero, suc, ◌+◌, ◌<◌, List, [], ◌∷◌, ◌++◌, length, map, get_or, refl, sym, ap, ◌∙◌, arith, zero-add}
 use Rattle.std.specs.List.{range_with_len}
 use Rattle.std.specs.Prelude.{All}
@@ -25,7 +25,7 @@ module _ (count : ℕ) (taken left : List SeatView) (seat : SeatView) (are : tak
   is_next = sym (middle taken left seat seat) ∙ ap (λ (l : List SeatView). get_or l (length taken) seat) are
       ∙ get_or-map-range_with_len new_seat 0 count (length taken) (length taken) seat is_there (zero-add (length taken))
 
--- the new workers of `count` builds, followed by the one of the next build, are those of `count + 1` builds
+-- the new workers of `count` builds, followed by the next build's new worker, are the new workers of `count + 1` builds
 pub one_more : (plan : Plan) (count : ℕ) (workers after : List WorkerView) (worker : WorkerView) → workers ≡ map (new_worker plan) (range_with_len 0 count)
     → worker ≡ new_worker plan count → after ≡ workers ++ worker ∷ [] → after ≡ map (new_worker plan) (range_with_len 0 (count + 1))
 one_more plan count workers after worker so_far is grows =

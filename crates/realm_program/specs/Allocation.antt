@@ -1,4 +1,5 @@
--- The values that an operation holds beyond those of its command: a VMID, a REC number or a byte that was read.
+-- The values that an operation has beyond its granules and its command's operands: a VMID, a REC number, or a byte that
+-- was read.
 use Rattle.std.specs.Prelude.{ℕ}
 use Rattle.host_commands.specs.declared.reply.Allocated.{Allocated}
 use Rattle.realm_model.specs.declared.act.Act.{Act}

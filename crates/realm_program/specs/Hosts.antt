@@ -1,5 +1,5 @@
--- The condition that a host's answer to a call matches the event that the call adds to the history or, for a mark, the
--- build's open operations.
+-- The statements that a host's answer to a command, an undo or a mark matches the host's history. The answer to a
+-- command or an undo matches the event that is added. The answer to a mark matches the build's open operations.
 use Rattle.std.specs.Prelude.{◌≡◌, ℕ, ◌≤◌, [], ◌∷◌, ◌++◌, Some, None}
 use Rattle.host_ledger.specs.View.{HostView}
 use Rattle.host_ledger.specs.declared.mark.Mark.{Mark}
@@ -34,8 +34,8 @@ HostReplyFits host build cmd reply new =
 abbrev pub HostUndoFits : HostView → ℕ → Undone → HostView → Type 0
 HostUndoFits host build undone new = IsUndone host build undone new → FitsNext host build question.Undo (answer.Undone undone) new
 
--- A host's answer to a mark matches its question: it is the number of the build's open operations, and no event goes
--- with it.
+-- A host's answer to a build that sets a mark matches the build's open operations: the answer is how many are open. No
+-- event belongs to the answer.
 abbrev pub HostMarkFits : HostView → ℕ → Mark → HostView → Type 0
 HostMarkFits host build mark new =
     IsMarkedAs host build mark new → AnswerFits (pages_of build host.history) (open_entries build host.history) None question.Mark (answer.Marked mark.length)

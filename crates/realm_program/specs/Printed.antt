@@ -13,7 +13,7 @@ use Rattle.realm_program.specs.declared.fault.Fault.TheVariants.{Plan as PlanIsF
 abbrev pub IsPlanOf : Option (List ℕ) → Plan → Type 0
 IsPlanOf input plan = IfSome input (λ bytes. plan_of bytes ≡ Ok plan)
 
--- The reason why no plan is read: allocation failed, a read failed, or the input has the given fault.
+-- The fault can be the reason why no plan is read: allocation failed, a read failed, or the input has the fault.
 abbrev pub HasNoPlan : Option (List ℕ) → Fault → Type 0
 HasNoPlan input (PlanIsFaulty fault) = IfSome input (λ bytes. plan_of bytes ≡ Err fault)
 HasNoPlan input Memory = Unit {0}
@@ -28,7 +28,7 @@ pub record IsTextOf (texts : Plan → List ℕ → Type 0) (input : Option (List
   pub of_input : IsPlanOf input plan
   pub is_text : texts plan text
 
--- the input is a plan that has no output text, for this reason
+-- the input is a plan that has no output text, and the fault is the reason
 pub record HasNoText (without : Plan → Fault → Type 0) (input : Option (List ℕ)) (fault : Fault) : Type 0 where
   pub plan : Plan
   pub of_input : IsPlanOf input plan
@@ -46,7 +46,7 @@ pub record IsCut (texts : Plan → List ℕ → Type 0) (input old new : Option 
   pub text_of : IsTextOf texts input text
   pub written : AppendsFront old new text
 
--- the fault can be the reason why a plan has no output text: it is neither a faulty plan nor a failed device
+-- the fault is neither a faulty plan nor a failed device, so it can be the reason why a plan has no output text
 abbrev pub IsFaultOfText : Fault → Type 0
 IsFaultOfText (PlanIsFaulty fault) = ⊥
 IsFaultOfText Device = ⊥
@@ -59,7 +59,7 @@ abbrev pub IsEndOfDevice : (Plan → List ℕ → Type 0) → Bool → Option (L
 IsEndOfDevice texts true input old new = Keeps old new
 IsEndOfDevice texts false input old new = IsCut texts input old new
 
--- The text is printed whole or not at all, unless a write fails on the way. `unread` is whether a read failed.
+-- The text is printed whole or not at all, unless a write fails. `unread` is whether a read failed.
 abbrev pub IsEnd : (Plan → List ℕ → Type 0) → (Plan → Fault → Type 0) → Bool → Option (List ℕ) → Option (List ℕ) → Option (List ℕ) → Result (Unit {0}) Fault → Type 0
 IsEnd texts without unread input old new (Ok _) = IsPrinted texts input old new
 IsEnd texts without unread input old new (Err (PlanIsFaulty fault)) = HasNoPlan input (PlanIsFaulty fault) × Keeps old new

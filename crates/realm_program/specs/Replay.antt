@@ -23,15 +23,16 @@ pub record IsMapWithout (host : HostView) (build : ℕ) (text : List ℕ) : Type
   pub without : IsWithout host build fresh
   pub whole : text ≡ map_text fresh
 
--- The output text of some run of the plan: the lines of its turns, and the map of the world that it ends in.
+-- The text is the output of some run of the plan: the lines of the run's turns, and the map of the world in which the
+-- run ends.
 pub record IsText (plan : Plan) (text : List ℕ) : Type 0 where
   pub last : HostView
   pub lines : List ℕ
   pub run : IsReportedRun plan (opening_host plan) last [] lines
   pub whole : text ≡ lines ++ map_text last
 
--- The output text of a plan's replay with one build left out. It is the map of some run's history without the build's
--- events.
+-- The text is the output of a replay of the plan with `build` left out. The text is the map of some run's history
+-- without the build's events.
 pub record IsErasedText (plan : Plan) (build : ℕ) (text : List ℕ) : Type 0 where
   pub of_plan : build < length plan.builds
   pub last : HostView
@@ -41,13 +42,13 @@ pub record IsErasedText (plan : Plan) (build : ℕ) (text : List ℕ) : Type 0 w
   pub without : IsWithout last build fresh
   pub whole : text ≡ map_text fresh
 
--- the requested output text: the text of a whole run, or the map with a build left out
+-- the text is the output that was asked for: that of a whole run, or the map with a build left out
 abbrev pub IsAskedText : Option ℕ → Plan → List ℕ → Type 0
 IsAskedText None plan text = IsText plan text
 IsAskedText (Some build) plan text = IsErasedText plan build text
 
--- The reason why a replay has no output text: allocation failed, or the plan does not have the build that is to be left
--- out. No recorded event is ever refused.
+-- The fault is why a replay has no output text: allocation failed, or the plan does not have the build that is to be
+-- left out. No recorded event is ever refused.
 abbrev pub IsWithoutText : Option ℕ → Plan → Fault → Type 0
 IsWithoutText erase plan Memory = Unit {0}
 IsWithoutText (Some build) plan EraseNamesNoBuild = length plan.builds ≤ build

@@ -21,7 +21,7 @@ step_of_line steps (asked.Step place) = slice_get steps place
 step_of_line steps (asked.Exit number) = Some (Whole (Ask (Exit number)))
 step_of_line steps asked.Undo = Some (Whole Undo)
 
--- both questions are asked for the same step of the plan
+-- two requests of a build are for the same step of its plan
 abbrev pub is_same_step : Asked → Asked → Bool
 is_same_step (asked.Step place) (asked.Step other) = place == other
 is_same_step _ _ = false

@@ -10,6 +10,6 @@ abbrev pub status_of_outcome : Result (Unit {0}) (Stop Fault) → ℕ
 status_of_outcome (Ok _) = 0
 status_of_outcome (Err stop) = status_of_stop status_of stop
 
--- the exit status is from 1 to 5, as of a program that stops before its work is done
+-- the exit status is from 1 to 5, as it is if a program stops before its work is done
 abbrev pub IsStatus : ℕ → Type 0
 IsStatus status = (status ≡ 1) ⊎ (status ≡ 2) ⊎ (status ≡ 3) ⊎ (status ≡ 4) ⊎ (status ≡ 5)

@@ -8,13 +8,13 @@ use Rattle.realm_program.specs.Replay.{opening_host}
 use Rattle.realm_program.specs.declared.fault.Fault.{Fault}
 use Rattle.realm_program.specs.declared.fault.Fault.TheVariants.{Memory, Stuck, Mismatch}
 
--- The output text of some run of a plan by workers, on a machine of the plan's size. For each build, the gate lets the
--- turns of `passes` pass, and stops those of `stops`.
+-- The text is the output of some run of the plan by workers, on a machine of the plan's size. For each build, the gate
+-- lets the turns of `passes` pass, and stops those of `stops`.
 abbrev pub IsThreadsText : (ℕ → ℕ → Type 0) → (ℕ → ℕ → Type 0) → Plan → List ℕ → Type 0
 IsThreadsText passes stops plan text = threads.IsWorkersText plan passes stops (opening_host plan) text
 
--- The reason why a run by workers has no output text: allocation failed, a worker waited in vain, or a seat or a report
--- does not match the history.
+-- The fault is why a run by workers has no output text: allocation failed, the gate stopped a turn, or a seat or a
+-- report does not match the history.
 abbrev pub IsWithoutThreadsText : (ℕ → ℕ → Type 0) → (ℕ → ℕ → Type 0) → Plan → Fault → Type 0
 IsWithoutThreadsText passes stops plan Memory = Unit {0}
 IsWithoutThreadsText passes stops plan (Stuck build) = threads.IsWithoutWorkersText plan passes stops (opening_host plan) (why.Stuck build)

@@ -34,7 +34,7 @@ new_workers plan = map (new_worker plan) (range_with_len 0 (length plan.builds))
 abbrev pub worker_seats : List WorkerView → List SeatView
 worker_seats workers = map (λ worker. worker.seat) workers
 
--- the report that a worker leaves, with the worker's steps
+-- the report is that of the worker, and the steps paired with the report are the worker's steps
 abbrev pub IsReportOf : WorkerView → Report × Vec Step → Type 0
 IsReportOf worker (report, asks) = (report.build ≡ worker.seat.build) × (report.lines.items ≡ worker.lines) × (asks.items ≡ worker.steps)
 
@@ -65,9 +65,9 @@ WorkerFits history worker = DoesFit worker.seat.build worker.steps worker.lines 
 abbrev pub worker_text : Plan → WorkerView → List ℕ
 worker_text plan worker = report_text worker.seat.build (steps_of_build plan worker.seat.build) worker.lines
 
--- The text of some run in which each worker has ended: its history is legal, each seat has its build's events of the
--- history, and each report matches the history. The text is the lines of the reports by build, the map of the history,
--- and the line of the audit.
+-- The text is that of some run in which all workers have ended, with seats and reports that match the history. Each
+-- build has one seat, with the build's events of the history. The text is the lines of the reports by build, the map of
+-- the history, and the line of the audit.
 pub record IsWorkersText (plan : Plan) (passes stops : ℕ → ℕ → Type 0) (opened : HostView) (text : List ℕ) : Type 0 where
   pub host : HostView
   pub workers : List WorkerView
@@ -78,7 +78,8 @@ pub record IsWorkersText (plan : Plan) (passes stops : ℕ → ℕ → Type 0) (
 
 -- ---- the reasons why there is no text
 
--- In some run, this is the lowest build whose worker waits in vain for its next turn, which the gate stops.
+-- After some run, this build has the lowest number of those whose workers have not ended. That worker waits in vain for
+-- its next turn, which the gate stops.
 pub record IsStuck (plan : Plan) (passes stops : ℕ → ℕ → Type 0) (opened : HostView) (build : ℕ) : Type 0 where
   pub workers : List WorkerView
   pub run : AreRun opened passes stops (new_workers plan) workers

@@ -24,9 +24,10 @@ pub enum Fault {
     /// A build whose worker waited in vain for its next turn.
     #[error("thread")]
     Stuck(BuildId),
-    /// A contradiction between the records that are kept of a run. In a run in threads: the history does not match a
-    /// worker's report, or the events of a worker's seat. In an exploration of schedules: a run contradicts an earlier
-    /// run, or the graph of the runs. For a plan with a new schedule: its text, read back, is not that plan.
+    /// A contradiction between two accounts of a run, such as a worker's report and the history. In a run in threads:
+    /// the history does not match a worker's report, or the events of a worker's seat. In an exploration of schedules:
+    /// a run contradicts an earlier run, or the graph of the runs. For a plan with a new schedule: its text, read back,
+    /// is not that plan.
     #[error("mismatch")]
     Mismatch,
     /// A failed read or write.

@@ -28,7 +28,7 @@ pub trait PlanText {
         ensures kind { IfErr result IsFaultOfText };
 }
 
-/// Reads a plan, and prints a text of the kind `asked` that is made from the plan.
+/// Reads a plan, makes a text of the kind `asked` from the plan, and prints the text.
 ///
 /// The text is complete before any of it is written. Errors: the fault of a plan, or the reason why it has no text.
 /// `Device`: a read failed and nothing is written, or a write failed and a prefix of the text is written.

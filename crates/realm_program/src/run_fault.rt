@@ -1,4 +1,4 @@
-//! The errors of a plan's run in which each build has its own thread.
+//! The reasons why a run of a plan in threads fails.
 ghost use Rattle.std.specs.Prelude.{◌≡◌};
 ghost use Rattle.realm_program.specs.declared.run_fault.RunFault.TheVariants.{Memory};
 
@@ -10,10 +10,9 @@ use std::alloc::AllocError;
 pub enum RunFault {
     /// A failed allocation.
     Memory,
-    /// The lowest-numbered build whose worker was denied a turn by the scheduler (gate).
+    /// The lowest-numbered build whose worker was denied a turn by the gate.
     Stuck(BuildId),
-    /// A mismatch between the records of a build and the history of events. A build's report, or the list of events of
-    /// a build's seat, does not fit the history.
+    /// A build's report, or a list of events of a build's seat, that does not match the history.
     Mismatch,
 }
 

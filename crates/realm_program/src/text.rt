@@ -67,8 +67,8 @@ fn ledger_of(alloc: Global, plan: &Plan) -> Result<HostLedger, AllocError>
     Ok(host.into_ledger())
 }
 
-/// Returns the printed map of pages and realms after the history without one build's events. The map is that of a fresh
-/// host, booted from the plan, to which the other events are applied. The one error is that allocation failed.
+/// Returns the map that is printed for a history without the events of one build. The map is that of a fresh host,
+/// booted from the plan, to which the other events are applied. The one error is that allocation failed.
 pub fn map_without(
     alloc: Global,
     plan: &Plan,

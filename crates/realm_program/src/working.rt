@@ -122,16 +122,15 @@ pub fn run_text<R: Threads + Wait + Sync, S: PageStore + Drop + Send, G: Gate + 
     run_with::<R, S, G, Brand>(rt, alloc, plan, Blanks::new(), host, gate)
 }
 
-/// The results of the workers that performed the steps of a plan's builds. For each worker, the results are the seat,
-/// and the report paired with the worker's steps.
+/// The seats and reports of the workers that performed the steps of a plan's builds. Each report is paired with the
+/// worker's steps.
 #[derive(Drop)]
 pub struct Ends<L: Ledgers> {
     pub seats: Vec<Seat<L>>,
     pub reports: Vec<(Report, Vec<Step>)>,
 }
 
-/// Ends the workers of a plan's builds, and returns their results. The results are the workers' seats and reports, in
-/// the sequence of the workers.
+/// Ends the workers of a plan's builds, and returns the workers' seats and reports, in the sequence of the workers.
 pub(crate) fn ends_of<L: Ledgers>(
     alloc: Global,
     workers: Vec<Worker<L>>,

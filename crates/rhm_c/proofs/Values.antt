@@ -1,5 +1,5 @@
--- Lemmas about the machine value and the ownership predicate of `HeldHost`, with a host and without one. The proofs
--- assume `Logic`, the interface of the separation logic.
+-- Lemmas about `HeldHost` in separation logic: it is a pointer that owns a host, or a null pointer that owns nothing.
+-- The proofs assume `Logic`, the interface of the separation logic.
 use Rattle.std.proofs.Common.{◌≡◌, ℕ, List, [], ◌∷◌, ◌++◌, refl, subst, w64}
 use mathlib.Core.Bool.{Bool, true, not}
 use lib.Dec.{T}

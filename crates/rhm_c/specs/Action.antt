@@ -41,7 +41,7 @@ plain_action kind address =
 abbrev pub padded : List ℕ → List ℕ
 padded auxiliaries = map (λ place. slice_index_or auxiliaries place 0) (range_with_len 0 16)
 
--- the C form of an RMI call, with the output that X1 has to have, if that output is known
+-- the C form of an RMI call, with the output that is expected in X1, if the output is known
 abbrev pub call_action : Call → Option ℕ → RawAction
 call_action call (Some x1) = record (with_registers 5 (registers_of call)) { output = x1; has_output = 1 }
 call_action call None = with_registers 5 (registers_of call)
@@ -67,7 +67,7 @@ raw_action action = rec_action action
 abbrev pub raw_at : List HostAction → ℕ → RawAction
 raw_at actions place = elim (slice_get actions place) [ Some action ↦ raw_action action | None ↦ plain_action 0 0 ]
 
--- The C form of a list of operations: their number, the model's X0, and the first five of them in sequence.
+-- The C form of a list of operations: their number, the X0 that the model predicts, and the first five operations.
 abbrev pub raw_actions : ℕ → List HostAction → RawActions
 raw_actions expected actions = record {
   count = length actions;

@@ -82,15 +82,16 @@ pub record IsAnsweredAs (form : HostAnswer → CallAnswer) (old : HostView) (bui
 abbrev pub IsOnly : HostView → CallAnswer → CallAnswer → HostView → Type 0
 IsOnly old answer given new = (given ≡ answer) × (new ≡ old)
 
--- The host answers the command; if there is no valid command, a status says why and nothing changes.
+-- The host answers the command. If the build or the command is not valid, the answer is a status with the reason, and
+-- nothing changes.
 abbrev pub IsCommanded : Result (ℕ × Cmd) ℕ → HostView → CallAnswer → HostView → Type 0
 IsCommanded (Ok asked) old given new = IsAnsweredAs answered_as old asked.0 (Ask asked.1) given new
 IsCommanded (Err status) old given new = IsOnly old (only status) given new
 
 -- ---- calls on a handle
 
--- `Is` relates the host of an open handle before a call to the host after the call, and the host's granules keep their
--- addresses. A closed handle stays closed.
+-- On an open handle, `Is` relates the host before a call, the answer and the host after it; the host's granules keep
+-- their addresses. A closed handle stays closed, with the answer `closed`.
 abbrev pub IsOnHandle : (Place → HostView → CallAnswer → HostView → Type 0) → Option PlacedHost → CallAnswer → Option PlacedHost → Type 0
 IsOnHandle Is (Some old) given (Some new) = Is old.frame old.host given new.host × (new.frame ≡ old.frame)
 IsOnHandle Is None given None = given ≡ closed

@@ -1,4 +1,4 @@
--- The conversion of a C program's commands and build numbers to those of a host.
+-- The conversion of a C program's commands and build numbers to the host's commands and builds.
 use Rattle.std.specs.Prelude.{ℕ, ◌==◌, ◌&&◌, Bool, nat_le, nat_lt, List, take, Option, Some, None, Result, Ok, Err, option_map, if◌then◌else◌}
 use Rattle.std.specs.List.{list_all}
 use Rattle.arrayvec.specs.ArrayVec.{ArrayVec}

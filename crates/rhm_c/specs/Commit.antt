@@ -25,8 +25,8 @@ use Rattle.rhm_c.specs.declared.commit.FirmwareAnswer.{FirmwareAnswer}
 abbrev pub diverged : ℕ → CallAnswer
 diverged word = record { status = 16; value = word }
 
--- X0 says that the call was performed: its status is RMI_SUCCESS. After an entry X0 may also say that the REC still
--- runs. An operation that is not a call counts as performed.
+-- The RMM has performed the operation: if the operation is a call, the status in X0 is RMI_SUCCESS. After an entry X0
+-- may also say that the REC still runs. An operation that is not a call counts as performed.
 abbrev pub is_performed : ℕ → HostAction → Bool
 is_performed x0 (Calls call x1) = x0 % 256 == 0
 is_performed x0 (Enter rec run) = x0 % 256 == 0 || x0 == 2 ^ 64 - 2
@@ -49,8 +49,8 @@ abbrev pub check_refused : ℕ → Refusal → CallAnswer
 check_refused x0 (Rmi rmi) = if x0 == result_word rmi then refused_as (Rmi rmi) else diverged (result_word rmi)
 check_refused x0 refusal = refused_as refusal
 
--- The check whether a call can be committed, given the RMM's answer, the host's refusal if there is one, and the
--- prepared operations. If it cannot, the error is the answer to the call.
+-- The check that a prepared call may be performed, given the RMM's answer, the host's refusal, if any, and the prepared
+-- operations. If the call may not be performed, the error is the answer to the call.
 abbrev pub committable : FirmwareAnswer → Option Refusal → Result (ArrayVec HostAction) Refusal → Result (Unit {0}) CallAnswer
 committable answer (Some refusal) (Ok actions) = Err (check_refused answer.x0 refusal)
 committable answer None (Ok actions) = check_performed answer actions.items
@@ -63,15 +63,15 @@ abbrev pub IsPerformedIf : Result (Unit {0}) CallAnswer → HostView → ℕ →
 IsPerformedIf (Ok done) old build call given new = IsAnsweredAs answered_as old build call given new
 IsPerformedIf (Err answer) old build call given new = IsOnly old answer given new
 
--- A valid command is performed exactly if neither the host nor its model refuses it, and the RMM has performed it too,
--- with the outputs that are known. If the model and the RMM refuse it with the same word, that refusal is the answer.
+-- A valid command is performed exactly if the host and its model of the RMM accept it, and the RMM has performed it
+-- with the known outputs. If the model and the RMM refuse the command with the same word, that refusal is the answer.
 abbrev pub IsCommitted : RawCommand → FirmwareAnswer → Result (ℕ × Cmd) ℕ → Place → HostView → CallAnswer → HostView → Type 0
 IsCommitted raw answer (Ok asked) place old given new =
     IsPerformedIf (committable answer (refusal_of old asked.0 (Ask asked.1)) (actions_asked place old asked.0 (raw.run % 64) asked.1)) old asked.0 (Ask asked.1) given new
 IsCommitted raw answer (Err status) place old given new = IsOnly old (only status) given new
 
--- An undo is performed exactly if the host does not refuse it, and the RMM has performed it too, with the outputs that
--- are known. The model performs each undo that is prepared.
+-- An undo for a valid build number is performed exactly if the host accepts it, and the RMM has performed it with the
+-- known outputs. The model performs each undo that is prepared.
 abbrev pub IsUndoCommitted : FirmwareAnswer → Option ℕ → Place → HostView → CallAnswer → HostView → Type 0
 IsUndoCommitted answer (Some build) place old given new = IsPerformedIf (committable answer None (actions_back place old build)) old build Undo given new
 IsUndoCommitted answer None place old given new = IsOnly old (only no_such_build) given new

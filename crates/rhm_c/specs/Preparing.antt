@@ -1,4 +1,4 @@
--- The preparation of a command or an undo on a handle: the status, and the operations for the RMM.
+-- The result of preparing a command or an undo on a handle: a status and a list of RMM operations.
 use Rattle.std.specs.Prelude.{ℕ, ◌%◌, Option, Some, None, Result, Ok, Err}
 use Rattle.arrayvec.specs.ArrayVec.{ArrayVec}
 use Rattle.host_commands.specs.declared.cmd.Cmd.{Cmd}
@@ -16,7 +16,7 @@ use Rattle.history_calls.specs.Prepared.{actions_asked, actions_back}
 use Rattle.rhm_c.specs.declared.action.RawActions.{RawActions}
 use Rattle.rhm_c.specs.declared.command.RawCommand.{RawCommand}
 
--- the model's X0: the value of its refusal, or 0 if it does not refuse
+-- the X0 that the model predicts: the value of the host's refusal, or 0 if the host does not refuse
 abbrev pub word_of : Option Refusal → ℕ
 word_of (Some refusal) = refusal_value refusal
 word_of None = 0
@@ -31,12 +31,12 @@ abbrev pub prepared_of : RawCommand → RawActions → Place → HostView → Re
 prepared_of raw old place host (Ok asked) = prepared_or_refused (actions_asked place host asked.0 (raw.run % 64) asked.1) (refusal_of host asked.0 (Ask asked.1)) old
 prepared_of raw old place host (Err status) = (status, old)
 
--- The preparation of a command: the status, and the operations for the RMM. The model's X0 follows from the host's
+-- The result of preparing a command: a status and a list of RMM operations. The model's X0 follows from the host's
 -- refusal of the command, if there is one.
 abbrev pub prepared : ℕ → RawCommand → RawActions → Place → HostView → ℕ × RawActions
 prepared build raw old place host = prepared_of raw old place host (command_asked build raw)
 
--- The preparation of an undo: the status, and the operations for the RMM. The model does not refuse the undo.
+-- The result of preparing an undo: a status and a list of RMM operations. The model does not refuse the undo.
 abbrev pub prepared_undo : ℕ → RawActions → Place → HostView → ℕ × RawActions
 prepared_undo build old place host = elim (build_in build) [
   | Some number ↦ prepared_or_refused (actions_back place host number) None old

@@ -26,7 +26,7 @@ pub record IsRead {A : Type 0} (read : Option A) (old : A) (answer : Bool) (new 
   pub is_there : answer ≡ is_some read
   pub value : new ≡ unwrap_or read old
 
--- the value that is read from a handle's host, if there is one; none if the handle is closed
+-- what `read` gives for the host of an open handle; none for a closed handle
 abbrev pub of_handle : {A : Type 0} → (Place → HostView → Option A) → Option PlacedHost → Option A
 of_handle read placed = option_and_then (λ (p : PlacedHost). read p.frame p.host) placed
 
@@ -56,7 +56,7 @@ rec_state_number Running = 1
 
 -- ---- builds
 
--- the number of a flag: 1 if it holds, and 0 if not
+-- the number that C uses for a flag, 1 if the flag holds and 0 if not
 abbrev pub flag : Bool → ℕ
 flag holds = if holds then 1 else 0
 
@@ -81,7 +81,7 @@ build_reading build host =
 
 -- ---- pages
 
--- the C form of the page in a granule: its address and its state
+-- the C form of a page, given its granule: the address and the state of the granule
 abbrev pub page_seen : Place → HostView → ℕ → PageReading
 page_seen place host granule = record {
   address = address place granule;

@@ -4,7 +4,7 @@ use Rattle.host_ledger.specs.Booted.{booted}
 use Rattle.rhm_c.specs.declared.placed_host.PlacedHost.{PlacedHost}
 use Rattle.rhm_c.specs.declared.settings.HostSettings.{HostSettings}
 
--- Each setting of a new host is in its range. There are 1 to 4,096 pages, 1 to 255 VMIDs, and at most 16 auxiliary
+-- Each of the given settings is in its range. There are 1 to 4,096 pages, 1 to 255 VMIDs, and at most 16 auxiliary
 -- granules of a REC. There are 1 to 8 builds, with capacity for 16 to 16,384 events of each. Granule 0 is at a multiple
 -- of 4,096 below 2^46.
 abbrev pub are_settings : HostSettings → Bool

@@ -1,4 +1,4 @@
--- The effects of the C calls on a build: undo an operation, begin an abort, abort, mark, or roll back.
+-- The effects of the C calls on a build: an undo, the beginning of an abort, a whole abort, a mark, and a rollback.
 use Rattle.std.specs.Prelude.{◌≡◌, ℕ, Option, Some, None, Result, Ok, Err, unwrap_or}
 use Rattle.host_commands.specs.declared.refusal.Refusal.{Refusal}
 use Rattle.host_commands.specs.declared.refusal.Refusal.TheVariants.{NothingToUndo}
@@ -15,7 +15,8 @@ use Rattle.rhm_c.specs.declared.answer.CallAnswer.{CallAnswer}
 use Rattle.rhm_c.specs.declared.build_call.BuildCall.{BuildCall}
 use Rattle.rhm_c.specs.declared.build_call.BuildCall.TheVariants as calls
 
--- `Is` relates the host before and after a call on the build; if there is no such build, nothing changes
+-- `Is` relates the host before a call on the build, the answer and the host after the call; if there is no such build,
+-- nothing changes
 abbrev pub IsOfBuild : (HostView → ℕ → CallAnswer → HostView → Type 0) → Option ℕ → HostView → CallAnswer → HostView → Type 0
 IsOfBuild Is (Some build) old given new = Is old build given new
 IsOfBuild Is None old given new = IsOnly old (only no_such_build) given new
@@ -40,7 +41,7 @@ IsAbortedHere old build given new = IsCountedAs IsAbortAnswer old build given ne
 
 -- ---- marks
 
--- the C form of a mark or a refusal; the value of a mark is the number of operations that are open at it
+-- the C form of a mark or a refusal; the value for a mark is the number of operations open when it was set
 abbrev pub marked_as : Result Mark Refusal → CallAnswer
 marked_as (Ok mark) = done mark.length
 marked_as (Err refusal) = refused_as refusal

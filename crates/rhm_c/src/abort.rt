@@ -11,22 +11,22 @@ use crate::placed_host::PlainHost;
 use granule_addr::BuildId;
 use std::alloc::Global;
 
-/// Begins to abort a build: the host refuses the build's commands until the build has no operation open.
+/// Begins to abort a build, so that the host refuses the build's commands until the build has no operation open.
 pub(crate) fn begin(host: &mut PlainHost, build: BuildId) -> CallAnswer
     ensures { IsBegunHere host.old build result host.new }
 {
     counted(&host.begin_abort(build))
 }
 
-/// Aborts a build: undoes all its reversible operations that are not undone yet.
+/// Aborts a build, by undoing all its reversible operations that are not undone yet.
 pub(crate) fn abort(host: &mut PlainHost, build: BuildId) -> CallAnswer
     ensures { IsAbortedHere host.old build result host.new }
 {
     counted(&host.abort(build))
 }
 
-/// Begins to abort a build: the host refuses the build's commands until the build has no operation open. Until then
-/// each of its undos is performed. Returns 0, with the number of operations that it has open in `value`.
+/// Begins to abort a build, so that the host refuses the build's commands until the build has no operation open. Until
+/// then each of its undos is performed. Returns 0, with the number of operations that it has open in `value`.
 ///
 /// Else nothing changes: 1, 2 and 8 are the refusals, and 14 a closed handle.
 #[unsafe(no_mangle)]
@@ -42,7 +42,7 @@ pub extern "C" fn rhm_begin_abort(
     call_build(alloc, handle, build, BuildCall::BeginAbort, value)
 }
 
-/// Aborts a build in one call: undoes all its reversible operations that are not undone yet. The newest is undone
+/// Aborts a build in one call, by undoing all its reversible operations that are not undone yet. The newest is undone
 /// first. Returns 0, with the number of undone operations in `value`.
 ///
 /// Else nothing changes: 1 and 8 are the refusals, and 14 a closed handle.

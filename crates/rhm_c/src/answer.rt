@@ -1,10 +1,10 @@
-//! Answers to a C program's calls: a status and a value.
+//! Answers to a C program's calls, each with a status and a value.
 ghost use Rattle.std.specs.Prelude.{◌≡◌};
 ghost use Rattle.rhm_c.specs.Answer as answers;
 
 use host_commands::{Refusal, Reply};
 
-/// The answer to a C program's call: a status and a value. The value is 0 if the status has none.
+/// The answer to a C program's call, with a status and a value. The value is 0 if the status has none.
 #[derive(Clone, Copy)]
 pub(crate) struct CallAnswer {
     pub(crate) status: u64,

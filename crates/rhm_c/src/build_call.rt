@@ -1,4 +1,4 @@
-//! Calls on a build: undo an operation, begin an abort, abort, set a rollback point, or roll back.
+//! C calls on a build: an undo, the beginning of an abort, a whole abort, a mark, and a rollback to the mark.
 ghost use Rattle.std.specs.Prelude.{◌≡◌};
 ghost use Rattle.rhm_c.specs.Command.{build_in};
 ghost use Rattle.rhm_c.specs.Answer.{IsOnHandle};
@@ -15,7 +15,7 @@ use crate::undo::undo;
 use granule_addr::BuildId;
 use std::alloc::Global;
 
-/// A call on a build: undo an operation, begin an abort, abort, set a rollback point, or roll back.
+/// A C call on a build: an undo, the beginning of an abort, a whole abort, a mark, or a rollback to the mark.
 #[derive(Clone, Copy)]
 pub(crate) enum BuildCall {
     Undo,

@@ -7,7 +7,8 @@ use arrayvec::ArrayVec;
 use granule_addr::{BuildId, PageOff, RecNo};
 use host_commands::Cmd;
 
-/// A build's command: its kind and its operands. An operand that the kind does not use has to be in its range, too.
+/// A build's command, with its kind and its operands. An operand that the kind does not use has to be in its range,
+/// too, unless it is in `aux`.
 #[repr(C)]
 #[derive(Drop)]
 pub struct RawCommand {

@@ -16,7 +16,8 @@ use history_calls::{Actions, Frame, HostAction, actions_asked, actions_back, ref
 use host_commands::Refusal;
 use std::alloc::Global;
 
-/// The RMM's answer to a prepared RMI call: the registers X0 and X1. They do not matter if no call was to be made.
+/// The RMM's answer to a prepared RMI call, with the registers X0 and X1. The registers do not matter if no call was to
+/// be made.
 #[repr(C)]
 #[derive(Drop)]
 pub struct FirmwareAnswer {

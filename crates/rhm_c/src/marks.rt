@@ -59,8 +59,8 @@ pub extern "C" fn rhm_mark(
     call_build(alloc, handle, build, BuildCall::Mark, value)
 }
 
-/// Rolls a build back to its mark: undoes the operations opened since then, in one call, the newest first. Returns 0,
-/// with the number of undone operations in `value`. The mark stays.
+/// Rolls a build back to its mark in one call: undoes the operations opened since the mark, the newest first. Returns
+/// 0, with the number of undone operations in `value`. The mark stays.
 ///
 /// Any other status changes nothing: 1, 2, 7 and 8 are refusals, and the first that applies is returned. 7 means that
 /// the build has no mark. 14 is a closed handle.

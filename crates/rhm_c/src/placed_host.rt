@@ -11,7 +11,7 @@ use std::alloc::Global;
 /// A host that keeps the pages of its granules in a `PlainStore`.
 pub(crate) type PlainHost = Host<PlainStore>;
 
-/// A host, and the frame of its granules: the physical address of granule 0, and the number of granules.
+/// A host, with the physical address of granule 0 and the number of granules. Both numbers are in `frame`.
 #[derive(Drop)]
 pub struct PlacedHost {
     pub(crate) host: Host<PlainStore>,

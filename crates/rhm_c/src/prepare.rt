@@ -67,9 +67,9 @@ fn prepare_undo(frame: Frame, host: &PlainHost, build: u64, into: &mut RawAction
     }
 }
 
-/// Prepares a build's command: lists the operations needed on the RMM, and changes nothing. Returns 0, with the
-/// operations that the hypervisor performs on its RMM, in sequence; a Take needs none. `expected` is X0 of the model:
-/// 0, or the word of its refusal.
+/// Lists the RMM operations needed to perform a build's command, and changes nothing. Returns 0, with the operations
+/// that the hypervisor performs on its RMM, in sequence; a Take needs none. `expected` is X0 of the model: 0, or the
+/// word of its refusal.
 ///
 /// Else `actions` stays as it is. 1 to 12 is the number of the refusal that the host gives before it calls the RMM. 13
 /// means that no RMM call has such an operand, no such REC exists, a page to fill or read is not UNDELEGATED, or a REC

@@ -189,7 +189,7 @@ fn rec_at(frame: Frame, host: &PlainHost, build: u64, number: u64) -> Option<Rec
     }
 }
 
-/// Returns the number of pages that no build leases; 0 for a closed handle.
+/// Returns the number of granules that no build leases; 0 for a closed handle.
 #[unsafe(no_mangle)]
 pub extern "C" fn rhm_free_count(alloc: Global, handle: &mut HostHandle) -> u64
     ensures count { result ≡ readings.free_pages handle.old.held.host }

@@ -2,7 +2,7 @@
 ghost use Rattle.std.specs.Prelude.{◌≡◌};
 ghost use Rattle.rhm_c.specs.Settings.{are_settings};
 
-/// The settings of a new host: sizes, limits, and the address of its granule 0.
+/// The settings of a new host, with its sizes, its limits, and the address of its granule 0.
 #[repr(C)]
 #[derive(Drop)]
 pub struct HostSettings {

@@ -1,5 +1,5 @@
--- A proof that registers from which a call is decoded equal the call's encoding, in X0 and in the registers of its
--- operands.
+-- A proof that decoding a call from registers and encoding the call again gives the same X0 and the same operand
+-- registers.
 use Rattle.std.proofs.Common.{◌≡◌, ℕ, ◌==◌, Bool, true, false, cond, Option, Some, None, refl, ap, ◌∙◌, subst, nat_le}
 use Rattle.std.proofs.lemmas.Bool.{eqb-true}
 use Rattle.rmi_abi.specs.declared.call.Call.{Call}
@@ -8,21 +8,20 @@ use Rattle.rmi_abi.specs.declared.call.Call.TheVariants.{RttCreate, RttDestroy, 
 use Rattle.rmi_abi.specs.declared.registers.Registers.{Registers}
 use Rattle.rmi_abi.specs.Call.{call_in, first_call_in, last_call_in, registers_of, operand_count, with_operands}
 
--- the registers have the call's encoding in X0 and in the registers of its operands; those after them may have any
--- value
+-- X0 and the operand registers hold the call's encoding; the registers after these may have any value
 abbrev pub Agrees : Registers → Call → Type 0
 Agrees r call = with_operands (operand_count call) r ≡ registers_of call
 
--- the registers agree with the decoded call, if they agree with `c` when X0 is `function`, and with any call that
--- `rest` gives
+-- registers agree with the decoded call, which is `c` or the call of `rest`, if they agree with the call of `rest` and,
+-- when X0 is `function`, with `c`
 found : (r : Registers) (call c : Call) (rest : Option Call) (function : ℕ) → (r.x0 ≡ function → Agrees r c) → (rest ≡ Some call → Agrees r call)
     → (same : Bool) → (same ≡ true → r.x0 ≡ function) → cond same (Some c) rest ≡ Some call → Agrees r call
 found r call c rest function here more true same is = let it : c ≡ call = cc in subst (Agrees r) it (here (same refl))
 found r call c rest function here more false same is = more is
 
 module _ (r : Registers) (call : Call) where
-  -- the registers agree with the decoded call, if `c` is the call of `function` with their operands, and they agree
-  -- with any call that `rest` gives
+  -- registers with the operands of `c` agree with the decoded call, which is `c` if X0 is `function`, and otherwise the
+  -- call of `rest`, with which they agree
   one : (function : ℕ) (c : Call) (rest : Option Call) → record (with_operands (operand_count c) r) { x0 = function } ≡ registers_of c
       → (rest ≡ Some call → Agrees r call) → cond (r.x0 == function) (Some c) rest ≡ Some call → Agrees r call
   one function c rest agrees more =

@@ -8,7 +8,8 @@ use Rattle.rmi_abi.specs.declared.registers.Registers.{Registers}
 
 -- ---- from registers
 
--- the call that registers hold, or None if its function is unknown or has an identifier above that of REC_ENTER
+-- the call that registers hold, if it is a known call with a function identifier up to that of REC_ENTER, and None
+-- otherwise
 abbrev pub first_call_in : Registers → Option Call
 first_call_in r =
     if r.x0 == 0xC4000150 then Some (Version r.x1) else
@@ -24,7 +25,8 @@ first_call_in r =
     (if r.x0 == 0xC400015B then Some (RecDestroy r.x1) else
     (if r.x0 == 0xC400015C then Some (RecEnter r.x1 r.x2) else None)))))))))))
 
--- the call that registers hold, or None if its function is unknown or has an identifier below that of RTT_CREATE
+-- the call that registers hold, if it is a known call with a function identifier from that of RTT_CREATE on, and None
+-- otherwise
 abbrev pub last_call_in : Registers → Option Call
 last_call_in r =
     if r.x0 == 0xC400015D then Some (RttCreate r.x1 r.x2 r.x3 r.x4) else
@@ -49,7 +51,7 @@ call_in r = if nat_le r.x0 0xC400015C then first_call_in r else last_call_in r
 abbrev pub registers : ℕ → ℕ → ℕ → ℕ → ℕ → Registers
 registers function x1 x2 x3 x4 = record { x0 = function; x1 = x1; x2 = x2; x3 = x3; x4 = x4; x5 = 0; x6 = 0 }
 
--- The registers of a call: its function identifier, its operands, and zeros after them.
+-- The registers that encode a call, with its function identifier, its operands, and zeros after them.
 abbrev pub registers_of : Call → Registers
 registers_of (Version requested) = registers 0xC4000150 requested 0 0 0
 registers_of (GranuleDelegate address) = registers 0xC4000151 address 0 0 0

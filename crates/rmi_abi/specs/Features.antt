@@ -5,7 +5,7 @@ use Rattle.rmi_abi.specs.declared.settings.Layout.{Layout}
 use Rattle.rmi_abi.specs.declared.settings.Layout.TheVariants.{Rel0, Eac5}
 use Rattle.rmi_abi.specs.declared.settings.RmmSettings.{RmmSettings}
 
--- the sum of the fields of feature register 0, each at its first bit: S2SZ, NUM_BPS, NUM_WPS, both hashes,
+-- the sum of the fields of feature register 0, each shifted to its first bit: S2SZ, NUM_BPS, NUM_WPS, both hashes,
 -- GICV3_NUM_LRS and MAX_RECS_ORDER
 abbrev pub fields : Layout → RmmSettings → ℕ
 fields Rel0 s = s.s2sz + s.bps * 2 ^ 14 + s.wps * 2 ^ 20 + (2 ^ 32 + 2 ^ 33) + s.lrs * 2 ^ 34 + s.max_recs_order * 2 ^ 38

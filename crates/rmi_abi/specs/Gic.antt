@@ -11,8 +11,8 @@ gicv3_hcr_in page = word_of_page page 96
 abbrev pub gicv3_lr_in : List ℕ → ℕ → ℕ
 gicv3_lr_in page k = word_of_page page (97 + k)
 
--- A value of gicv3_hcr has only bits set that a host may set. They are UIE, LRENPIE, NPIE, VGrp0EIE, VGrp0DIE, VGrp1EIE
--- and VGrp1DIE, from bit 1 on, and TDIR, bit 14.
+-- A host may set each bit that is 1 in the value of gicv3_hcr. A host may set UIE, LRENPIE, NPIE, VGrp0EIE, VGrp0DIE,
+-- VGrp1EIE and VGrp1DIE, from bit 1 on, and TDIR, bit 14.
 abbrev pub is_gicv3_hcr : ℕ → Bool
 is_gicv3_hcr hcr = hcr % 2 == 0 && hcr / 2 ^ 8 % 2 ^ 6 == 0 && hcr / 2 ^ 15 == 0
 

@@ -4,7 +4,7 @@ use Rattle.std.specs.Prelude.{ℕ, ◌%◌, ◌^◌, List}
 use Rattle.page_arena.specs.Word.{word_of_page}
 use Rattle.rmi_abi.specs.declared.realm_params.RealmParams.{RealmParams}
 
--- the byte at the start of word i of a page
+-- the first byte of 64-bit word i of a page
 abbrev pub byte_of_page : List ℕ → ℕ → ℕ
 byte_of_page page i = word_of_page page i % 2 ^ 8
 

@@ -13,7 +13,7 @@ mpidr_in page = word_of_page page 32
 abbrev pub pc_in : List ℕ → ℕ
 pc_in page = word_of_page page 64
 
--- the value for general-purpose register k, k from 0 to 7
+-- the initial value of general-purpose register k of a new REC, k from 0 to 7
 abbrev pub gpr_in : List ℕ → ℕ → ℕ
 gpr_in page k = word_of_page page (96 + k)
 

@@ -1,5 +1,5 @@
--- The fields of a REC's run page: the host's values for an entry, and the values from an exit. RMM 1.0, RmiRecEnter
--- from 0x000 on, and RmiRecExit from 0x800 on: each field is one of the page's 512 words.
+-- The fields of a REC's run page: the host's values for a REC entry, and the values from a REC exit. RMM 1.0,
+-- RmiRecEnter from 0x000 on, and RmiRecExit from 0x800 on: each field is one of the page's 512 words.
 use Rattle.std.specs.Prelude.{ℕ, ◌+◌, ◌/◌, ◌%◌, ◌==◌, Bool, List, if◌then◌else◌}
 use Rattle.page_arena.specs.Word.{word_of_page}
 use Rattle.rmi_abi.specs.declared.rec_run.ExitReason.{ExitReason}

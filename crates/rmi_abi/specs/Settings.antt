@@ -4,11 +4,12 @@ use Rattle.rmi_abi.specs.declared.settings.Layout.{Layout}
 use Rattle.rmi_abi.specs.declared.settings.Layout.TheVariants.{Rel0, Eac5}
 use Rattle.rmi_abi.specs.declared.settings.RmmSettings.{RmmSettings}
 
--- both base addresses are multiples of 4,096 below 2^47
+-- `base` and `secure_base` are multiples of 4,096 below 2^47
 abbrev pub has_addresses : RmmSettings → Bool
 has_addresses s = nat_lt s.base (2 ^ 47) && s.base % 4096 == 0 && nat_lt s.secure_base (2 ^ 47) && s.secure_base % 4096 == 0
 
--- the sizes are in their ranges: auxiliary granules, VMID bits, IPA width, MAX_RECS_ORDER, and block level
+-- the numbers of auxiliary granules and VMID bits, the IPA width, MAX_RECS_ORDER and the block level are in their
+-- ranges
 abbrev pub has_sizes : RmmSettings → Bool
 has_sizes s =
     nat_le s.aux 16 && (s.vmid_bits == 8 || s.vmid_bits == 16) && nat_le 32 s.s2sz && nat_le s.s2sz 48 && nat_le s.max_recs_order 15
@@ -26,7 +27,7 @@ has_fields s = nat_le s.bps (most_breakpoints s.layout) && nat_le s.wps (most_br
 abbrev pub is_platform : RmmSettings → Bool
 is_platform s = has_addresses s && has_sizes s && has_fields s
 
--- The bounds that hold for the settings of every platform.
+-- The settings are within the bounds that hold for every platform.
 pub record IsPlatform (s : RmmSettings) : Type 0 where
   pub base : s.base < 2 ^ 47
   pub base_aligned : s.base % 4096 ≡ 0

@@ -22,7 +22,7 @@ word_at status index =
     (if status == 1 && index == 0 then Some ErrorInput else
     (if status == 3 && index == 0 then Some ErrorRec else None))))
 
--- the result word that a value of X0 encodes, or None if the standard defines none; it does not define Running
+-- the result word that a value of X0 encodes; None if the standard defines none for the value, as for that of `Running`
 abbrev pub word_of : ℕ → Option Word
 word_of x0 = if nat_lt x0 0x10000 then word_at (x0 % 256) (x0 / 256) else None
 

@@ -1,4 +1,4 @@
-//! The run page of a REC: the values for its entry and from its exit.
+//! The values in a REC's run page: those for a REC entry, and those from a REC exit.
 ghost use Rattle.std.specs.Prelude.{◌≡◌, ◌<◌, length};
 ghost use Rattle.rmi_abi.specs.RecRun as runs;
 

@@ -16,7 +16,7 @@ pub struct Registers {
     pub x6: u64,
 }
 
-/// The result of an RMI command: its result word and the outputs X1 to X4.
+/// The result word of an RMI command, and its outputs X1 to X4.
 #[derive(Clone, Copy)]
 pub struct SmcResult {
     pub word: Word,

@@ -1,23 +1,24 @@
-//! The settings of an RMM: choices that the RMM standard leaves to an implementation.
+//! The settings of an RMM, which are choices that the RMM standard leaves to an implementation.
 ghost use Rattle.std.specs.Prelude.{◌≡◌, Some, None, if◌then◌else◌};
 ghost use Rattle.rmi_abi.specs.Settings as ranges;
 
 use std::marker::Model;
 
-/// The layout of feature register 0: as in RMM 1.0-rel0, or as in the drafts up to 1.0-eac5.
+/// The layout of feature register 0, as in RMM 1.0-rel0, or as in the drafts up to 1.0-eac5.
 #[derive(Clone, Copy)]
 pub enum Layout {
     Rel0,
     Eac5,
 }
 
-/// The settings of an RMM: its memory, its limits, and choices in its behavior. If the standard leaves a choice open,
-/// the default is the likeliest choice.
+/// The memory and the limits of an RMM, and choices in its behavior. If the standard leaves a choice open, the default
+/// is the likeliest choice.
 #[derive(Clone, Copy)]
 pub struct RmmSettings {
     /// The address of the first granule of the machine's memory.
     pub base: u64,
-    /// The address of the first secure granule. There are `secure_count` secure granules, which cannot be delegated.
+    /// The address of the first granule of the secure world. `secure_count` granules from there on are of the secure
+    /// world, and cannot be delegated.
     pub secure_base: u64,
     pub secure_count: u16,
     /// The number of auxiliary granules of a REC.
@@ -43,8 +44,8 @@ pub struct RmmSettings {
     pub ignores_data_flags: bool,
     /// Whether DATA_CREATE requires that the RIPAS is RAM.
     pub data_needs_ram: bool,
-    /// Whether the output `top` of a command, for an IPA whose own entry is live, is where that entry begins. If not,
-    /// `top` is the IPA itself.
+    /// Whether commands align their output `top` down to the start of the entry of the IPA, if that entry is live.
+    /// Without this alignment, `top` is then the IPA itself.
     pub aligns_live_top: bool,
     /// Whether a PSCI exit shows the host only the function and the target of the PSCI call.
     pub shows_target_alone: bool,

@@ -17,7 +17,7 @@ use Rattle.realm_model.specs.declared.act.RealmAndRec.{RealmAndRec}
 use Rattle.rmi_monitor.specs.Mirror.{IsAsked, NewestIsAccepted}
 use Rattle.rmi_monitor.proofs.Forward.{holder_is, same_outcome}
 
--- an operation that is a command and a step of the model meets the requirements `IsAsked`
+-- an operation that is a command, and that the model accepts in the world, meets the requirements `IsAsked`
 asked_of : (limits : Limits) (world next : World) (build : ℕ) (act : Act) → is_command act ≡ true → step limits world (by build act) ≡ Some next
     → IsAsked limits world build act
 asked_of limits world next build act command stepped =

@@ -1,4 +1,5 @@
--- The proof that taking a block and giving a block back are steps of the model.
+-- The proof that the model accepts a Take of a free block, and an UnTake of a block whose Take is its build's newest
+-- open operation.
 use Rattle.std.proofs.Common.{◌≡◌, ℕ, ◌+◌, ◌-◌, ◌%◌, ◌^◌, ◌<◌, ◌≤◌, Bool, true, false, List, [], ◌∷◌, length, map, Option, Some, None, refl, sym, ap, ◌∙◌, subst, arith}
 use Rattle.std.specs.Prelude.{is_none, slice_get}
 use Rattle.std.specs.List.{All, list_all, last_or}
@@ -46,8 +47,9 @@ module _ (limits : Limits) (history : List Event) (world : World) (monitor : Mon
   flags_long : length (map is_none world.leases) ≡ length world.leases
   flags_long = length-map world.leases is_none
 
-  -- an operation in turn that is a step of the model meets `IsPerformed`, if the step changes the leases as specified,
-  -- and the new RMM agrees with the world after the step
+  -- An operation meets `IsPerformed` if the model accepts it in the world, and the RMM then agrees with the world after
+  -- the operation. A reverse has to undo the newest operation that its build has open. The operation has to change the
+  -- leases as `leases_after` says.
   performed_as : (act : Act) (new : MonitorView) (next : World) → IsInTurn history (by build act) → step limits world (by build act) ≡ Some next
       → new.vmids ≡ monitor.vmids → new.aux ≡ monitor.aux → new.machine ≡ next.machine → new.free ≡ map is_none next.leases
       → next.leases ≡ leases_after build act world.leases → IsPerformed limits history world build act new

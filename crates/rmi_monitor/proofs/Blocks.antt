@@ -20,7 +20,7 @@ use Rattle.rmi_monitor.proofs.Frames.{recs_beside, tables_stay, rows_stay}
 use Rattle.rmi_monitor.proofs.HostMoves.{cell_of-host}
 use Rattle.rmi_monitor.proofs.Granules.{as_many_pages, cell_is}
 
--- the fields with a block cleared and free
+-- the fields after a block is given back: its granules are free, and their contents are zero
 abbrev pub given : Fields → ℕ → ℕ → Fields
 given fields order first = record fields {
   pages = with_run fields.pages first (2 ^ order) zero_page;
@@ -53,7 +53,7 @@ module _ (monitor : MonitorView) (fields : Fields) (view_is : seen_as fields ≡
   page_inside : (g : ℕ) → first ≤ g → g < first + count → page_at new.pages g ≡ zero_page
   page_inside g low high = get_or-with_run_inside fields.pages first count zero_page fits g [] low high
 
-  -- a granule that is not UNDELEGATED keeps its page
+  -- giving the block back leaves the contents of a granule that is not UNDELEGATED unchanged
   page_stays : (g : ℕ) → (granule_at fields.granules g).state ≢ Undelegated → page_at new.pages g ≡ page_at fields.pages g
   page_stays g used = ⊎_elim
       (λ h. absurd (used (state_inside g h.0 h.1)))
@@ -96,7 +96,7 @@ module _ (monitor : MonitorView) (fields : Fields) (view_is : seen_as fields ≡
   descriptor_is : (g : ℕ) → descriptor_of new g ≡ descriptor_of fields g
   descriptor_is g = descriptor_stays fields new g refl refl (rows_stay fields new whole g (alone g))
 
-  -- after the block is given back, the cell of each granule in it is blank
+  -- after the block is given back, each of its granules is UNDELEGATED and zero, and belongs to no realm
   cell_inside : (g : ℕ) → first ≤ g → g < first + count → cell_of new g ≡ blank
   cell_inside g low high = cell_of-host new g (sound g) (state_inside g low high) refl (page_inside g low high)
 
@@ -151,7 +151,7 @@ module _ (fields : Fields) (whole : IsWhole fields) where
   whole_pages : (pages : List (List ℕ)) (free : List Bool) → pages ≡ fields.pages → IsWhole (with_store fields.pages free) → IsWhole (with_store pages free)
   whole_pages pages free same after = subst (λ ps. IsWhole (with_store ps free)) (sym same) after
 
-  -- the invariant holds after a free block is taken, or after none is, if the pages are unchanged
+  -- the invariant holds after a call that takes a free block or finds none, if the pages are unchanged
   pub whole_taken : (result : Option ℕ) (order : ℕ) (pages : List (List ℕ)) (free : List Bool) → IfSome result (IsFreeBlock fields.free order)
       → IfSome result (λ first. free ≡ with_taken fields.free order first) → IfNone result (free ≡ fields.free) → pages ≡ fields.pages → IsWhole (with_store pages free)
   whole_taken (Some first) order pages free block taken unchanged same =

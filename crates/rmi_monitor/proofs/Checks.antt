@@ -1,5 +1,5 @@
--- Proofs that only an UNDELEGATED granule passes the test for UNDELEGATED, and only a DELEGATED one the test for
--- DELEGATED.
+-- Proofs that a granule's state passes the test for UNDELEGATED only if it is UNDELEGATED, and the test for DELEGATED
+-- only if it is DELEGATED.
 use Rattle.std.proofs.Common.{◌≡◌, Bool, true, false, refl}
 use Rattle.realm_model.specs.declared.states.GranuleState.{GranuleState}
 use Rattle.realm_model.specs.declared.states.GranuleState.TheVariants.{Undelegated, Delegated}

@@ -42,12 +42,12 @@ use Rattle.rmi_monitor.proofs.RealmCreates.{CanStart, tables_delegated, whole_cr
 first_fails : (a b c d e f g : Bool) → a ≡ false → (a && b && c && d && e && f && g) ≡ false
 first_fails a b c d e f g h = ap (λ t. t && b && c && d && e && f && g) h
 
--- creating a realm is refused with an input error if no realm may have the given width
+-- creating a realm with an IPA width that no realm may have is refused with an input error
 pub create_no_width : (monitor : MonitorView) (rd first width vmid : ℕ) (given : Option ℕ) → given ≡ cond (is_width width) (Some width) None → given ≡ None
     → make_realm monitor rd (record { first = first; width = width }) vmid ≡ Err error_input
 create_no_width monitor rd first width vmid given e none = check_false _ _ _ (first_fails _ _ _ _ _ _ _ (test_failed (is_width width) width given e none))
 
--- if the test gives a width, it is the width that was tested, and a realm may have it
+-- if the check of `width` gives the value `given`, then `given` equals `width`, and a realm may have this IPA width
 pub is_given : (width given : ℕ) (place : Option ℕ) → place ≡ cond (is_width width) (Some width) None → place ≡ Some given → (is_width given ≡ true) × (given ≡ width)
 is_given width given place e is = let held = test_held (is_width width) width given place e is in (ap is_width held.1 ∙ held.0, held.1)
 
@@ -55,7 +55,7 @@ pub by_width : (monitor : MonitorView) (rd first vmid given width : ℕ) → giv
     → make_realm monitor rd (record { first = first; width = given }) vmid ≡ make_realm monitor rd (record { first = first; width = width }) vmid
 by_width monitor rd first vmid given width same = ap (λ w. make_realm monitor rd (record { first = first; width = w }) vmid) same
 
--- `IsBacked` still holds after the state and the realm of a taken granule change
+-- `IsBacked` still holds after a change of the state and the realm of a granule that is not free
 backed_put : (pages : List (List ℕ)) (free : List Bool) (granules : List Granule) → IsBacked pages free granules → (g : ℕ) (to : Granule) → is_free free g ≡ false
     → IsBacked pages free (set granules g to)
 backed_put pages free granules backed g to taken = record {
@@ -137,7 +137,7 @@ module _ (monitor : MonitorView) (fields : Fields) (view_is : seen_as fields ≡
         unfolding check
         create_done = by_fit ∙ (λ i. check (fit i && not (unused i)) error_input (Ok updates))
 
-        -- the tests that the first table's number is a multiple of the number of tables, and that the RD is DELEGATED
+        -- `root.first` is a multiple of the number of starting tables, and the RD is DELEGATED
         abbrev both : Bool
         both = root.first % start_count root.width == 0 && is_delegated_at fields.granules rd
 
@@ -169,13 +169,13 @@ module _ (monitor : MonitorView) (fields : Fields) (view_is : seen_as fields ≡
                 absurd (let differ : undelegated.state ≡ Delegated = ap (λ (x : Granule). x.state) (sym (get_or_past fields.granules table undelegated past)) ∙ was in cc))
                 (cases_lt table (length fields.granules))
 
-        -- after the call, granule `rd` is the realm's RD, since it was DELEGATED
+        -- if the checks pass, granule `rd` is DELEGATED, so the call that makes it the realm's RD succeeds
         pub create_shifted : (done : Bool) (shifted : List Granule) → (IsTrue done ↔ ((granule_at fields.granules rd).state ≡ Delegated))
             → OnTrue done (shifted ≡ with_state fields.granules rd InRd (Some rd)) → shifted ≡ with_state fields.granules rd InRd (Some rd)
         create_shifted true shifted answer is = is
         create_shifted false shifted answer is = absurd (let told = answer.1 rd_was in cc)
 
-        -- after the RD is in state RD
+        -- in `shifted`, granule `rd` has become the realm's RD
         module _ (shifted : List Granule) (shift : shifted ≡ with_state fields.granules rd InRd (Some rd)) where
           pub create_backed : IsBacked fields.pages fields.free shifted
           create_backed =
@@ -185,7 +185,8 @@ module _ (monitor : MonitorView) (fields : Fields) (view_is : seen_as fields ≡
           pub create_delegated : All (λ table. IsIn shifted table Delegated None) tables
           create_delegated = subst (λ gs. All (λ table. IsIn gs table Delegated None) tables) (sym shift) (tables_delegated fields whole rd root rd_inside rd_was starts)
 
-          -- after the starting tables are in state RTT too
+          -- in `granules`, the starting tables have become RTTs of the realm too, and in `used`, the realm's VMID is
+          -- marked
           module _ (realm : RealmAttributes) (realm_vmid : realm.vmid ≡ vmid) (realm_root : realm.root ≡ root) (fresh : realm_row realm empty (root_rows root.width) ≡ new_realm vmid root)
               (granules : List Granule) (pages : List (List ℕ)) (free : List Bool) (moved : granules ≡ with_states shifted tables InRtt (Some rd))
               (cleared : pages ≡ set_each zero_page tables fields.pages) (translation : rows pages root ≡ root_rows root.width)

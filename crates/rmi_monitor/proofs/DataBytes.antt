@@ -18,7 +18,7 @@ use Rattle.rmi_monitor.proofs.Granules.{machine_is, cell_is, after_by, in_machin
 abbrev pub with_pages : Fields → List (List ℕ) → Fields
 with_pages fields pages = record fields { pages = pages }
 
--- the bytes of a page of data are those of its page
+-- `bytes_of` returns the contents of a granule in state DATA as they are
 data_bytes : (state : GranuleState) (page : List ℕ) → state ≡ InData → bytes_of state page ≡ page
 data_bytes InData page e = refl
 data_bytes _ page e = cc
@@ -42,7 +42,7 @@ module _ (old : Fields) (whole : IsWhole old) (rd page offset value : ℕ) (is :
   elsewhere : (g : ℕ) → g ≢ page → page_at new.pages g ≡ page_at old.pages g
   elsewhere g differs = get_or-set_other old.pages page g (set (page_at old.pages page) offset value) [] differs
 
-  -- a granule that is not in state DATA keeps its page
+  -- a write to a granule in state DATA leaves the contents of every granule in another state unchanged
   page_stays : (g : ℕ) → (granule_at old.granules g).state ≢ InData → page_at new.pages g ≡ page_at old.pages g
   page_stays g other = elsewhere g (λ s. other (ap (λ h. (granule_at old.granules h).state) s ∙ state_is))
 

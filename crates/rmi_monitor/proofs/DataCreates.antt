@@ -35,7 +35,7 @@ use Rattle.rmi_monitor.proofs.RealmAfter.{Keeps}
 use Rattle.rmi_monitor.proofs.RealmPlaces.{no_table}
 use Rattle.rmi_monitor.proofs.RealmFound.{row_of, nowhere, somewhere, measured_there}
 
--- the three granules that the command names are taken
+-- the RD, the new page and the source that the command names are granules of the machine that are not free
 abbrev pub AreNamed : MonitorView → ℕ → ℕ → ℕ → Type 0
 AreNamed monitor rd g source = record { rd_taken : IsTaken monitor rd; page_taken : IsTaken monitor g; source_taken : IsTaken monitor source }
 
@@ -55,7 +55,7 @@ module _ {monitor : MonitorView} {fields : Fields} (has : HasFields monitor fiel
   abbrev may_copy : Bool
   may_copy = is_delegated_at fields.granules g && is_undelegated_at fields.granules source
 
-  -- a page that is DELEGATED and a source that is UNDELEGATED in the fields are so in the machine
+  -- if granule `g` is DELEGATED and the source is UNDELEGATED in the fields, both have these states in the machine too
   pub fit_seen : may_copy ≡ true → (is_delegated (seen_in monitor g) && is_undelegated (seen_in monitor source)) ≡ true
   fit_seen h = (λ k. delegated_seen k && undelegated_seen k) ∙ h
 
@@ -112,7 +112,7 @@ module _ {monitor : MonitorView} {fields : Fields} (has : HasFields monitor fiel
         create_refused : {l : ℕ} → ((f : Row → Outcome) → with_free_page (rows fields.pages at.0.root) at.1 f ≡ Err (error_rtt l)) → outcome ≡ Err (error_rtt l)
         create_refused refused = decided ∙ (λ k. with_free_page (rows fields.pages (sym located.tables k).root) (sym located.same k) on_row) ∙ refused on_row
 
-        -- the fields after the calls: the map, the copy, and the measurement
+        -- three calls have mapped the page, copied the source, and extended the measurement
         module _ {granules : List Granule} {pages : List (List ℕ)} {free : List Bool}
             (given_call : MapCall at.0 fields.pages fields.free fields.granules pages free granules g at.1 (Some Ram))
             {copied : List (List ℕ)} (copies : copied ≡ set pages g (page_at pages source)) {kept : List Bool} (keeps : kept ≡ free)
@@ -151,7 +151,7 @@ module _ {monitor : MonitorView} {fields : Fields} (has : HasFields monitor fiel
               subst (λ (to : List (List ℕ) × List Bool). IsMap to.0 to.1) (λ k. (sym copies k, sym keeps k))
               (mapped_written fields rd realm.root g granules pages free map (page_at pages source))
 
-          -- the source is as it was, and its bytes are now those of the page
+          -- after the call that maps the page, the source granule still has the bytes that the command has seen in it
           source_bytes : page_at pages source ≡ bytes_there
           source_bytes =
               call.others source (no_table fields has.whole rd realm there source (λ e. let differ : Undelegated ≡ InRtt = sym source_was ∙ e in cc))

@@ -29,7 +29,7 @@ use Rattle.rmi_monitor.proofs.Refusals.{Passes, passed_row, row_passes}
 use Rattle.rmi_monitor.proofs.RealmCommands.{with_call, Done, left_by, rows_done}
 use Rattle.rmi_monitor.proofs.RealmFound.{row_of, somewhere}
 
--- The postcondition of the call if it is not refused.
+-- The postcondition of a successful call that unmaps a page of data.
 pub record UnmapCall (at : Tables) (pages : List (List ℕ)) (free : List Bool) (granules : List Granule) (new_pages : List (List ℕ)) (new_free : List Bool) (new_granules : List Granule)
     (ipa : ℕ) : Type 0 where
   pub answer : (row : Row) × ((f : Row → Outcome) → with_mapped_page (rows pages at.root) ipa f ≡ f row)

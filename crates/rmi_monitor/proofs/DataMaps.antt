@@ -21,16 +21,17 @@ use Rattle.rmi_monitor.proofs.DataPages.{alone_twice, alone_written, tables_writ
 use Rattle.rmi_monitor.proofs.TableMoves.{is_moved_state}
 use Rattle.rmi_monitor.proofs.RealmCommands.{Moves}
 
--- after one granule has changed, each granule of the machine still has a page, if the pages back the new granules
+-- `pages` has contents for each granule of `old`, if `IsBacked` holds for `pages` and for `old` with one granule
+-- changed
 pub still_inside : (old granules : List Granule) (g : ℕ) (to : Granule) (pages : List (List ℕ)) (free : List Bool) → granules ≡ set old g to → IsBacked pages free granules
     → (h : ℕ) → h < length old → h < length pages
 still_inside old granules g to pages free moved backed h inside = subst (λ (n : ℕ). h < n) (sym (ap length moved ∙ length-set old g to) ∙ backed.as_many) inside
 
--- a granule that has a page still has one after a page is written
+-- `written`, which is `pages` with one element replaced, has contents for each granule for which `pages` has contents
 pub written_inside : (pages written : List (List ℕ)) (g : ℕ) (page : List ℕ) → written ≡ set pages g page → (h : ℕ) → h < length pages → h < length written
 written_inside pages written g page is h inside = subst (λ (n : ℕ). h < n) (sym (ap length is ∙ length-set pages g page)) inside
 
--- The postcondition of a map if it is not refused.
+-- The postcondition of a successful call that maps a page of data.
 pub record MapCall (at : Tables) (pages : List (List ℕ)) (free : List Bool) (granules : List Granule) (new_pages : List (List ℕ)) (new_free : List Bool) (new_granules : List Granule)
     (page ipa : ℕ) (ripas : Option Ripas) : Type 0 where
   pub answer : (row : Row) × ((f : Row → Outcome) → with_free_page (rows pages at.root) ipa f ≡ f row)
@@ -39,8 +40,7 @@ pub record MapCall (at : Tables) (pages : List (List ℕ)) (free : List Bool) (g
   pub others : ChangesTablesOnly at.root pages new_pages
   pub keeps : Keeps at.rd at.root pages free granules new_pages new_free new_granules
 
--- a map that meets its postcondition at the located tables and IPA granule meets it at the realm's tables and the given
--- IPA granule
+-- if `MapCall` holds for the tables and the IPA granule that were located, it holds for the realm's tables and `ipa`
 pub map_call_at : {realm : RealmAttributes} {rd ipa : ℕ} {at : Tables × ℕ} {pages : List (List ℕ)} {free : List Bool} {granules : List Granule}
     {new_pages : List (List ℕ)} {new_free : List Bool} {new_granules : List Granule} {page : ℕ} {ripas : Option Ripas}
     → IsLocated realm rd ipa at → MapCall at.0 pages free granules new_pages new_free new_granules page at.1 ripas
@@ -48,7 +48,7 @@ pub map_call_at : {realm : RealmAttributes} {rd ipa : ℕ} {at : Tables × ℕ} 
 map_call_at {pages = pages} {free = free} {granules = granules} {new_pages = new_pages} {new_free = new_free} {new_granules = new_granules} {page = page} {ripas = ripas} located call =
     subst (λ (to : Tables × ℕ). MapCall to.0 pages free granules new_pages new_free new_granules page to.1 ripas) (λ k. (located.tables k, located.same k)) call
 
--- a map that meets its postcondition moves a DELEGATED granule to the realm, in state DATA
+-- a call that meets `MapCall` moves a DELEGATED granule to the realm, in state DATA
 pub mapped_by : {fields : Fields} {rd : ℕ} {root : Root} {g ipa : ℕ} {ripas : Option Ripas} {granules : List Granule} {pages : List (List ℕ)} {free : List Bool}
     → MapCall (record { rd = rd; root = root }) fields.pages fields.free fields.granules pages free granules g ipa ripas
     → g < length fields.granules → (granule_at fields.granules g).state ≡ Delegated → Moves fields rd root g (record { state = InData; realm = Some rd }) granules pages free
@@ -63,7 +63,7 @@ mapped_by call inside was = record {
   keeps = call.keeps;
 }
 
--- the page is written after the map
+-- granule `g` was moved to the realm in state DATA, and its contents are written afterwards
 module _ (fields : Fields) (rd : ℕ) (root : Root) (g : ℕ) (granules : List Granule) (pages : List (List ℕ)) (free : List Bool)
     (map : Moves fields rd root g (record { state = InData; realm = Some rd }) granules pages free) (page : List ℕ) where
   state_now : (granule_at granules g).state ≡ InData

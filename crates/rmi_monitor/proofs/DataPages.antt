@@ -1,4 +1,4 @@
--- Proofs that writing the page of a DATA granule leaves the tables of all realms unchanged.
+-- Proofs that writing the contents of a DATA granule leaves the tables of all realms unchanged.
 use Rattle.std.proofs.Common.{◌≡◌, ◌≢◌, ℕ, Bool, List, [], set, sym, ap, ◌∙◌}
 use Rattle.std.proofs.lemmas.List.{length-set, get_or-set_other}
 use Rattle.granule_addr.specs.declared.width.Root.{Root}
@@ -9,7 +9,7 @@ use Rattle.rtt.specs.Tables.{rows}
 use Rattle.rtt.specs.Realm.{IsBacked, HasTables, LeavesAlone}
 use Rattle.rtt.proofs.FrameLaws.{rows-alone, HasTables-alone}
 
--- a realm that two changes leave alone, one after the other, is left alone by both together
+-- if each of two changes in sequence leaves a realm alone, so do both together
 pub alone_twice : (rd : ℕ) (pages : List (List ℕ)) (granules : List Granule) (next : List (List ℕ)) (next_granules : List Granule) (last : List (List ℕ)) (last_granules : List Granule)
     → LeavesAlone rd pages granules next next_granules → LeavesAlone rd next next_granules last last_granules → LeavesAlone rd pages granules last last_granules
 alone_twice rd pages granules next next_granules last last_granules a b = record {

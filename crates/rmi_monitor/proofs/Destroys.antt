@@ -47,7 +47,7 @@ module _ (monitor : MonitorView) (fields : Fields) (view_is : seen_as fields ≡
     checked none tables n t =
         somewhere monitor fields view_is whole rd realm there _ ∙ (λ i. check (n i && not (t i)) error_realm (Ok updates))
 
-    -- the count of the realm's RECs, as the code reads it
+    -- the code has read `count`, the number of the realm's RECs
     module _ (place count : ℕ) (same : place ≡ rd) (read : count ≡ get_or fields.rec_counts place count) where
       count_is : count ≡ rec_count_at fields rd
       count_is = count_read fields whole rd (in_granules monitor fields view_is whole rd taken) place same count read
@@ -81,7 +81,7 @@ module _ (monitor : MonitorView) (fields : Fields) (view_is : seen_as fields ≡
             unfolding check
             destroy_done = checked true false no_recs (not_true (has_root_table realm.root.width row.rows) (sym (closed ∙ ap (λ r. not (has_root_table r.width (rows fields.pages r))) root_is)))
 
-            -- after the starting tables are zero and DELEGATED
+            -- the starting tables are DELEGATED in `granules`, and zero in `pages`
             module _ (granules : List Granule) (pages : List (List ℕ)) (moved : granules ≡ with_states fields.granules (starting_tables root) Delegated None)
                 (cleared : pages ≡ set_each zero_page (starting_tables root) fields.pages) where
               rd_in_pages : rd < length pages
@@ -98,7 +98,7 @@ module _ (monitor : MonitorView) (fields : Fields) (view_is : seen_as fields ≡
                   ap (λ gs. (granule_at gs rd).state) (moved ∙ ap (λ r. with_states fields.granules (starting_tables r) Delegated None) root_is)
                   ∙ ap (λ (x : Granule). x.state) (rd_still fields whole rd realm there no_rec) ∙ in_rd fields whole rd realm there
 
-              -- the RD still has a page, and is taken
+              -- `pages` still has contents for the RD, and the RD is not free
               pub destroy_page : (free : List Bool) → free ≡ fields.free → HasPage pages free rd
               destroy_page free flags = record { inside = rd_in_pages; taken = ap (λ fs. is_free fs rd) flags ∙ not_free monitor fields view_is whole rd taken }
 

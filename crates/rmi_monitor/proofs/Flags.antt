@@ -1,5 +1,5 @@
--- Proofs about the store's flags: a granule that is flagged as free is leased by nobody, and a leased granule is
--- flagged as taken.
+-- Proofs about the page store's flags for free granules: a granule that is flagged as free is leased by no build, and a
+-- leased granule is flagged as taken.
 use Rattle.std.proofs.Common.{◌≡◌, ℕ, zero, suc, true, false, List, [], ◌∷◌, map, Option, Some, None, refl}
 use Rattle.std.specs.Prelude.{is_none, slice_get}
 use Rattle.page_arena.specs.Page.{is_free}

@@ -1,4 +1,5 @@
--- The proof that each operation that the RMM performs is a step of the model.
+-- The proof that the model accepts each command that the RMM performs for a build, and refuses each command that the
+-- RMM refuses. The command has to meet `IsAsked` and `IsInTurn`.
 use Rattle.std.proofs.Common.{◌≡◌, ℕ, true, List, map, Option, Some, None, Ok, Err, refl, sym, ap, ◌∙◌, subst}
 use Rattle.std.specs.Prelude.{option_map, slice_get}
 use Rattle.std.specs.List.{All}
@@ -43,7 +44,7 @@ rd_seen machine None there = refl
 rd_seen machine (Some rd) there = λ i. Some (record { number = rd.number; cell = there i })
 
 module _ (limits : Limits) (history : List Event) (world : World) (monitor : MonitorView) (mirror : IsMirror limits history world monitor) (build : ℕ) where
-  -- the realm of a build is what commands see at its RD
+  -- commands see a build's realm in the RMM as it is in the world
   pub realm_seen : realm_on monitor (rd_of build world) ≡ realm_of build world
   realm_seen =
       ap (λ (m : Machine). option_map (seen m) (rd_of build world)) mirror.machine

@@ -25,7 +25,8 @@ use Rattle.rmi_monitor.proofs.UsedVmids.{AreUsed}
 
 -- ---- granules
 
--- The granules that are not touched stay the same, with their RECs, but for the pages of tables.
+-- A granule at which `touched` is false keeps its state, its realm and its REC, and also its contents unless it is a
+-- table. The free flags and the numbers of granules and of pages stay the same.
 pub record Stays (old new : Fields) (touched : ℕ → Bool) : Type 0 where
   pub free : new.free ≡ old.free
   pub granule_count : length new.granules ≡ length old.granules
@@ -35,7 +36,8 @@ pub record Stays (old new : Fields) (touched : ℕ → Bool) : Type 0 where
   pub rec : (g : ℕ) → touched g ≡ false → rec_at new g ≡ rec_at old g
 
 module _ (old new : Fields) (touched : ℕ → Bool) (stays : Stays old new touched) where
-  -- a granule that is not touched stays sound, if its realm stays
+  -- `IsSoundAt` still holds for a granule that is not touched, if `realm_at` has the same value there in `old` and
+  -- `new`
   sound_kept : (g : ℕ) → touched g ≡ false → realm_at new g ≡ realm_at old g → IsSoundAt old g → IsSoundAt new g
   sound_kept g e realm was =
       let same : (granule_at new.granules g).state ≡ (granule_at old.granules g).state = ap (λ (x : Granule). x.state) (stays.granule g e) in
@@ -47,7 +49,7 @@ module _ (old new : Fields) (touched : ℕ → Bool) (stays : Stays old new touc
         rec = ap is_some (stays.rec g e) ∙ was.rec ∙ sym (ap is_rec_state same);
       }
 
-  -- each granule that is not UNDELEGATED is taken, if each touched one is
+  -- `IsBacked` still holds after the change, if no touched granule was free before
   pub backed_after : IsBacked old.pages old.free old.granules → ((g : ℕ) → touched g ≡ true → is_free old.free g ≡ false) → IsBacked new.pages new.free new.granules
   backed_after was taken = record {
     as_many = stays.granule_count ∙ was.as_many ∙ sym stays.page_count;
@@ -59,7 +61,7 @@ module _ (old new : Fields) (touched : ℕ → Bool) (stays : Stays old new touc
         ] refl;
   }
 
-  -- A realm is left alone if no page of a table is changed, and no granule in state RTT or DATA is touched.
+  -- A realm is left alone if the contents of no table change, and no granule in state RTT or DATA is touched.
   pub alone_after : ((g : ℕ) → (granule_at old.granules g).state ≡ InRtt → page_at new.pages g ≡ page_at old.pages g)
       → ((g : ℕ) → (granule_at old.granules g).state ≡ InRtt → touched g ≡ false)
       → ((g : ℕ) → (granule_at old.granules g).state ≡ InData → touched g ≡ false)
@@ -75,7 +77,7 @@ module _ (old new : Fields) (touched : ℕ → Bool) (stays : Stays old new touc
 
 -- ---- RECs
 
--- a granule that is a REC is in state REC
+-- a granule at which the fields have the attributes of a REC is in state REC, if `IsSoundAt` holds for it
 pub in_rec : (fields : Fields) (g : ℕ) → IsSoundAt fields g → (rec : RecAttributes) → rec_at fields g ≡ Some rec → (granule_at fields.granules g).state ≡ InRec
 in_rec fields g sound rec e = rec_state (granule_at fields.granules g).state (sym sound.rec ∙ ap is_some e)
   where
@@ -90,8 +92,8 @@ pub record StayRecs (old new : Fields) : Type 0 where
   pub granule : (g : ℕ) → (granule_at old.granules g).state ≡ InRec → granule_at new.granules g ≡ granule_at old.granules g
   pub auxiliary : (g : ℕ) → (granule_at old.granules g).state ≡ InRecAux → granule_at new.granules g ≡ granule_at old.granules g
 
--- The RECs after a command: their invariant holds, each realm but `rd` has the same RECs, and the count kept for each
--- realm is the number of its RECs.
+-- The invariant of RECs holds after a command, and each realm but `rd` has the same RECs as before. The count kept for
+-- each realm is the number of its RECs.
 pub record LeavesRecs (old new : Fields) (rd : ℕ) : Type 0 where
   pub has : HasRecs new
   pub others : (r : ℕ) → r ≢ rd → recs_of new.granules new.recs r ≡ recs_of old.granules old.recs r
@@ -101,7 +103,7 @@ module _ (old new : Fields) (stay : StayRecs old new) (whole : IsWhole old) wher
   rec_granule : (g : ℕ) (rec : RecAttributes) → rec_at old g ≡ Some rec → granule_at new.granules g ≡ granule_at old.granules g
   rec_granule g rec e = stay.granule g (in_rec old g (whole.each g) rec e)
 
-  -- each realm has the same RECs
+  -- each realm has the same RECs as before
   pub recs_of_stay : (rd : ℕ) → recs_of new.granules new.recs rd ≡ recs_of old.granules old.recs rd
   unfolding recs_of
   recs_of_stay rd =
@@ -153,8 +155,8 @@ module _ (old new : Fields) (stay : StayRecs old new) (whole : IsWhole old) wher
           let after = there g before.rd rec before.realm at before.of before.there in
           record { rd = before.rd; of = realm_same g rec at ∙ before.of; realm = after.0; there = after.1; below = nat_within rec.number before.realm.next after.0.next before.below after.2 }
 
-  -- `LeavesRecs` holds for any realm, if the counts stay, and each realm that had a REC still exists, with no smaller
-  -- next REC number
+  -- `LeavesRecs` holds for any realm, if the counts of RECs stay the same, and each realm that had a REC still exists,
+  -- with no smaller next REC number
   pub recs_stay : new.rec_counts ≡ old.rec_counts
       → ((g rd : ℕ) (rec : RecAttributes) (realm : RealmAttributes) → rec_at old g ≡ Some rec → (granule_at old.granules g).realm ≡ Some rd → realm_at old rd ≡ Some realm
       → (now : RealmAttributes) × (realm_at new rd ≡ Some now) × (realm.next ≤ now.next))
@@ -165,7 +167,7 @@ module _ (old new : Fields) (stay : StayRecs old new) (whole : IsWhole old) wher
     counted = λ r. ap (λ cs. get_or cs r 0) counts ∙ whole.counted r ∙ ap len (sym (recs_of_stay r));
   }
 
--- RECs do not depend on pages
+-- if the fields meet their invariant, the invariant of RECs still holds with any other pages and free flags
 pub recs_beside : (old : Fields) → IsWhole old → (pages : List (List ℕ)) (free : List Bool) → HasRecs (record old { pages = pages; free = free })
 recs_beside old whole pages free =
     (recs_stay old (record old { pages = pages; free = free }) (record { granule_count = refl; rec = λ g. refl; granule = λ g is. refl; auxiliary = λ g is. refl })
@@ -184,8 +186,8 @@ module _ (old new : Fields) (whole : IsWhole old) (rd : ℕ) (alone : LeavesAlon
 
 -- ---- all together
 
--- One realm may be created, changed or destroyed, and if it exists afterwards, it has its tables. The granules that are
--- touched are sound, and the other realms are left alone.
+-- From `old` to `new`, only realm `rd` may be created, changed or destroyed, and it has its tables if it exists in
+-- `new`. The granules that are touched are sound, and the other realms are left alone.
 pub record Leaves (old new : Fields) (rd : ℕ) (touched : ℕ → Bool) : Type 0 where
   pub stays : Stays old new touched
   pub realm_places : length new.realms ≡ length old.realms

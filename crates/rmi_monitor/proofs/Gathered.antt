@@ -1,5 +1,5 @@
--- Lemmas about the finite map of the entries at the indexes below a bound: its size, lookups in it, and the map after
--- one entry changes.
+-- Lemmas about the finite map gathered from a function's entries: its size, lookups in it, and the map after one entry
+-- changes.
 use Rattle.std.proofs.Common.{◌≡◌, ◌≢◌, ℕ, zero, suc, ◌+◌, ◌-◌, ◌<◌, ◌≤◌, Bool, true, false, cond, Option, Some, None, refl, sym, ap, ◌∙◌, subst, ⊎_elim, arith}
 use Rattle.std.specs.Prelude.{is_some}
 use Rattle.std.specs.Cmp.{nat_cmp_total, unsigned_tied}
@@ -86,7 +86,7 @@ module _ {A : Type 0} where
   gathered-none f zero none = refl
   gathered-none f (suc n) none = ap (λ o. added o (gathered f n)) (none n (omega arith)) ∙ gathered-none f n (λ i lt. none i (omega arith))
 
-  -- if no two indexes have the same key, the gathered map has the value of each index's entry at its key
+  -- if no two indexes have entries with the same key, the gathered map has the entry of each index
   pub get-gathered : (f : ℕ → Option (ℕ × A)) (n i key : ℕ) (a : A) → IsOnce f n → i < n → f i ≡ Some (key, a) → get (gathered f n) key ≡ Some a
   unfolding gathered
   get-gathered f zero i key a once lt there = absurd (omega arith)
@@ -131,7 +131,8 @@ module _ {A : Type 0} where
 
   -- ---- one place that changes
 
-  -- if only one index's entry changes, the map keeps its value at each key that is neither the old nor the new entry's
+  -- if only the entry at one index changes, the map keeps its value at every key except those of the old and the new
+  -- entry
   get-gathered_other : (f g : ℕ → Option (ℕ × A)) (n i q : ℕ) → ((entry : ℕ × A) → f i ≡ Some entry → entry.0 ≢ q) → ((entry : ℕ × A) → g i ≡ Some entry → entry.0 ≢ q)
       → ((j : ℕ) → j < n → j ≢ i → g j ≡ f j) → get (gathered g n) q ≡ get (gathered f n) q
   unfolding gathered
@@ -149,12 +150,12 @@ module _ {A : Type 0} where
           ∙ rest
           ∙ sym (get-added_other (f n) (gathered f n) q (λ entry e. before entry (sym (ap f s) ∙ e)))
 
-  -- if an option is an entry with key `key`, and `q` is another number, its entry does not have key `q`
+  -- an option that has an entry with another key than `q` has no entry with the key `q`
   own_number : (o : Option (ℕ × A)) (key : ℕ) (a : A) (q : ℕ) → o ≡ Some (key, a) → q ≢ key → (entry : ℕ × A) → o ≡ Some entry → entry.0 ≢ q
   own_number o key a q there ne entry e same = ne (sym same ∙ ap (λ x. x.0) (same_Some _ _ (sym e ∙ there)))
 
-  -- an entry put at an index that had no entry with another key is inserted into the map, if keys are distinct
-  -- afterwards
+  -- setting the entry at an index is an insert into the map, if keys are distinct afterwards, and any old entry there
+  -- had the same key
   pub gathered-put : (f g : ℕ → Option (ℕ × A)) (n i key : ℕ) (a : A) → IsOnce g n → i < n → g i ≡ Some (key, a) → ((old : ℕ × A) → f i ≡ Some old → old.0 ≡ key)
       → ((j : ℕ) → j < n → j ≢ i → g j ≡ f j) → gathered g n ≡ insert (gathered f n) key a
   gathered-put f g n i key a once lt there own others =

@@ -52,16 +52,16 @@ module _ (monitor : MonitorView) (fields : Fields) (view_is : seen_as fields ≡
   pub cell_is : (g : ℕ) → g < length monitor.machine → cell_at monitor.machine g ≡ cell_of fields g
   cell_is g h = ap (λ m. cell_at m g) (sym machine_is) ∙ cell_at-machine_of fields g (subst (λ n. g < n) as_many_granules h)
 
-  -- fields that have the machine after a command, and the same settings and free flags as before, are seen as the RMM
-  -- after the command
+  -- a command leads to the RMM with the fields `new`, if the command leads to the machine of `new`, and the settings
+  -- and the free flags are unchanged
   pub after_by : (outcome : Outcome) (new : Fields) → new.vmids ≡ fields.vmids → new.aux ≡ fields.aux → new.free ≡ fields.free
       → machine_of new ≡ machine_after_command outcome monitor.machine → seen_as new ≡ after_command outcome monitor
   after_by outcome new vmids aux free made =
       (λ i. record { vmids = vmids i; aux = aux i; machine = made i; free = free i })
       ∙ ap (λ (m : MonitorView). record m { machine = machine_after_command outcome monitor.machine }) view_is
 
-  -- fields that have the machine after a successful command's updates, and the same settings and free flags as before,
-  -- are seen as the RMM after the command
+  -- a successful command leads to the RMM with the fields `new`, if its updates lead to the machine of `new`, and the
+  -- settings and the free flags are unchanged
   pub after_done : (new : Fields) (updates : List Update) (outcome : Outcome) → outcome ≡ Ok updates → new.vmids ≡ fields.vmids → new.aux ≡ fields.aux → new.free ≡ fields.free
       → machine_of new ≡ machine_after_all updates monitor.machine → seen_as new ≡ after_command outcome monitor
   after_done new updates outcome e vmids aux free made = after_by outcome new vmids aux free (made ∙ ap (λ o. machine_after_command o monitor.machine) (sym e))
@@ -107,7 +107,7 @@ module _ (monitor : MonitorView) (fields : Fields) (view_is : seen_as fields ≡
     pub is_not_delegated : ((granule_at fields.granules g).state ≡ Delegated → ⊥) → is_delegated (seen_in monitor g) ≡ false
     is_not_delegated was = seen_delegated ∙ not_delegated (granule_at fields.granules g).state was
 
-    -- the bytes of an UNDELEGATED granule are those of its page
+    -- the fields and the machine have the same bytes of an UNDELEGATED granule
     pub undelegated_bytes : (granule_at fields.granules g).state ≡ Undelegated → page_at fields.pages g ≡ (seen_in monitor g).cell.bytes
     undelegated_bytes was = sym (ap (λ (c : Cell). c.bytes) (cell_is g taken.inside ∙ cell_of-host fields g (whole.each g) was refl refl))
 
@@ -118,8 +118,8 @@ module _ (monitor : MonitorView) (fields : Fields) (view_is : seen_as fields ≡
       pub whole_after : (new : Fields) → new ≡ moved fields g state page → IsWhole new
       whole_after new e = subst IsWhole (sym e) (whole_moved fields whole g in_granules not_free state page was is zero)
 
-      -- fields with only granule `g` moved are seen as the RMM after a command whose check holds and which puts the
-      -- granule's new cell
+      -- a command that sets the cell of granule `g` as `moved` does, and no other cell, leads to the RMM that `moved`
+      -- gives, if the command's check passes
       pub moved_after : (new : Fields) → new ≡ moved fields g state page → (holds : Bool) (cell : Cell) → holds ≡ true → host_cell state page ≡ cell
           → seen_as new ≡ after_command (check holds error_input (Ok (Put g cell ∷ []))) monitor
       unfolding machine_after_all
@@ -187,7 +187,7 @@ module _ (monitor : MonitorView) (fields : Fields) (view_is : seen_as fields ≡
           moved_after Undelegated (page_at fields.pages g) (ap is_host_state was) refl (λ e. cc) (after_calls granules fields.pages fields.free) undelegated_fields
           (is_delegated (seen_in monitor g)) (record (seen_in monitor g).cell { state = Undelegated }) (is_delegated_there was) undelegated_cell
 
--- a DELEGATED granule that is taken belongs to no realm
+-- a DELEGATED granule that is inside the machine and not free belongs to no realm
 pub delegated_there : {monitor : MonitorView} {fields : Fields} → HasFields monitor fields → {g : ℕ} → IsTaken monitor g → is_delegated_at fields.granules g ≡ true
     → IsIn fields.granules g Delegated None
 delegated_there {monitor} {fields} has {g} taken is = in_delegated monitor fields has.view_is has.whole g taken is

@@ -1,4 +1,5 @@
--- Proofs about a guest's write: the cases in which it is refused, and its effect on the fields of an RMM.
+-- Proofs of the cases in which a guest's write is refused, and of the effect that an accepted write has on the fields
+-- of an RMM.
 use Rattle.std.proofs.Common.{◌≡◌, ℕ, Bool, true, false, List, [], ◌∷◌, Ok, Err, Some, None, refl, sym, ap, ◌∙◌, subst}
 use Rattle.std.specs.Prelude.{not}
 use Rattle.granule_addr.specs.Ipa.{is_protected_at}
@@ -31,7 +32,7 @@ module _ (monitor : MonitorView) (fields : Fields) (view_is : seen_as fields ≡
   abbrev command : Seen → ℕ → Outcome
   command seen number = guest_write seen number ipa offset value
 
-  -- the write to the page of the row at which the walk ends
+  -- the outcome of a guest's write whose walk ends in the given row, if the row is ASSIGNED
   abbrev written_at : Row → Outcome
   written_at row = with_granule row (λ page. Ok (PutByte page offset value ∷ []))
 

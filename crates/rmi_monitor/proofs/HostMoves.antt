@@ -1,5 +1,5 @@
--- Proofs about a change of a granule that is UNDELEGATED or DELEGATED before and after it: the RMM's invariant is kept,
--- and no other granule's cell changes.
+-- Proofs that changing one granule preserves the invariant and all other cells of an RMM, if the granule is UNDELEGATED
+-- or DELEGATED before and afterwards. The granule is not free, and it is zero if it is DELEGATED afterwards.
 use Rattle.std.proofs.Common.{◌≡◌, ◌≢◌, ℕ, ◌<◌, Bool, true, false, List, [], length, set, None, refl, sym, ap, ◌∙◌, subst, arith}
 use Rattle.std.specs.Prelude.{◌==◌}
 use Rattle.std.proofs.lemmas.Bool.{eqb-true, eqb-false, ne_eqb}
@@ -19,18 +19,18 @@ use Rattle.rmi_monitor.proofs.Machines.{one_put, cell_plain}
 use Rattle.rmi_monitor.proofs.Frames.{Stays, StayRecs, backed_after, alone_after, recs_stay, tables_stay, Leaves, whole_after, cell_after}
 use Rattle.rmi_monitor.proofs.RealmPlaces.{no_realm_there}
 
--- the fields with another state and another page of a granule that belongs to no realm
+-- the fields after one granule gets the given state and contents, and belongs to no realm
 abbrev pub moved : Fields → ℕ → GranuleState → List ℕ → Fields
 moved fields g state page = record fields {
   granules = set fields.granules g (record { state = state; realm = None });
   pages = set fields.pages g page;
 }
 
--- the cell of a granule that belongs to no realm, with the given state and page
+-- the cell of a granule that belongs to no realm, with the given state and contents
 abbrev pub host_cell : GranuleState → List ℕ → Cell
 host_cell state page = record { state = state; realm = None; bytes = page; descriptor = None }
 
--- UNDELEGATED and DELEGATED are no states of a realm's granules
+-- a state that is UNDELEGATED or DELEGATED differs from each state that is neither
 not_in : (state wanted : GranuleState) → is_host_state wanted ≡ false → is_host_state state ≡ true → state ≡ wanted → ⊥
 not_in state wanted held own is = absurd (true_is_not_false (sym own ∙ ap is_host_state is ∙ held))
   where
@@ -42,7 +42,7 @@ not_rec Undelegated h = refl
 not_rec Delegated h = refl
 not_rec _ h = cc
 
--- the cell of an UNDELEGATED or DELEGATED granule has the granule's state and page, no realm and no descriptor
+-- the cell of an UNDELEGATED or DELEGATED granule has the granule's state and contents, no realm and no descriptor
 pub cell_of-host : (fields : Fields) (g : ℕ) → IsSoundAt fields g → {state : GranuleState} → (granule_at fields.granules g).state ≡ state → is_host_state state ≡ true
     → {page : List ℕ} → page_at fields.pages g ≡ page → cell_of fields g ≡ host_cell state page
 cell_of-host fields g sound {state} at is {page} page_is =
@@ -136,7 +136,7 @@ module _ (old : Fields) (whole : IsWhole old) (g : ℕ) (inside : g < length old
   cell_is : cell_of new g ≡ host_cell state page
   cell_is = cell_of-host new g sound state_is is page_is
 
-  -- a move of one granule sets the granule's cell in the machine, and changes no other cell
+  -- changing one granule by `moved` sets the granule's cell in the machine, and changes no other cell
   pub machine_of-moved : machine_of (moved old g state page) ≡ set (machine_of old) g (host_cell state page)
   machine_of-moved =
       one_put old new stays.granule_count g (host_cell state page) inside cell_is

@@ -4,27 +4,27 @@ pub mod Protected
 pub mod Listed
 pub mod Starting
 pub mod Gathered
--- the answer and the effect of a command
+-- modules about the answer and the effect of a command
 pub mod Outcomes
 pub mod Refusals
 pub mod Checks
--- the entries of granules among a realm's RECs, and the RECs
+-- modules about the map of a realm's RECs, and about the entry of each granule in this map
 pub mod RecEntries
 pub mod RealmRecs
--- the machine that an RMM's fields represent, and the parts of the fields that stay unchanged
+-- modules about the machine that an RMM's fields represent, and about what a command leaves unchanged in the fields
 pub mod Machines
 pub mod Frames
 pub mod Puts
 pub mod RealmPlaces
 pub mod RealmAfter
--- single granules, blocks and bytes
+-- modules about single granules, blocks and bytes
 pub mod HostMoves
 pub mod Granules
 pub mod Blocks
 pub mod Fresh
 pub mod Sums
 pub mod Readings
--- realms
+-- modules about realms
 pub mod RealmFound
 pub mod TableMoves
 pub mod RealmCommands
@@ -34,7 +34,7 @@ pub mod RealmCreates
 pub mod Creates
 pub mod RealmDestroys
 pub mod Destroys
--- tables and data
+-- modules about tables and data
 pub mod LedTo
 pub mod Located
 pub mod TableCreates
@@ -46,7 +46,7 @@ pub mod DataDestroys
 pub mod DataUnknown
 pub mod DataCreates
 pub mod DataBytes
--- RECs
+-- modules about RECs
 pub mod RecFound
 pub mod RecReads
 pub mod RecNumbers
@@ -64,10 +64,10 @@ pub mod RecGoneAfter
 pub mod RecDestroys
 pub mod Sweeps
 pub mod Walked
--- operations that are performed
+-- modules about performing operations, and about the host's read of a byte
 pub mod OnRecs
 pub mod Pages
--- an RMM that agrees with the world of a history
+-- modules about an RMM that agrees with the world of a history
 pub mod Flags
 pub mod Ranges
 pub mod FreshMirror

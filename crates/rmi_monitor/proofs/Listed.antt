@@ -1,4 +1,5 @@
--- Lemmas about lists: properties of each element, distinct elements, and an element that is read and written back.
+-- Lemmas about a property of each element of a list, about distinct elements, and about an element that is read and
+-- written back.
 use Rattle.std.proofs.Common.{◌≡◌, ℕ, zero, suc, ◌<◌, true, not, List, [], ◌∷◌, length, set, get_or, All, Option, Some, None, refl, sym, ap, ◌∙◌, subst, arith}
 use Rattle.std.specs.Prelude.{slice_get}
 use Rattle.std.proofs.lemmas.Bool.{and_parts, and_from}
@@ -36,7 +37,7 @@ holds_in P xs x each there =
 pub each_in : (P : ℕ → Type 0) (xs : List ℕ) → ((x : ℕ) → is_in x xs ≡ true → P x) → All P xs
 each_in P xs holds k d lt = holds (get_or xs k d) (is_in_at xs k (get_or xs k d) (slice_get-get_or xs k d lt))
 
--- an element that is read at index `i` is the element at an equal index, whatever the default
+-- the element read at an index inside a list does not depend on the default for indexes outside it
 pub read_at : {A : Type 0} (xs : List A) (i place : ℕ) (d x y : A) → i ≡ place → place < length xs → x ≡ get_or xs i x → x ≡ y → get_or xs place d ≡ y
 read_at xs i place d x y same inside read is = get_or_default xs place d x inside ∙ ap (λ (n : ℕ). get_or xs n x) (sym same) ∙ sym read ∙ is
 

@@ -20,7 +20,7 @@ use Rattle.rmi_monitor.proofs.Granules.{HasFields}
 use Rattle.rmi_monitor.proofs.Protected.{protected_inside}
 use Rattle.rmi_monitor.proofs.RealmFound.{row_of, realm_found, descriptor_there}
 
--- the result of the code's check that an IPA granule is protected in the realm whose root the code has read
+-- the code has read the starting tables and the IPA width of the realm, and checks that the IPA granule is protected
 module _ (realm : RealmAttributes) (ipa : ℕ) (root : Root) (read : root ≡ realm.root) where
   pub unprotected : None ≡ cond (is_protected_at ipa root.width) (Some ipa) None → is_protected_at ipa realm.root.width ≡ false
   unprotected tested = ap (λ (r : Root). is_protected_at ipa r.width) (sym read) ∙ test_failed (is_protected_at ipa root.width) ipa None tested refl
@@ -31,7 +31,7 @@ module _ (realm : RealmAttributes) (ipa : ℕ) (root : Root) (read : root ≡ re
       let held = test_held (is_protected_at ipa root.width) ipa given (Some given) tested refl in
       record { tables = tables; same = held.1; protected = ap (λ (r : Root). is_protected_at ipa r.width) (sym read) ∙ held.0 }
 
--- a lookup whose answer is `None` meets the conditions of both cases, if it meets that of `None`
+-- a lookup that answers `None` meets its postcondition, if the postcondition's clause for `None` holds
 pub none_located : (Found : Tables × ℕ → Type 0) {None_there : Type 0} (answer : Option (Tables × ℕ)) → answer ≡ None → None_there
     → record { some : IfSome answer Found; none : IfNone answer None_there }
 none_located Found {None_there} answer is there =

@@ -30,8 +30,8 @@ same_machine m n as_many same = ext_get_or blank m n as_many same
 -- ---- fields before and after a command
 
 module _ (old new : Fields) (as_many : length new.granules ≡ length old.granules) where
-  -- a machine with as many granules as the new fields, and the same cell for each, is the machine that the fields
-  -- represent
+  -- the new fields represent `machine`, if both have the same cells, and `machine` has as many granules as the old
+  -- fields
   is_machine : (machine : Machine) → length machine ≡ length old.granules → ((g : ℕ) → g < length old.granules → cell_of new g ≡ cell_at machine g)
       → machine_of new ≡ machine
   is_machine machine long same =
@@ -81,7 +81,8 @@ module _ (old new : Fields) (as_many : length new.granules ≡ length old.granul
             ∙ sym (get_or-set_other (set (machine_of old) a x) b g y blank differs)
       ] refl)
 
--- a granule's cell stays the same if its state, its page and its realm do
+-- the cell of granule `g` stays the same if its state, realm, contents and descriptor do; the contents of a table may
+-- change
 module _ (old new : Fields) (g : ℕ) where
   pub cell_stays : granule_at new.granules g ≡ granule_at old.granules g
       → (((granule_at old.granules g).state ≡ InRtt → ⊥) → page_at new.pages g ≡ page_at old.pages g)
@@ -127,7 +128,7 @@ cell_plain fields g granule page at page_is none i = record {
   descriptor = option_map (λ (r : RealmAttributes). realm_row r (recs_of fields.granules fields.recs g) (rows fields.pages r.root)) (none i);
 }
 
--- the bytes of a granule's page are those of its cell, unless the granule is a table
+-- a granule's contents are the bytes of its cell, unless the granule is a table
 pub IsPageOf-cell_of : (fields : Fields) (g : ℕ) (bytes : List ℕ) → bytes ≡ page_at fields.pages g → IsPageOf (cell_of fields g) bytes
 IsPageOf-cell_of fields g bytes e not_table = e ∙ same (granule_at fields.granules g).state not_table
   where

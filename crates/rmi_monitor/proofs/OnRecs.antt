@@ -61,7 +61,7 @@ is_rec_there : (monitor : MonitorView) (rd number granule : ℕ) (o : Option Rea
 is_rec_there monitor rd number granule None there is = cc
 is_rec_there monitor rd number granule (Some realm) there is = is_rec_of monitor rd number granule realm (get realm.recs number) there refl is
 
--- a granule that the lookup of a number gives is the realm's REC with that number
+-- if the lookup of a number among a realm's RECs gives a granule, that granule is the realm's REC with that number
 pub is_rec : (monitor : MonitorView) (rd number granule : ℕ) → Some granule ≡ rec_granule (realm_on monitor (Some rd)) number → IsRec monitor.machine rd number granule
 is_rec monitor rd number granule is = is_rec_there monitor rd number granule (cell_at monitor.machine rd).descriptor refl is
 
@@ -73,7 +73,8 @@ command_of (Exit n) rd number = rec_exit rd number
 command_of (Poke n ipa offset value) rd number = guest_write rd number ipa offset value
 command_of _ rd number = Err error_input
 
--- if a call on a REC's granule meets `IsOnRec`, its answer and the new RMM are as the command on the REC says
+-- if a call on a REC's granule meets `IsOnRec`, the call's answer and the RMM's new state are those of the command on
+-- the REC
 done_on : (old new : MonitorView) (result : Result (Unit {0}) Rmi) (rd number granule : ℕ) (command : Seen → ℕ → Outcome)
     → Some granule ≡ rec_granule (realm_on old (Some rd)) number → IsOnRec command old granule result new → IsDone old (command (seen_in old rd) number) result new
 done_on old new result rd number granule command is on =

@@ -51,7 +51,7 @@ pub realm_absent : (rd : Seen) (f : RealmRow → Outcome) → rd.cell.descriptor
 unfolding with_realm
 realm_absent rd f e = ap (λ o. elim o [ Some realm ↦ f realm | None ↦ Err error_input ]) e
 
--- a command is refused with an input error if no realm at the granule passes the test of the command's inputs
+-- a command is refused with an input error if the granule is no RD, or the realm fails the test of the command's inputs
 pub input_refused : (rd : Seen) (test : RealmRow → Bool) (f : RealmRow → Outcome) → ((row : RealmRow) → rd.cell.descriptor ≡ Some row → test row ≡ false)
     → with_realm rd (λ row. check (test row) error_input (f row)) ≡ Err error_input
 unfolding with_realm

@@ -28,7 +28,7 @@ protected_inside width ipa protected =
     one_table : (tables : ℕ) → ipa < 67108864 → 1 ≤ tables → ipa < tables * 134217728
     one_table tables low some = omega arith
 
--- for an IPA granule outside the address space, the result `None` is that of the check for protection
+-- if an IPA granule is outside an address space of 39 to 43 bits, the check for protection gives `None`
 pub outside_unprotected : (ipa width number : ℕ) → number ≡ width → 39 ≤ number → number ≤ 43 → None ≡ cond (is_width number && is_in_space ipa number) (Some ipa) None
     → (result : Option ℕ) → result ≡ None → result ≡ cond (is_protected_at ipa width) (Some ipa) None
 outside_unprotected ipa width number same least most none result is =

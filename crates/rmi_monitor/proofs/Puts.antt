@@ -60,14 +60,15 @@ module _ {X : Type 0} (xs : List X) (g : ℕ) (others : List ℕ) (x y d : X) wh
       let parts = or_parts (h == g) (is_in h others) out in
       set_each_out y others (set xs g x) h d parts.1 ∙ get_or-set_other xs g h x d (eqb-false h g parts.0)
 
--- puts of one cell at several granules set it at each of them, before the updates that follow
+-- after updates that put one cell at several granules, further updates apply to the machine with this cell at each of
+-- them
 pub after_puts : (places : List ℕ) (y : Cell) (updates : List Update) (machine : Machine)
     → machine_after_all (map (λ a. Put a y) places ++ updates) machine ≡ machine_after_all updates (set_each y places machine)
 unfolding machine_after_all set_each
 after_puts [] y updates machine = refl
 after_puts (p ∷ places) y updates machine = after_puts places y updates (set machine p y)
 
--- puts of one cell at several granules set it at each of them
+-- updates that put one cell at several granules lead to the machine with this cell at each of them
 pub after_each : (places : List ℕ) (y : Cell) (machine : Machine) → machine_after_all (map (λ a. Put a y) places) machine ≡ set_each y places machine
 unfolding machine_after_all set_each
 after_each [] y machine = refl

@@ -1,4 +1,4 @@
--- Lemmas about ranges of numbers: membership in a range, and lists with one value at each index of a range.
+-- Lemmas about membership in a range of numbers, and about lists with one value at each index of a range.
 use Rattle.std.proofs.Common.{◌≡◌, ℕ, zero, suc, ◌+◌, ◌-◌, ◌^◌, ◌<◌, ◌≤◌, ◌⊎◌, true, false, ◌||◌, cond, List, [], ◌∷◌, length, map, set, get_or, sym, ap, ◌∙◌, subst, arith, refl, ⊎_elim}
 use Rattle.std.specs.List.{range_with_len}
 use Rattle.std.proofs.lemmas.Bool.{cases_eq, ne_eqb}

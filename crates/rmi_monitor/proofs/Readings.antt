@@ -1,5 +1,5 @@
--- Proofs that the fields of an RMM agree with its machine on a realm's attributes, the bytes of pages, and the words of
--- tables.
+-- Proofs that an RMM's fields agree with its machine on realm attributes, on the bytes of granules other than tables,
+-- and on the entries of tables.
 use Rattle.std.proofs.Common.{◌≡◌, ℕ, ◌<◌, length, Option, Some, None, option_map, refl, sym, ap, ◌∙◌, subst}
 use Rattle.page_arena.specs.Page.{page_at}
 use Rattle.realm_model.specs.Machine.{Cell, RealmRow, cell_at}

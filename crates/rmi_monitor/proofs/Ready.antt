@@ -30,7 +30,7 @@ use Rattle.rmi_monitor.proofs.OnRecs.{is_rec}
 use Rattle.rmi_monitor.proofs.Forward.{realm_seen}
 
 module _ (limits : Limits) (history : List Event) (world : World) (monitor : MonitorView) (mirror : IsMirror limits history world monitor) (build : ℕ) where
-  -- a granule that a build leases is taken
+  -- a granule that the build leases is inside the machine, and not free
   taken : (granule : ℕ) → slice_get world.leases granule ≡ Some (Some build) → IsTaken monitor granule
   taken granule lease =
       let sound = reachable_worlds limits history world mirror.world_is in
@@ -56,7 +56,7 @@ module _ (limits : Limits) (history : List Event) (world : World) (monitor : Mon
       ap (λ (o : Option RecRow). option_map (λ (rec : ℕ × List ℕ). (rec.0, InRec)) (option_map granules_of_rec o)) is.numbered ∙ (λ i. Some (is.is i, InRec)) in
       (sound.names rd is.realm there (AsRec number) granule InRec named_so).2
 
-  -- the granule of a REC of a leased realm is taken
+  -- if the build leases the RD of a realm, the granule of a REC of this realm is not free
   rec_taken : (realm : Option Seen) → IsHeld build world.leases realm → (number : ℕ) (rec : Option ℕ)
       → rec ≡ rec_granule (realm_on monitor (option_map (λ (rd : Seen). rd.number) realm)) number → IsTakenAt monitor rec
   rec_taken realm held number None is = tt

@@ -21,7 +21,7 @@ use Rattle.rmi_monitor.proofs.Frames.{Stays, LeavesRecs, Leaves, whole_after, ce
 use Rattle.rmi_monitor.proofs.RealmPlaces.{in_rd}
 use Rattle.rmi_monitor.proofs.UsedVmids.{used-kept}
 
--- A change of a realm's attributes keeps its root and its VMID, and does not lower the number of its next REC.
+-- `now` has the starting tables, the IPA width and the VMID of `realm`, and no smaller number for the next REC.
 pub record Keeps (realm now : RealmAttributes) : Type 0 where
   pub root : now.root ≡ realm.root
   pub vmid : now.vmid ≡ realm.vmid
@@ -30,12 +30,12 @@ pub record Keeps (realm now : RealmAttributes) : Type 0 where
 pub keeps_all : (realm : RealmAttributes) → Keeps realm realm
 keeps_all realm = record { root = refl; vmid = refl; next = omega arith }
 
--- the cell with the given realm's row as its descriptor
+-- the cell with the given realm's record as its descriptor
 abbrev pub with_row_of : Cell → RealmRow → Cell
 with_row_of cell row = record cell { descriptor = Some row }
 
--- The attributes of one realm change, and its tables and its RECs may change. Granules may be moved to the realm or
--- from it, but not its RD. The other realms are left alone.
+-- From `old` to `new`, the attributes of realm `rd` change from `realm` to `now`, and its tables and its RECs may
+-- change. Granules may be moved to the realm or from it, but not its RD. The other realms are left alone.
 pub record Changes (old new : Fields) (rd : ℕ) (moved : ℕ → Bool) (realm now : RealmAttributes) : Type 0 where
   pub there : realm_at old rd ≡ Some realm
   pub is : realm_at new rd ≡ Some now
@@ -112,7 +112,7 @@ module _ (old new : Fields) (rd : ℕ) (moved : ℕ → Bool) (realm now : Realm
   pub cell_unchanged : (g : ℕ) → moved g ≡ false → g ≢ rd → cell_of new g ≡ cell_of old g
   cell_unchanged = cell_after old new rd moved leaves whole
 
-  -- the cell of the realm's RD changes only in its row, which has the new attributes, RECs and translation
+  -- the cell of the realm's RD changes only in its descriptor, which has the new attributes, RECs and translation
   pub cell_changed : (recs : FinMap nat_cmp RecRow) (translation : Rows) → recs_of new.granules new.recs rd ≡ recs → rows new.pages realm.root ≡ translation
       → cell_of new rd ≡ with_row_of (cell_of old rd) (realm_row now recs translation)
   cell_changed recs translation recs_are rows_are =

@@ -31,12 +31,13 @@ use Rattle.rmi_monitor.proofs.Listed.{put_back}
 abbrev pub with_call : Fields → List Granule → List (List ℕ) → List Bool → List (Option RealmAttributes) → Fields
 with_call fields granules pages free realms = record fields { granules = granules; pages = pages; free = free; realms = realms }
 
--- a call that changes nothing leaves the fields as they were
+-- the fields as a call leaves them are `fields`, if the call leaves the granules, the pages, the free flags and the
+-- realms as they were
 pub nothing_moved : (fields : Fields) (granules : List Granule) (pages : List (List ℕ)) (free : List Bool) (realms : List (Option RealmAttributes))
     → granules ≡ fields.granules → pages ≡ fields.pages → free ≡ fields.free → realms ≡ fields.realms → with_call fields granules pages free realms ≡ fields
 nothing_moved fields granules pages free realms a b c d i = with_call fields (a i) (b i) (c i) (d i)
 
--- the condition after a command that succeeds: the invariant holds, and the RMM is as the command's outcome says
+-- the invariant holds after a command that succeeds, and the RMM is as the command's outcome says
 pub record Done (monitor : MonitorView) (outcome : Outcome) (new : Fields) : Type 0 where
   pub whole : IsWhole new
   pub says : Says monitor outcome (Ok (tt {0})) (seen_as new)
@@ -68,7 +69,8 @@ module _ {monitor : MonitorView} {fields : Fields} (kept : HasFields monitor fie
   refused_back {rmi} {outcome} e = record { answer = answers_err (Unit {0}) rmi outcome e; machine = ap seen_as back ∙ kept.view_is ∙ after_err monitor rmi outcome e }
 
 module _ (monitor : MonitorView) (fields : Fields) (view_is : seen_as fields ≡ monitor) (whole : IsWhole fields) (rd : ℕ) (taken : IsTaken monitor rd) where
-  -- if the RD's cell has the new row, the fields are seen as the RMM after a command that puts this row
+  -- a command that sets the realm's record leads to the RMM with the fields `new`, if only this record in the RD's cell
+  -- is new
   pub after_put : (outcome : Outcome) (new : Fields) → new.vmids ≡ fields.vmids → new.aux ≡ fields.aux → new.free ≡ fields.free → (made row : RealmRow) → made ≡ row
       → outcome ≡ Ok (put_realm (seen_in monitor rd) row ∷ []) → machine_of new ≡ set (machine_of fields) rd (with_row_of (cell_of fields rd) made)
       → seen_as new ≡ after_command outcome monitor
@@ -78,7 +80,7 @@ module _ (monitor : MonitorView) (fields : Fields) (view_is : seen_as fields ≡
       (machine ∙ (λ i. set (machine_is monitor fields view_is whole i) rd (with_row_of (sym (cell_is monitor fields view_is whole rd taken.inside) i) (made_is i))))
 
   module _ (realm : RealmAttributes) (there : realm_at fields rd ≡ Some realm) where
-    -- a call that moves granule `m`, and may change the realm's attributes and tables
+    -- a call moves granule `m` to the given state and realm, and may change the attributes and the tables of realm `rd`
     module _ (now : RealmAttributes) (keeps : Keeps realm now)
         (granules : List Granule) (pages : List (List ℕ)) (free : List Bool) (realms : List (Option RealmAttributes)) (put : realms ≡ set fields.realms rd (Some now))
         (flags : free ≡ fields.free) (backed : IsBacked pages free granules) (tables : HasTables pages granules rd realm.root)
@@ -96,7 +98,8 @@ module _ (monitor : MonitorView) (fields : Fields) (view_is : seen_as fields ≡
           subst (λ (rs : List (Option RealmAttributes)). IsWhole (with_now rs)) (sym put)
           (whole_moved_to fields whole rd realm now there keeps granules pages free flags backed tables alone m inside state owner moved was is host zero page_stays)
 
-      -- after the move, the fields are seen as the RMM after a command that puts the granule's cell and the realm's row
+      -- after the move, a command that sets the granule's cell and the realm's record leads to the RMM with the new
+      -- fields
       pub seen_after_move : (outcome : Outcome) (cell : Cell) (row : RealmRow)
           → record { state = state; realm = owner; bytes = bytes_of state (page_at pages m); descriptor = None } ≡ cell
           → realm_row now (recs_of fields.granules fields.recs rd) (rows pages realm.root) ≡ row
@@ -123,8 +126,8 @@ pub record Moves (fields : Fields) (rd : ℕ) (root : Root) (g : ℕ) (to : Gran
   pub others : (h : ℕ) → (h ≡ g → ⊥) → (IsTableOf fields.pages root h → ⊥) → page_at pages h ≡ page_at fields.pages h
   pub keeps : KeepsTables rd root fields.pages fields.free fields.granules pages free granules
 
--- a call that leaves a realm's granule DELEGATED and zero meets `Moves`, if it changes no other page but those of the
--- realm's tables
+-- a call that leaves a DATA or RTT granule of a realm DELEGATED and zero meets `Moves`, if otherwise only the contents
+-- of the realm's tables change
 pub left_by : {fields : Fields} {rd : ℕ} {root : Root} {g : ℕ} {state : GranuleState} {granules : List Granule} {pages : List (List ℕ)} {free : List Bool}
     → IsIn fields.granules g state (Some rd) → is_moved_state state ≡ true → granules ≡ set fields.granules g (record { state = Delegated; realm = None })
     → page_at pages g ≡ zero_page → ((h : ℕ) → (h ≡ g → ⊥) → (IsTableOf fields.pages root h → ⊥) → page_at pages h ≡ page_at fields.pages h)
@@ -143,7 +146,7 @@ left_by at was moved cleared others keeps = record {
 module _ {monitor : MonitorView} {fields : Fields} (kept : HasFields monitor fields) {rd : ℕ} (taken : IsTaken monitor rd)
     {realm : RealmAttributes} (there : realm_at fields rd ≡ Some realm)
     {g : ℕ} {to : Granule} {granules : List Granule} {pages : List (List ℕ)} {free : List Bool} (moves : Moves fields rd realm.root g to granules pages free) where
-  -- after the move, a command that puts the granule's cell and the realm's row is `Done`
+  -- after the move, `Done` holds for a command that puts the granule's cell and the realm's record
   pub moves_done : {now : RealmAttributes} → Keeps realm now → {realms : List (Option RealmAttributes)} → realms ≡ set fields.realms rd (Some now)
       → (outcome : Outcome) {cell : Cell} {row : RealmRow}
       → record { state = to.state; realm = to.realm; bytes = bytes_of to.state (page_at pages g); descriptor = None } ≡ cell
@@ -164,7 +167,7 @@ module _ {monitor : MonitorView} {fields : Fields} (kept : HasFields monitor fie
     };
   }
 
-  -- after the move, a command that puts the granule's cell, and changes only the rows of the realm, is `Done`
+  -- after the move, `Done` holds for a command that puts the granule's cell and changes only the realm's translation
   pub rows_done : (outcome : Outcome) {cell : Cell} {translation : Rows}
       → record { state = to.state; realm = to.realm; bytes = bytes_of to.state (page_at pages g); descriptor = None } ≡ cell → rows pages realm.root ≡ translation
       → outcome ≡ Ok (Put g cell ∷ put_realm (seen_in monitor rd) (record (row_of fields rd realm) { rows = translation }) ∷ [])

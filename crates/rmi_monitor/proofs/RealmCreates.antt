@@ -58,11 +58,11 @@ module _ (old : Fields) (whole : IsWhole old) (rd : ℕ) (root : Root) (rd_insid
   abbrev table_granule : Granule
   table_granule = record { state = InRtt; realm = Some rd }
 
-  -- the granules after the RD is in state RD
+  -- the granules of `old`, but with `rd` as the RD of the new realm
   abbrev with_rd : List Granule
   with_rd = set old.granules rd rd_granule
 
-  -- the granules after the RD is in state RD, and the starting tables are in state RTT
+  -- the granules of `old`, but with `rd` as the RD of the new realm, and `tables` as its starting tables
   abbrev with_tables : List Granule
   with_tables = put_all old.granules rd tables rd_granule table_granule
 
@@ -87,7 +87,7 @@ module _ (old : Fields) (whole : IsWhole old) (rd : ℕ) (root : Root) (rd_insid
   with_rd_other : (g : ℕ) → g ≢ rd → granule_at with_rd g ≡ granule_at old.granules g
   with_rd_other g differs = get_or-set_other old.granules rd g rd_granule undelegated differs
 
-  -- after the RD is in state RD, the starting tables are still DELEGATED, and belong to no realm
+  -- after granule `rd` has become the realm's RD, the starting tables are still DELEGATED, and belong to no realm
   pub tables_delegated : All (λ table. IsIn with_rd table Delegated None) tables
   tables_delegated = each_in (λ table. IsIn with_rd table Delegated None) tables (λ table e.
       let start = starts table e in

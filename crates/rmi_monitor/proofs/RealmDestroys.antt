@@ -32,7 +32,7 @@ use Rattle.rmi_monitor.proofs.RealmPlaces.{realm_inside, in_rd, no_realm_there}
 use Rattle.rmi_monitor.proofs.Starting.{number_of}
 use Rattle.rmi_monitor.proofs.UsedVmids.{used-destroy}
 
--- the states of the RD and of the starting tables
+-- the state is RD or RTT
 abbrev is_realm_state : GranuleState → Bool
 is_realm_state InRd = true
 is_realm_state InRtt = true
@@ -66,11 +66,11 @@ module _ (old : Fields) (whole : IsWhole old) (rd : ℕ) (realm : RealmAttribute
   abbrev left_granule : Granule
   left_granule = record { state = Delegated; realm = None }
 
-  -- the granules after the starting tables are DELEGATED
+  -- the granules of `old`, but with the starting tables DELEGATED
   abbrev without_tables : List Granule
   without_tables = with_states old.granules tables Delegated None
 
-  -- the granules after the starting tables and the RD are DELEGATED
+  -- the granules of `old`, but with the starting tables and the RD DELEGATED
   abbrev without_all : List Granule
   without_all = with_state without_tables rd Delegated None
 
@@ -97,11 +97,11 @@ module _ (old : Fields) (whole : IsWhole old) (rd : ℕ) (realm : RealmAttribute
       get_or-set_other without_tables rd g left_granule undelegated (eqb-false g rd parts.0)
       ∙ set_each_out left_granule tables old.granules g undelegated parts.1
 
-  -- the pages after the starting tables are cleared
+  -- the pages of `old`, but with those of the starting tables cleared
   abbrev pages_without_tables : List (List ℕ)
   pages_without_tables = set_each zero_page tables old.pages
 
-  -- the pages after the starting tables and the RD are cleared
+  -- the pages of `old`, but with those of the starting tables and of the RD cleared
   abbrev pages_without : List (List ℕ)
   pages_without = set pages_without_tables rd zero_page
 
@@ -121,7 +121,7 @@ module _ (old : Fields) (whole : IsWhole old) (rd : ℕ) (realm : RealmAttribute
       let parts = or_parts (g == rd) (is_in g tables) out in
       get_or-set_other pages_without_tables rd g zero_page [] (eqb-false g rd parts.0) ∙ set_each_out zero_page tables old.pages g [] parts.1
 
-  -- the realm's VMID is not used any more
+  -- in `used`, the realm's VMID is no longer marked as in use
   module _ (used : List Bool) (marked : IsMarked old.used used realm.vmid false) where
     abbrev new : Fields
     new = record old { granules = without_all; pages = pages_without; realms = set old.realms rd None; used = used }

@@ -18,25 +18,26 @@ use Rattle.rmi_monitor.proofs.Outcomes.{realm_absent}
 use Rattle.rmi_monitor.proofs.RealmPlaces.{realm_inside}
 use Rattle.rmi_monitor.proofs.Comparisons.{some_map}
 
--- the row of a realm of the fields
+-- a realm's record, from its attributes and from the RECs and the translation in the fields
 abbrev pub row_of : Fields → ℕ → RealmAttributes → RealmRow
 row_of fields rd realm = realm_row realm (recs_of fields.granules fields.recs rd) (rows fields.pages realm.root)
 
 module _ (monitor : MonitorView) (fields : Fields) (view_is : seen_as fields ≡ monitor) (whole : IsWhole fields) (rd : ℕ) where
-  -- a realm of the fields is in the machine, with its row
+  -- if the fields have a realm at `rd`, the machine has the realm's descriptor there, as `row_of` gives it
   pub descriptor_there : (realm : RealmAttributes) → realm_at fields rd ≡ Some realm → (cell_at monitor.machine rd).descriptor ≡ Some (row_of fields rd realm)
   descriptor_there realm there =
       ap (λ (c : Cell). c.descriptor) (cell_is monitor fields view_is whole rd (in_machine monitor fields view_is whole rd (realm_inside fields whole rd realm there)))
       ∙ ap (option_map (row_of fields rd)) there
 
-  -- a realm of the machine is in the fields, with the same row
+  -- if the machine has a realm's descriptor at `rd`, the fields have the realm there, and `row_of` gives this
+  -- descriptor
   pub realm_found : (row : RealmRow) → (cell_at monitor.machine rd).descriptor ≡ Some row → (realm : RealmAttributes) × (realm_at fields rd ≡ Some realm) × (row_of fields rd realm ≡ row)
   realm_found row e = ⊎_elim
       (λ h. some_map (row_of fields rd) (realm_at fields rd) row (sym (ap (λ (c : Cell). c.descriptor) (cell_is monitor fields view_is whole rd h)) ∙ e))
       (λ h. absurd (none-some row (sym (ap (λ (c : Cell). c.descriptor) (get_or_past monitor.machine rd blank h)) ∙ e)))
       (cases_lt rd (length monitor.machine))
 
-  -- if the fields have the realm, a command that needs a realm has the outcome that it gives for this realm's row
+  -- if the fields have a realm at `rd`, a command that needs a realm has the outcome that `f` gives for this realm
   pub somewhere : (realm : RealmAttributes) → realm_at fields rd ≡ Some realm → (f : RealmRow → Outcome) → with_realm (seen_in monitor rd) f ≡ f (row_of fields rd realm)
   somewhere realm there f = realm_there (seen_in monitor rd) f (row_of fields rd realm) (descriptor_there realm there)
 

@@ -1,5 +1,5 @@
--- The proof that a change of a REC that keeps the REC's number and auxiliaries changes only the REC's row in the
--- machine.
+-- The proof that a change of a REC's state, READY or RUNNING, preserves the invariant of an RMM's fields, and changes
+-- nothing else in the machine.
 use Rattle.std.proofs.Common.{◌≡◌, ◌≢◌, ℕ, ◌<◌, false, List, [], ◌∷◌, length, set, get_or, Ok, Option, Some, None, option_map, refl, sym, ap, ◌∙◌, subst, ⊎_elim}
 use Rattle.std.specs.Prelude.{is_some, slice_get, if◌then◌else◌}
 use Rattle.std.specs.FinMap.{insert, len}
@@ -40,7 +40,7 @@ module _ (old : Fields) (whole : IsWhole old) (granule : ℕ) (rec : RecAttribut
   elsewhere : (g : ℕ) → g ≢ granule → rec_at new g ≡ rec_at old g
   elsewhere g differs = get_or-set_other old.recs granule g (Some now) None differs
 
-  -- the REC existed before, with the same number and the same auxiliaries
+  -- granule `g` held a REC before, with the number and the auxiliary granules of `other`
   record Was (g : ℕ) (other : RecAttributes) : Type 0 where
     before : RecAttributes
     at : rec_at old g ≡ Some before
@@ -114,7 +114,7 @@ module _ (old : Fields) (whole : IsWhole old) (granule : ℕ) (rec : RecAttribut
           let e : is_of_realm old.granules other g ≡ false = ap (is_of_realm old.granules other) s ∙ not_of in
           rec_of-other new.granules new.recs other g e ∙ sym (rec_of-other old.granules old.recs other g e)
 
-  -- the RECs of the REC's own realm change only in the REC's row
+  -- the RECs of the REC's own realm change only in the REC's record
   own_recs : recs_of new.granules new.recs rd ≡ insert (recs_of old.granules old.recs rd) rec.number (rec_row granule now)
   unfolding recs_of
   own_recs =
@@ -173,7 +173,7 @@ module _ (old : Fields) (whole : IsWhole old) (granule : ℕ) (rec : RecAttribut
     abbrev row : RealmRow
     row = row_of old rd realm
 
-    -- the fields with the REC changed are seen as the RMM after a command that puts the REC's new row
+    -- a command that sets the REC's record to that of `now` leads to the RMM with the REC changed
     pub rec_put : (monitor : MonitorView) → seen_as old ≡ monitor → seen_as (with_recs old recs)
         ≡ after_command (Ok (put_rec (seen_in monitor rd) (row_of old rd realm) rec.number (rec_row granule now) ∷ [])) monitor
     unfolding machine_after_all

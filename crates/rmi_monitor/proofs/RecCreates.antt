@@ -61,7 +61,7 @@ module _ (monitor : MonitorView) where
   delegated_seen granules (x ∷ xs) same =
       λ i. same x (is_in_head x xs) i && delegated_seen granules xs (λ y e. same y (is_in_more y x xs e)) i
 
--- the preconditions of the command: the granules are taken, and there is a number for the REC
+-- the RD and the granules for a new REC are not free, and the realm, if there is one, has a number for the REC
 abbrev pub AreGiven : MonitorView → ℕ → ℕ → List ℕ → Type 0
 AreGiven monitor rd g others = record {
   rd_taken : IsTaken monitor rd;
@@ -86,11 +86,12 @@ module _ {monitor : MonitorView} {fields : Fields} (has : HasFields monitor fiel
   pub inside_by : {list : List ℕ} → list ≡ others → All (λ h. h < length fields.granules) list
   inside_by {list} same = subst (λ l. All (λ h. h < length fields.granules) l) (sym same) others_inside
 
-  -- the answer of the call that checks the granules is `fit`
+  -- if the call that checks the granules for the new REC answers `wanted`, then `fit` equals `wanted`
   pub fit_by : {list : List ℕ} {answer wanted : Bool} → list ≡ others → answer ≡ are_fit_for_rec fields.granules g list fields.aux → answer ≡ wanted → fit ≡ wanted
   fit_by same e is = ap (λ l. are_fit_for_rec fields.granules g l fields.aux) (sym same) ∙ sym e ∙ is
 
-  -- a refusal changes nothing
+  -- a refusal of RMI_REC_CREATE changes nothing, if the attributes that were read at `place` are written back as they
+  -- were
   pub refused_create : (place : ℕ) {x y : Option RealmAttributes} → x ≡ get_or fields.realms place x → x ≡ y → {rmi : Rmi} → outcome ≡ Err rmi
       → record {
         answer : Answers {A = ℕ} (Err rmi) outcome;
@@ -121,7 +122,8 @@ module _ {monitor : MonitorView} {fields : Fields} (has : HasFields monitor fiel
     pub next_is : (other : RealmRow) → (cell_at monitor.machine rd).descriptor ≡ Some other → realm.next ≡ other.next
     next_is other e = ap (λ (r : RealmRow). r.next) (same_Some row other (sym row_is ∙ e))
 
-    -- the updates of the command, from the puts of the auxiliaries, their numbers, and the cell of the RD
+    -- the updates of RMI_REC_CREATE, from the updates of the auxiliary granules, the numbers of these granules, and the
+    -- cell of the RD
     abbrev updates_by : List Update → List ℕ → Cell → List Update
     updates_by puts auxiliaries cell =
         Put g (held InRec rd) ∷ puts ++ Put rd (record cell {
@@ -178,7 +180,7 @@ module _ {monitor : MonitorView} {fields : Fields} (has : HasFields monitor fiel
                 ∙ all_delegated x (is_in_more x g others there);
           }))
 
-      -- the call changes the REC's granule, since this granule was DELEGATED
+      -- if the checks pass, granule `g` is DELEGATED, so the call that changes it succeeds
       pub shifted_by : (answer : Bool) (granule : Granule) {then : List Granule} → ((granule_at fields.granules g).state ≡ Delegated → IsTrue answer)
           → OnTrue answer (then ≡ set fields.granules g granule) → then ≡ set fields.granules g granule
       shifted_by answer granule says made = OnTrue_at (says g_delegated) made
@@ -213,8 +215,8 @@ more_by numbered raised events measured = measured ∙ (λ i. record (raised i) 
 abbrev fields_with : Fields → List Granule → List (Option RealmAttributes) → List ℕ → List (Option RecAttributes) → Fields
 fields_with fields granules realms rec_counts recs = record fields { granules = granules; realms = realms; rec_counts = rec_counts; recs = recs }
 
--- the condition after the command succeeds: the invariant holds, the RMM is as the outcome says, and the returned
--- number was that of the realm's next REC
+-- the invariant holds after a REC is created, the RMM is as the outcome says, and the returned number was that of the
+-- realm's next REC
 pub record Created (monitor : MonitorView) (rd g : ℕ) (others : List ℕ) (number : ℕ) (new : Fields) : Type 0 where
   pub whole : IsWhole new
   pub says : record {

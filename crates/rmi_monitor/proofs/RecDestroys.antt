@@ -39,7 +39,7 @@ module _ (fields : Fields) (whole : IsWhole fields) (g : ℕ) (rec : RecAttribut
   rec_kept : IsKept fields g rec rd realm
   rec_kept = kept_at fields whole g rec at
 
-  -- the preconditions of the calls that clear and move the REC's granules
+  -- a granule that holds a REC is inside the machine, in state REC, as the calls that clear and move it require
   pub rec_stands : IsInState fields.granules InRec g
   rec_stands = record { inside = rec_inside fields whole g rec at; is = in_rec fields g (whole.each g) rec at }
 
@@ -73,7 +73,7 @@ module _ (fields : Fields) (whole : IsWhole fields) (g : ℕ) (rec : RecAttribut
           taken = taken_moved fields whole rd g rec realm rec_kept h (is_in_more h g rec.auxiliaries e);
         })))
 
-  -- the fields as the calls leave them
+  -- the fields with the granules, pages, free flags, REC counts and RECs that the command's calls have left
   abbrev left_with : List Granule → List (List ℕ) → List Bool → List ℕ → List (Option RecAttributes) → Fields
   left_with granules pages free rec_counts recs = record fields { granules = granules; pages = pages; free = free; rec_counts = rec_counts; recs = recs }
 
@@ -90,7 +90,7 @@ module _ (fields : Fields) (whole : IsWhole fields) (g : ℕ) (rec : RecAttribut
 
 module _ (monitor : MonitorView) (fields : Fields) (view_is : seen_as fields ≡ monitor) (whole : IsWhole fields) (g : ℕ)
     (rec : RecAttributes) (rd : ℕ) (realm : RealmAttributes) (kept : IsKept fields g rec rd realm) where
-  -- the updates of the command, given the cell of the RD
+  -- the updates of RMI_REC_DESTROY, given the cell of the RD
   abbrev updates_by : Cell → List Update
   updates_by cell =
       Put g left ∷ map (λ a. Put a left) rec.auxiliaries

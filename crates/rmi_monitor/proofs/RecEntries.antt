@@ -1,4 +1,5 @@
--- Lemmas about the entry of one granule among a realm's RECs, and the proof that a realm's RECs have distinct numbers.
+-- Lemmas about the entry of one granule in the map of a realm's RECs, and the proof that a realm's RECs have distinct
+-- numbers.
 use Rattle.std.proofs.Common.{◌≡◌, ◌≢◌, ℕ, true, false, List, get_or, Option, Some, None, option_map, refl, sym, ap, ◌∙◌, Bool, cond}
 use Rattle.std.specs.Prelude.{nat_eq}
 use Rattle.std.specs.Option.{option_eq}
@@ -32,7 +33,7 @@ pub is_of_realm-test : (granules : List Granule) (rd number granule : ℕ) (real
 is_of_realm-test granules rd number granule realm test answer same realm_is test_is is =
     ap (is_of_realm granules rd) (sym same) ∙ ap (λ r. option_eq nat_eq r (Some rd)) (sym realm_is) ∙ sym test_is ∙ is
 
--- the granule holds a REC of the realm, with this number and this row
+-- the granule holds a REC of the realm, with the given number and record
 pub record IsEntry (granules : List Granule) (recs : List (Option RecAttributes)) (rd granule number : ℕ) (row : RecRow) : Type 0 where
   pub of : (granule_at granules granule).realm ≡ Some rd
   pub rec : RecAttributes
@@ -64,7 +65,7 @@ module _ (granules : List Granule) (recs : List (Option RecAttributes)) (rd gran
   pub rec_of-other : is_of_realm granules rd granule ≡ false → rec_of granules recs rd granule ≡ None
   rec_of-other other = rw other
 
-  -- a granule that holds a REC of the realm has the REC's number and row as its entry
+  -- a granule that holds a REC of the realm has the REC's number and record as its entry
   pub rec_of-some : (rec : RecAttributes) → is_of_realm granules rd granule ≡ true → get_or recs granule None ≡ Some rec
       → rec_of granules recs rd granule ≡ Some (rec.number, rec_row granule rec)
   rec_of-some rec of there = rw (of, there)
@@ -76,7 +77,7 @@ module _ (granules : List Granule) (recs : List (Option RecAttributes)) (rd gran
       let e : IsEntry granules recs rd granule number row = entry_at granules rd granule recs number row is in
       ap (λ (r : RecAttributes). r.number) (same_Some rec e.rec (sym there ∙ e.at)) ∙ e.numbered
 
--- no two granules hold RECs of the realm with one number
+-- no two granules hold RECs of the realm with the same number
 pub numbered_recs : (fields : Fields) → HasRecs fields → (rd : ℕ) → IsNumbered fields.granules fields.recs rd
 numbered_recs fields has rd i j key a b below below' here there =
     let one : IsEntry fields.granules fields.recs rd i key a = entry_at fields.granules rd i fields.recs key a here in

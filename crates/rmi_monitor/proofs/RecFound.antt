@@ -32,7 +32,7 @@ module _ (fields : Fields) (whole : IsWhole fields) where
   pub kept_at : (granule : ℕ) (rec : RecAttributes) (at : rec_at fields granule ≡ Some rec) → IsKept fields granule rec (whole.recs.of granule rec at).rd (whole.recs.of granule rec at).realm
   kept_at granule rec at = let is = whole.recs.of granule rec at in record { at = at; of = is.of; there = is.there }
 
-  -- the map of a realm's RECs has the row of each REC of the realm, at the REC's number
+  -- the map of a realm's RECs has the record of each REC of the realm, at the REC's number
   pub row_found : (granule : ℕ) (rec : RecAttributes) (rd : ℕ) (realm : RealmAttributes) → IsKept fields granule rec rd realm
       → get (recs_of fields.granules fields.recs rd) rec.number ≡ Some (rec_row granule rec)
   unfolding recs_of
@@ -43,7 +43,7 @@ module _ (fields : Fields) (whole : IsWhole fields) where
 -- ---- the fields and the machine
 
 module _ (monitor : MonitorView) (fields : Fields) (view_is : seen_as fields ≡ monitor) (whole : IsWhole fields) where
-  -- Each REC of the machine is in the fields, with the same number.
+  -- Each REC of the RMM's machine is kept in the RMM's fields, with the same number.
   pub rec_found : (rd number granule : ℕ) → IsRec monitor.machine rd number granule → (rec : RecAttributes) × (realm : RealmAttributes) × IsKept fields granule rec rd realm × (rec.number ≡ number)
   unfolding recs_of
   rec_found rd number granule is =
@@ -61,7 +61,8 @@ module _ (monitor : MonitorView) (fields : Fields) (view_is : seen_as fields ≡
         place.numbered,
       )
 
-  -- a command on a REC has the outcome that it gives for the rows of the realm and the REC
+  -- if the fields have the REC, a command that needs a REC has the outcome that `f` gives for the realm's record and
+  -- the REC's
   pub outcome_there : (granule : ℕ) (rec : RecAttributes) (rd : ℕ) (realm : RealmAttributes) → IsKept fields granule rec rd realm → (f : RealmRow → RecRow → Outcome)
       → with_realm (seen_in monitor rd) (λ row. with_rec row rec.number (f row)) ≡ f (row_of fields rd realm) (rec_row granule rec)
   outcome_there granule rec rd realm kept f =
@@ -83,7 +84,8 @@ module _ (monitor : MonitorView) (fields : Fields) (view_is : seen_as fields ≡
         not_there rd number is = let found = rec_found rd number granule is in none-some found.0 (sym gone ∙ found.2.at)
 
     module _ (rec : RecAttributes) (rd : ℕ) (realm : RealmAttributes) (kept : IsKept fields granule rec rd realm) where
-      -- a granule is the REC of one realm and one number only
+      -- if the granule is REC `number` of realm `other` in the machine, the command has the same outcome for `other`
+      -- and `number` as for `rd` and `rec.number`
       same_command : (other number : ℕ) → IsRec monitor.machine other number granule → command (seen_in monitor rd) rec.number ≡ command (seen_in monitor other) number
       same_command other number is =
           let found = rec_found other number granule is in

@@ -21,7 +21,7 @@ use Rattle.rmi_monitor.proofs.RealmAfter.{keeps_all}
 use Rattle.rmi_monitor.proofs.Frames.{in_rec}
 use Rattle.rmi_monitor.proofs.Comparisons.{either}
 
--- a granule of a REC after the REC's removal: it is DELEGATED, and belongs to no realm
+-- a granule of a removed REC, which is DELEGATED and belongs to no realm
 abbrev pub left_granule : Granule
 left_granule = record { state = Delegated; realm = None }
 
@@ -64,7 +64,7 @@ module _ (old : Fields) (whole : IsWhole old) (rd g : ℕ) (rec : RecAttributes)
   pub moved : (h : ℕ) → is_in h (g ∷ others) ≡ true → is_moved_state (granule_at old.granules h).state ≡ true
   moved = both (λ h. is_moved_state (granule_at old.granules h).state ≡ true) (ap is_moved_state (in_rec old g (whole.each g) rec is.at)) (λ h e. ap is_moved_state (aux_state h e))
 
-  -- a granule of the machine that is not UNDELEGATED is taken
+  -- a granule of the machine that is not UNDELEGATED is not free
   taken_as : (h : ℕ) (state : GranuleState) → h < length old.granules → (granule_at old.granules h).state ≡ state → (state ≡ Undelegated → ⊥) → is_free old.free h ≡ false
   taken_as h state within at used = whole.backed.taken h within (λ e. used (sym at ∙ e))
 

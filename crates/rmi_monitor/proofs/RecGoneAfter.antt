@@ -1,5 +1,5 @@
--- Proofs about the state after the removal of a REC: the other RECs keep their invariant, and the machine is as the
--- command says.
+-- Proofs that the removal of a REC preserves the invariant of an RMM's fields, and changes the machine as the model's
+-- RMI_REC_DESTROY does.
 use Rattle.std.proofs.Common.{◌≡◌, ◌≢◌, ℕ, ◌-◌, ◌<◌, true, false, List, [], ◌∷◌, ◌++◌, length, map, Some, None, refl, sym, ap, ◌∙◌, subst}
 use Rattle.std.specs.Prelude.{◌==◌, slice_get}
 use Rattle.std.specs.FinMap.{remove, len}
@@ -50,7 +50,7 @@ module _ (old : Fields) (whole : IsWhole old) (rd g : ℕ) (rec : RecAttributes)
   old_realm : (h : ℕ) (other : RecAttributes) → rec_at new h ≡ Some other → (granule_at new.granules h).realm ≡ (granule_at old.granules h).realm
   old_realm h other e = ap (λ (x : Granule). x.realm) (granule_out old whole move h (old_out h other e))
 
-  -- the auxiliaries of a REC that is left are not those of the REC that is removed
+  -- no auxiliary granule of a REC that remains is a granule of the removed REC
   aux_out : (h : ℕ) (other : RecAttributes) (i a : ℕ) → rec_at new h ≡ Some other → slice_get other.auxiliaries i ≡ Some a → is_in a (g ∷ others) ≡ false
   aux_out h other i a e listed =
       let at = was_old h other e in
@@ -80,7 +80,7 @@ module _ (old : Fields) (whole : IsWhole old) (rd g : ℕ) (rec : RecAttributes)
 
   -- ---- the RECs of each realm
 
-  -- the realm has one REC less
+  -- the map of the realm's RECs loses the entry of the removed REC, and no other
   recs_gone : recs_of new.granules new.recs rd ≡ remove (recs_of old.granules old.recs rd) rec.number
   unfolding recs_of
   recs_gone =

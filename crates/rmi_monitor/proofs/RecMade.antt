@@ -23,7 +23,7 @@ use Rattle.rmi_monitor.proofs.RealmPlaces.{realm_inside}
 use Rattle.rmi_monitor.proofs.RecMoves.{RecMove, is_moved_state, granule_first, granule_rest, rec_first, rec_out, no_realm, no_rec}
 use Rattle.rmi_monitor.proofs.Comparisons.{either}
 
--- a REC that has just been made
+-- the attributes of a new REC, which is READY, with the given number and auxiliary granules
 abbrev pub new_rec : ℕ → List ℕ → RecAttributes
 new_rec number auxiliaries = record { number = number; state = Ready; auxiliaries = auxiliaries }
 
@@ -35,7 +35,7 @@ made old rd g others realm = record old {
   recs = set old.recs g (Some (new_rec realm.next others));
 }
 
--- the conditions that a command has checked before it makes a REC
+-- the granules of a new REC are inside the machine, DELEGATED and distinct, and `realm` is the realm with RD `rd`
 pub record CanMake (old : Fields) (rd g : ℕ) (others : List ℕ) (realm : RealmAttributes) : Type 0 where
   pub inside : (h : ℕ) → is_in h (g ∷ others) ≡ true → h < length old.granules
   pub there : realm_at old rd ≡ Some realm
@@ -76,10 +76,11 @@ module _ (old : Fields) (whole : IsWhole old) (rd g : ℕ) (others : List ℕ) (
   abbrev new : Fields
   new = made old rd g others realm
 
-  -- a DELEGATED granule is no REC, and is zero
+  -- no granule of the new REC held a REC before
   pub was_none : (h : ℕ) → is_in h (g ∷ others) ≡ true → rec_at old h ≡ None
   was_none h e = none_from (rec_at old h) ((whole.each h).rec ∙ ap is_rec_state (can.delegated h e))
 
+  -- each granule of the new REC is zero after the command
   pub zero_after : (h : ℕ) → is_in h (g ∷ others) ≡ true → page_at new.pages h ≡ zero_page
   zero_after h e = (whole.each h).zero (can.delegated h e)
 

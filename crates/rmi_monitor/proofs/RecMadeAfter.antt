@@ -1,5 +1,5 @@
--- Proofs about the state after the creation of a REC: the RECs keep their invariant, and the machine is as the command
--- says.
+-- Proofs that the creation of a REC preserves the invariant of an RMM's fields, and changes the machine as the model's
+-- RMI_REC_CREATE does.
 use Rattle.std.proofs.Common.{◌≡◌, ◌≢◌, ℕ, ◌+◌, ◌<◌, true, false, List, [], ◌∷◌, ◌++◌, length, map, Some, None, refl, sym, ap, ◌∙◌, subst, arith}
 use Rattle.std.specs.Prelude.{◌==◌, slice_get}
 use Rattle.std.specs.FinMap.{get, insert, len}
@@ -42,7 +42,7 @@ module _ (old : Fields) (whole : IsWhole old) (rd g : ℕ) (others : List ℕ) (
   is_new : (h : ℕ) (rec : RecAttributes) → h ≡ g → rec_at new h ≡ Some rec → new_rec realm.next others ≡ rec
   is_new h rec same e = same_Some (new_rec realm.next others) rec (sym (rec_first old whole move) ∙ ap (rec_at new) (sym same) ∙ e)
 
-  -- after the command, a REC in any other granule existed before
+  -- after the command, a REC in a granule other than `g` existed before
   was_old : (h : ℕ) (rec : RecAttributes) → h ≢ g → rec_at new h ≡ Some rec → rec_at old h ≡ Some rec
   was_old h rec differs e = sym (rec_out old whole move h differs) ∙ e
 
@@ -89,7 +89,7 @@ module _ (old : Fields) (whole : IsWhole old) (rd g : ℕ) (others : List ℕ) (
     | false ↦ λ s. of_old h rec (was_old h rec (eqb-false h g s) e)
   ] refl
 
-  -- no other REC of the realm has the new number
+  -- no REC that the realm had before has the new REC's number
   apart_before : (h : ℕ) (rec : RecAttributes) → rec_at old h ≡ Some rec → (granule_at old.granules h).realm ≡ Some rd → rec.number ≡ realm.next → ⊥
   apart_before h rec at of number =
       let before : IsRecOf old h rec = whole.recs.of h rec at in
@@ -183,7 +183,7 @@ module _ (old : Fields) (whole : IsWhole old) (rd g : ℕ) (others : List ℕ) (
 
   -- ---- the RECs of each realm
 
-  -- the realm has one more REC
+  -- the map of the realm's RECs gains the entry of the new REC, and no other
   recs_made : recs_of new.granules new.recs rd ≡ insert (recs_of old.granules old.recs rd) realm.next (rec_row g (new_rec realm.next others))
   unfolding recs_of
   recs_made =
@@ -200,7 +200,7 @@ module _ (old : Fields) (whole : IsWhole old) (rd g : ℕ) (others : List ℕ) (
       rec_of-other new.granules new.recs r g (of_other new.granules r g rd g_realm (λ e. differs (sym e)))
       ∙ sym (rec_of-none old.granules old.recs r g (was_none old whole rd g others realm can g (is_in_head g others)))
 
-  -- no REC of the realm had the new number
+  -- the map of the realm's RECs had no entry for the new REC's number
   number_free : get (recs_of old.granules old.recs rd) realm.next ≡ None
   number_free = recs_of-without old.granules old.recs rd realm.next (λ h lt row at.
       let place : IsEntry old.granules old.recs rd h realm.next row = entry_at old.granules rd h old.recs realm.next row at in

@@ -29,7 +29,7 @@ use Rattle.rmi_monitor.proofs.RealmAfter.{Keeps, Changes}
 use Rattle.rmi_monitor.proofs.RealmPlaces.{realm_inside, in_rd}
 use Rattle.rmi_monitor.proofs.RecEntries.{rec_of-none}
 
--- the states of the granules that are moved
+-- the state is DELEGATED, REC or REC_AUX
 abbrev pub is_moved_state : GranuleState → Bool
 is_moved_state Delegated = true
 is_moved_state InRec = true
@@ -121,7 +121,7 @@ module _ (old : Fields) (whole : IsWhole old) (move : RecMove old) where
       other InRd h = cc
       other _ h = refl
 
-  -- a granule in another state is not moved
+  -- a granule in a state other than DELEGATED, REC and REC_AUX is not moved
   not_moved : (g : ℕ) → is_moved_state (granule_at old.granules g).state ≡ false → moved g ≡ false
   not_moved g e = false_from _ (λ there. true_false _ (move.states g there) e)
 
@@ -151,7 +151,7 @@ module _ (old : Fields) (whole : IsWhole old) (move : RecMove old) where
       at_place : ℕ → ℕ → Granule → Option RecAttributes → Option (ℕ × RecRow)
       at_place r g x o = cond (option_eq nat_eq x.realm (Some r)) (option_map (λ rec. (rec.number, rec_row g rec)) o) None
 
-  -- a realm whose entry at the REC's granule stays has the same RECs
+  -- a realm has the same RECs as before, if the granule of the created or removed REC has the same entry among them
   pub recs_of_stays : (r : ℕ) → rec_of new.granules new.recs r move.granule ≡ rec_of old.granules old.recs r move.granule
       → recs_of new.granules new.recs r ≡ recs_of old.granules old.recs r
   unfolding recs_of
@@ -207,7 +207,7 @@ module _ (old : Fields) (whole : IsWhole old) (move : RecMove old) where
     recs = recs;
   }
 
--- a granule that is no RD and has a page of zeros has a cell with zero bytes and no descriptor
+-- a granule that is no RD, and whose contents are zero, has a cell with zero bytes and no descriptor
 pub zero_cell : (fields : Fields) (g : ℕ) (granule : Granule) → granule_at fields.granules g ≡ granule → page_at fields.pages g ≡ zero_page → realm_at fields g ≡ None
     → cell_of fields g ≡ record { state = granule.state; realm = granule.realm; bytes = zero_page; descriptor = None }
 zero_cell fields g granule at page none =

@@ -14,7 +14,7 @@ use Rattle.rmi_monitor.proofs.RecReads.{its_realm}
 use Rattle.rmi_monitor.proofs.Listed.{read_at}
 
 module _ (monitor : MonitorView) (fields : Fields) (view_is : seen_as fields ≡ monitor) (whole : IsWhole fields) (rd number : ℕ) where
-  -- a number without an entry among the realm's RECs in the fields has no REC in the machine
+  -- if the fields have no REC `number` of realm `rd`, the machine has none either
   pub rec_in-none : rd < length monitor.machine → get (recs_of fields.granules fields.recs rd) number ≡ None → rec_in monitor.machine rd number ≡ None
   rec_in-none inside none =
       ap (λ (c : Cell). option_and_then (λ (realm : RealmRow). get realm.recs number) c.descriptor) (cell_is monitor fields view_is whole rd inside) ∙ by (realm_at fields rd)
@@ -24,7 +24,7 @@ module _ (monitor : MonitorView) (fields : Fields) (view_is : seen_as fields ≡
       by None = refl
 
   module _ (granule : ℕ) where
-    -- the realm's REC with a number in the fields is the machine's REC with that number
+    -- a REC of the fields is in the machine, in the same realm and with the same number and record
     pub rec_in-some : (rec : RecAttributes) → IsRecAt fields.granules fields.recs rd number granule → rec_at fields granule ≡ Some rec
         → rec_in monitor.machine rd number ≡ Some (rec_row granule rec)
     rec_in-some rec is at =
@@ -35,7 +35,7 @@ module _ (monitor : MonitorView) (fields : Fields) (view_is : seen_as fields ≡
         ap (option_and_then (λ (realm : RealmRow). get realm.recs number)) (descriptor_there monitor fields view_is whole rd of.realm there)
         ∙ is.found ∙ ap (λ r. Some r) row_same
 
-    -- the code reads a REC at the granule that holds the realm's REC with that number
+    -- `read` is what the code reads at the granule that holds REC `number` of realm `rd`
     module _ (recs : List (Option RecAttributes)) (i : ℕ) (read : Option RecAttributes) (same : recs ≡ fields.recs)
         (is : IsRecAt fields.granules recs rd number granule) (place : i ≡ granule) (reads : read ≡ get_or fields.recs i read) where
       there : IsRecAt fields.granules fields.recs rd number granule
@@ -49,7 +49,7 @@ module _ (monitor : MonitorView) (fields : Fields) (view_is : seen_as fields ≡
           let entry : IsEntry fields.granules fields.recs rd granule number there.row = entry_at fields.granules rd granule fields.recs number there.row there.at in
           ap is_some (sym read_there ∙ entry.at)
 
-      -- the REC that the code has read is the machine's REC with that number
+      -- the REC that the code has read is REC `number` of realm `rd` in the machine
       module _ (rec : RecAttributes) (some : Some rec ≡ read) where
         pub rec_in-read : Some (rec_row granule rec) ≡ rec_in monitor.machine rd number
         rec_in-read = sym (rec_in-some rec there (read_there ∙ sym some))

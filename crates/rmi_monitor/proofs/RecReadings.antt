@@ -13,7 +13,7 @@ use Rattle.rmi_monitor.proofs.RecFound.{IsKept, kept_at, rec_found, row_found}
 use Rattle.rmi_monitor.proofs.RecNamed.{named_some, named_none}
 
 module _ (monitor : MonitorView) (fields : Fields) (view_is : seen_as fields ≡ monitor) (whole : IsWhole fields) (granule : ℕ) where
-  -- the machine's REC with the realm and the number of the granule's REC has that REC's row
+  -- the REC that the fields have in the granule is in the machine, with the same realm, number and record
   row_there : (rec : RecAttributes) (rd : ℕ) (realm : RealmAttributes) → IsKept fields granule rec rd realm → rec_in monitor.machine rd rec.number ≡ Some (rec_row granule rec)
   row_there rec rd realm kept =
       ap (option_and_then (λ (r : RealmRow). get r.recs rec.number)) (descriptor_there monitor fields view_is whole rd realm kept.there)

@@ -1,5 +1,5 @@
--- Proofs about the values that code reads at a granule's index: the REC in the granule, the REC's realm, which exists,
--- and the number of a realm's RECs.
+-- Proofs that the element at a granule's index, in an RMM's lists of RECs, of realms and of REC counts, exists and is
+-- that of the granule.
 use Rattle.std.proofs.Common.{◌≡◌, ℕ, ◌+◌, ◌<◌, ◌≤◌, true, length, get_or, Option, Some, None, refl, sym, ap, ◌∙◌, subst, arith}
 use Rattle.std.specs.Prelude.{is_some}
 use Rattle.std.proofs.lemmas.Option.{same_Some}
@@ -72,7 +72,7 @@ one_more_fits {fields} rd whole counted sized most =
     let as_many = whole.backed.as_many in
     omega (arith, few, as_many)
 
--- the count of a realm that has a REC is above 0
+-- a realm that has a REC has a count of RECs above 0
 pub some_recs : (fields : Fields) (whole : IsWhole fields) (granule : ℕ) (rec : RecAttributes) (rd : ℕ) (realm : RealmAttributes) → IsKept fields granule rec rd realm → 0 < rec_count_at fields rd
 some_recs fields whole granule rec rd realm kept =
     let counted = whole.counted rd in

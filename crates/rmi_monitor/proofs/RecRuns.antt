@@ -1,4 +1,5 @@
--- Proofs about the commands that enter and stop a REC: the cases of refusal, and the effects on the fields of an RMM.
+-- Proofs that the commands that enter and stop a REC, on the fields of an RMM, are refused or succeed as the model
+-- says.
 use Rattle.std.proofs.Common.{◌≡◌, ℕ, ◌<◌, Bool, true, false, List, [], ◌∷◌, length, set, get_or, Ok, Err, Option, Some, None, refl, sym, ap, ◌∙◌}
 use Rattle.std.specs.Prelude.{not}
 use Rattle.realm_model.specs.declared.rmi.Rmi.{Rmi}
@@ -64,7 +65,7 @@ module _ (monitor : MonitorView) (fields : Fields) (view_is : seen_as fields ≡
     enter_is = outcome_there monitor fields view_is whole granule rec rd realm kept
         (λ r c. check (not (is_new r.state)) error_realm (check (is_ready c.state) error_rec (Ok (put_rec (seen_in monitor rd) r rec.number (record c { state = Running }) ∷ []))))
 
-    -- the answer of the code's test whether the realm is NEW
+    -- the answer of the code's test is true exactly if the realm is NEW
     abbrev SaysNew : Bool → Type 0
     SaysNew answer = answer ≡ is_new realm.state
 

@@ -1,5 +1,5 @@
--- Proofs that a command succeeds only if its walk ends at the required level, in a row that passes its test. A command
--- that finds such a row goes on.
+-- Proofs that a command succeeds only if its walk ends at the required level, in a row that passes the command's test.
+-- A command that finds such a row goes on.
 use Rattle.std.proofs.Common.{◌≡◌, ℕ, Bool, true, false, List, Option, Some, None, Ok, Err, refl, ◌∙◌}
 use Rattle.std.specs.Prelude.{◌==◌}
 use Rattle.std.proofs.lemmas.Bool.{eqb-true, eq-eqb}
@@ -10,7 +10,7 @@ use Rattle.realm_model.specs.declared.rmi.Rmi.{Rmi}
 use Rattle.realm_model.proofs.Walks.{walk_at}
 use Rattle.realm_model.proofs.Outcomes.{check_true, end_there}
 
--- if a check's outcome is a success, its test passed, and the outcome of the rest is the same success
+-- if `check t rmi rest` succeeds, `t` is true, and `rest` succeeds with the same updates
 pub check_done : (t : Bool) (rmi : Rmi) (rest : Outcome) (updates : List Update) → check t rmi rest ≡ Ok updates → (t ≡ true) × (rest ≡ Ok updates)
 unfolding check
 check_done true rmi rest updates e = (refl, e)
@@ -27,7 +27,8 @@ module _ (rows : Rows) (ipa level : ℕ) (passes : Row → Bool) (rest : Row →
   abbrev on_row : Outcome
   on_row = with_row rows ipa level (λ row. check (passes row) (error_rtt level) (rest row))
 
-  -- a command that succeeds has found a row at the required level that passes the test, and the rest succeeds on it
+  -- if a command succeeds, its walk ends in a row that meets `Passes`, and the rest of the command succeeds with that
+  -- row
   pub passed_row : (updates : List Update) → on_row ≡ Ok updates → (found : Passes rows ipa level passes) × (rest found.row ≡ Ok updates)
   unfolding with_end
   passed_row updates = found (walk rows ipa level) refl
@@ -49,7 +50,8 @@ module _ (rows : Rows) (ipa level : ℕ) (passes : Row → Bool) (rest : Row →
             passed.1,
           )
 
-  -- a command whose walk ends in a row that meets `Passes` has the outcome of the rest on that row
+  -- if a command's walk ends in a row that meets `Passes`, the command's outcome is what the rest of the command gives
+  -- for that row
   pub row_passes : (found : Passes rows ipa level passes) → on_row ≡ rest found.row
   row_passes found =
       end_there rows ipa level (λ end. check (end.level == level) (error_rtt end.level) (check (passes end.row) (error_rtt level) (rest end.row))) _ found.walked

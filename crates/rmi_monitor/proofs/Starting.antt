@@ -35,7 +35,7 @@ pub one_does_not : (test : ℕ → Bool) (root : Root) (number : ℕ) → number
 one_does_not test root number few fails =
     false_from _ (λ all. true_false _ (all_in test (starting_tables root) (root.first + number) all (in_starts root number few)) fails)
 
--- the granule number of a starting table is that of the first table plus an index below the number of starting tables
+-- each starting table is granule `root.first` plus an index below the number of starting tables
 pub number_of : (root : Root) (table : ℕ) → is_in table (starting_tables root) ≡ true → (number : ℕ) × (number < start_count root.width) × (root.first + number ≡ table)
 unfolding starting_tables
 number_of root table e =

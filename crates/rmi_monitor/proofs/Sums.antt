@@ -1,4 +1,5 @@
--- Proofs that the sum of a granule's bytes is the sum of its page's bytes, or 0 for a table.
+-- Proofs that the byte sum of a granule can be read from the RMM's fields: the sum of its contents there, or 0 for a
+-- table.
 use Rattle.std.proofs.Common.{◌≡◌, ℕ, zero, suc, List, replicate, refl, sym, ap, ◌∙◌}
 use Rattle.std.specs.Prelude.{sum}
 use Rattle.rtt.specs.Granules.{granule_at}
@@ -16,7 +17,7 @@ sum-zero_page : sum zero_page ≡ 0
 unfolding page_of
 sum-zero_page = sum-zeros 4096
 
--- a table counts as zero
+-- the bytes in a table's cell have the sum 0
 pub sum-table : (fields : Fields) (g : ℕ) → (granule_at fields.granules g).state ≡ Rtt → 0 ≡ sum (cell_of fields g).bytes
 sum-table fields g is = sym (ap (λ s. sum (bytes_of s (page_at fields.pages g))) is ∙ sum-zero_page)
 

@@ -14,17 +14,17 @@ use Rattle.realm_model.proofs.Booleans.{not_true, true_false}
 use Rattle.realm_model.proofs.Lists.{is_in_at}
 use Rattle.rmi_monitor.specs.Places.{IsInState, HasPage}
 
--- no element of a list that is apart from a granule is that granule
+-- if `is_apart_from granule others` is true, no element of `others` is `granule`
 pub apart_at : (granule : ℕ) (others : List ℕ) (k d : ℕ) → is_apart_from granule others ≡ true → k < length others → get_or others k d ≢ granule
 apart_at granule others k d apart within same =
     true_false (is_in granule others) (is_in_at others k granule (slice_get-get_or others k d within ∙ ap Some same)) (not_true (is_in granule others) apart)
 
 module _ (all : List ℕ) (i x : ℕ) (within : i < length all) (is : x ≡ get_or all i x) where
-  -- the granules left at index `i` are the granule `x`, followed by those left at the next index
+  -- the granules that remain at index `i` are the granule `x`, followed by those that remain at the next index
   first : drop i all ≡ x ∷ drop (i + 1) all
   first = drop-cons all i x within ∙ (λ j. sym is j ∷ drop (sym (add-one i) j) all)
 
-  -- a test whose result for the granules left is that for all granules
+  -- the test gives the same result for the granules that remain at index `i` as for all granules
   module _ (test : List ℕ → Bool) (was : test (drop i all) ≡ test all) where
     pub test_rest : test (x ∷ drop (i + 1) all) ≡ test (drop (i + 1) all) → test (drop (i + 1) all) ≡ test all
     test_rest passes = sym passes ∙ ap test (sym first) ∙ was
@@ -41,13 +41,14 @@ module _ (all : List ℕ) (i x : ℕ) (within : i < length all) (is : x ≡ get_
   pub rest_distinct : IsTrue (are_distinct (drop i all)) → IsTrue (are_distinct (drop (i + 1) all))
   rest_distinct distinct = (and_parts _ _ (subst (λ l. IsTrue (are_distinct l)) first distinct)).1
 
-  -- setting `x`, and then the granules left after it, gives the same list as setting all that were left
+  -- setting granule `x`, and then the granules that remain after it, gives the same list as setting all granules from
+  -- `x` on
   pub set_rest : {X : Type 0} (y : X) (now then : List X) (end : List X) → set_each y (drop i all) now ≡ end → then ≡ set now x y
       → set_each y (drop (i + 1) all) then ≡ end
   unfolding set_each
   set_rest y now then end was made = ap (set_each y (drop (i + 1) all)) made ∙ ap (λ l. set_each y l now) (sym first) ∙ was
 
-  -- if the granules left are distinct, those after `x` keep their states when `x` is set
+  -- if the granules that remain are distinct, those after `x` keep their states when `x` is set
   pub rest_stand : (now then : List Granule) (state : GranuleState) (y : Granule) → All (IsInState now state) (drop i all) → IsTrue (are_distinct (drop i all))
       → then ≡ set now x y → All (IsInState then state) (drop (i + 1) all)
   rest_stand now then state y stand distinct made k d lt =
@@ -67,7 +68,7 @@ module _ (all : List ℕ) (i x : ℕ) (within : i < length all) (is : x ≡ get_
         taken = had.taken;
       })
 
--- past the end of the list no granule is left, and the test of none has the result of the test of all
+-- if no granule remains at index `i`, and `test` agrees on `drop i all` and `all`, then `test` agrees on `[]` and `all`
 pub test_ends : (test : List ℕ → Bool) (all : List ℕ) (i : ℕ) → length all ≤ i → test (drop i all) ≡ test all → test [] ≡ test all
 test_ends test all i past was = sym (ap test (drop_all i all past)) ∙ was
 

@@ -31,7 +31,7 @@ use Rattle.rmi_monitor.proofs.Outcomes.{input_refused}
 use Rattle.rmi_monitor.proofs.RealmFound.{row_of, somewhere}
 use Rattle.rmi_monitor.proofs.RealmCommands.{with_call, Done, left_by, rows_done}
 
--- The postcondition of the call if it is not refused.
+-- The postcondition of a successful call that destroys a table.
 pub record DestroyCall (at : Tables) (pages : List (List ℕ)) (free : List Bool) (granules : List Granule) (new_pages : List (List ℕ)) (new_free : List Bool) (new_granules : List Granule)
     (ipa level : ℕ) : Type 0 where
   pub answer : (row : Row) × ((f : Row → Outcome) → with_unused_table (rows pages at.root) ipa level f ≡ f row)

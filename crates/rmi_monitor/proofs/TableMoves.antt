@@ -20,7 +20,7 @@ use Rattle.rmi_monitor.proofs.Frames.{StayRecs, recs_of_stay, recs_stay}
 use Rattle.rmi_monitor.proofs.RealmPlaces.{realm_inside, in_rd, no_table, no_realm_there}
 use Rattle.rmi_monitor.proofs.RealmAfter.{Keeps, Changes, with_row_of, still_there, whole_changed, cell_unchanged, cell_changed}
 
--- a DELEGATED granule, a page of data or a table
+-- the state is DELEGATED, DATA or RTT
 abbrev pub is_moved_state : GranuleState → Bool
 is_moved_state Delegated = true
 is_moved_state InData = true

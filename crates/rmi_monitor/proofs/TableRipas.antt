@@ -30,19 +30,18 @@ use Rattle.rmi_monitor.proofs.RealmAfter.{Keeps as KeepsRealm}
 use Rattle.rmi_monitor.proofs.RealmFound.{row_of, nowhere, somewhere, measured_there}
 use Rattle.rmi_monitor.proofs.RealmCommands.{with_call, Done, after_put}
 
--- The postcondition of the call if it is not refused.
+-- The postcondition of a successful call that sets the RIPAS of IPA granules to RAM.
 pub record RipasCall (at : Tables) (pages : List (List ℕ)) (free : List Bool) (granules : List Granule) (new_pages : List (List ℕ)) (new_free : List Bool) (ipa count : ℕ) : Type 0 where
   pub answer : (row : Row) × ((f : Row → Outcome) → with_free_pages (rows pages at.root) ipa count f ≡ f row)
   pub gains : rows new_pages at.root ≡ with_ram (rows pages at.root) ipa count
   pub others : ChangesTablesOnly at.root pages new_pages
   pub keeps : Keeps at.rd at.root pages free granules new_pages new_free granules
 
--- the `count` IPA granules from `ipa` on are a page run, and the first one is protected
+-- one or more IPA granules have their entries in one table of level 3, and the first of them is protected
 abbrev pub is_run : ℕ → ℕ → ℕ → Bool
 is_run ipa count width = is_page_run ipa count && is_protected_at ipa width
 
--- the result of the code's check that the IPA granules are a protected page run of the realm whose root the code has
--- read
+-- the code has read the starting tables and the IPA width of the realm, and checks the IPA granules with `is_run`
 module _ (realm : RealmAttributes) (ipa count : ℕ) (root : Root) (read : root ≡ realm.root) where
   pub no_run : None ≡ cond (is_run ipa count root.width) (Some ipa) None → is_run ipa count realm.root.width ≡ false
   no_run tested = ap (λ (r : Root). is_run ipa count r.width) (sym read) ∙ test_failed (is_run ipa count root.width) ipa None tested refl
@@ -54,7 +53,7 @@ module _ (realm : RealmAttributes) (ipa count : ℕ) (root : Root) (read : root 
       let both = and_parts (is_page_run ipa count) _ (ap (λ (r : Root). is_run ipa count r.width) (sym read) ∙ held.0) in
       (record { tables = tables; same = held.1; protected = both.1 }, both.0)
 
--- the realm, with its measurement extended
+-- a realm's attributes with the measurement extended by RMI_RTT_INIT_RIPAS for `count` IPA granules from `ipa` on
 abbrev pub measured : RealmAttributes → ℕ → ℕ → RealmAttributes
 measured realm ipa count = record realm { measurement = measurement_after realm.measurement (ripas_event ipa count) }
 

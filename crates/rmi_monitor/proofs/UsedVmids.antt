@@ -23,7 +23,7 @@ list_any-same : {A : Type 0} (p q : A → Bool) (xs : List A) → ((x : A) → p
 list_any-same p q [] same = refl
 list_any-same p q (x ∷ xs) same = ap (λ t. t || list_any p xs) (same x) ∙ ap (λ t. q x || t) (list_any-same p q xs same)
 
--- the test of an option's value; false if there is no value
+-- the result of `p` for an option's value, or `false` if the option has no value
 abbrev tests : {B : Type 0} → (B → Bool) → Option B → Bool
 tests p o = elim o [ Some y ↦ p y | None ↦ false ]
 
@@ -51,7 +51,7 @@ module _ {A : Type 0} (p : A → Bool) where
   count_more : (x : A) (xs : List A) → count_by p (x ∷ xs) ≡ cond (p x) 1 0 + count_by p xs
   count_more x xs = sum_by-cons (λ y. cond (p y) 1 0) x xs
 
-  -- if the number of elements that pass is 1 or 0, some element passes exactly if the number is 1
+  -- if exactly one element passes `p` when `one` is true, and none otherwise, `list_any p xs` equals `one`
   any-count : (xs : List A) (one : Bool) → count_by p xs ≡ cond one 1 0 → list_any p xs ≡ one
   any-count [] true e = absurd (omega (arith, e))
   any-count [] false e = refl
@@ -65,12 +65,12 @@ module _ {A : Type 0} (p : A → Bool) where
           some false h = absurd (omega (arith, h))
       by false h rest = rest (omega (arith, h))
 
-  -- if an element fails the test, no element passes in a list of copies of it
+  -- if `x` fails the test `p`, no element of a list of copies of `x` passes `p`
   count-none : (n : ℕ) (x : A) → p x ≡ false → count_by p (replicate n x) ≡ 0
   count-none zero x e = refl
   count-none (suc n) x e = count_more x (replicate n x) ∙ (λ i. cond (e i) 1 0 + count-none n x e i)
 
-  -- two lists of the same length, whose elements pass at the same indexes, have equally many elements that pass
+  -- two lists of the same length, whose elements pass `p` at the same indexes, have equally many elements that pass `p`
   count-alike : (xs ys : List A) (d : A) → length xs ≡ length ys → ((i : ℕ) → p (get_or xs i d) ≡ p (get_or ys i d)) → count_by p xs ≡ count_by p ys
   count-alike [] [] d long same = refl
   count-alike [] (y ∷ ys) d long same = absurd (omega (arith, long))
@@ -80,7 +80,8 @@ module _ {A : Type 0} (p : A → Bool) where
       ∙ (λ i. cond (same 0 i) 1 0 + count-alike xs ys d (omega (arith, long)) (λ k. same (suc k)) i)
       ∙ sym (count_more y ys)
 
-  -- writing one element lowers the count by one if the old element passed, and raises it by one if the new one passes
+  -- writing an element lowers the number of elements that pass `p` by one if the old element passed, and raises it by
+  -- one if the new one passes
   count-set : (xs : List A) (i : ℕ) (y d : A) → i < length xs → count_by p (set xs i y) + cond (p (get_or xs i d)) 1 0 ≡ count_by p xs + cond (p y) 1 0
   count-set xs i y d inside = sum_by-set (λ x. cond (p x) 1 0) xs i y d inside
 
@@ -183,7 +184,7 @@ module _ (fields : Fields) (whole : IsWhole fields) (vmid : ℕ) where
       by (Some r) = eqb-swap vmid r.vmid
       by None = refl
 
-  -- a VMID is one of those in use exactly if its flag says so
+  -- a realm of the machine has the VMID exactly if the fields mark the VMID as used
   pub any_used : list_any (λ v. vmid == v) (used_vmids (machine_of fields)) ≡ is_used fields.used vmid
   unfolding machine_of
   any_used =

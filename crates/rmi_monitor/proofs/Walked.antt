@@ -30,7 +30,7 @@ module _ {monitor : MonitorView} {fields : Fields} (kept : HasFields monitor fie
       ap (option_and_then (λ (r : RealmRow). walk_of r ipa level))
       (ap (λ (c : Cell). c.descriptor) (cell_is monitor fields kept.view_is kept.whole rd inside) ∙ ap (option_map (row_of fields rd)) none)
 
-  -- the realm's root and IPA width, as the code reads them
+  -- the code has read the starting tables of the realm, and the realm's IPA width as `number`
   module _ (realm : RealmAttributes) (there : realm_at fields rd ≡ Some realm) (root : Root) (read : root ≡ realm.root)
       (number : ℕ) (number_is : number ≡ root.width) (least : 39 ≤ number) (most : number ≤ 43) where
     width_is : number ≡ realm.root.width

@@ -1,5 +1,5 @@
--- The attributes of a realm without its RECs and translation, and of a REC without its granule. RMM 1.0, Realm and REC
--- attributes.
+-- The attributes of a realm, other than its RECs and its translation, and of a REC, other than its granule. RMM 1.0,
+-- Realm and REC attributes.
 use Rattle.std.specs.Prelude.{ℕ, List}
 use Rattle.std.specs.FinMap.{FinMap}
 use Rattle.std.specs.Ordering.{nat_cmp}
@@ -9,8 +9,7 @@ use Rattle.realm_model.specs.declared.states.RecState.{RecState}
 use Rattle.realm_model.specs.Rows.{Rows}
 use Rattle.realm_model.specs.Machine.{RealmRow, RecRow}
 
--- A realm's own attributes: its state, VMID, starting tables and IPA width, the number of its next REC, and its
--- measurement.
+-- A realm's state, VMID, starting tables and IPA width, the number of its next REC, and its measurement.
 pub record RealmAttributes : Type 0 where
   pub state : RealmState
   pub vmid : ℕ
@@ -18,13 +17,13 @@ pub record RealmAttributes : Type 0 where
   pub next : ℕ
   pub measurement : List ℕ
 
--- A REC's own attributes: its number in the realm, its state, and its auxiliary granules.
+-- A REC's number in its realm, its state, and its auxiliary granules.
 pub record RecAttributes : Type 0 where
   pub number : ℕ
   pub state : RecState
   pub auxiliaries : List ℕ
 
--- the row of a realm with the given attributes, RECs and translation
+-- the machine's record of a realm, from the given attributes, RECs and translation
 abbrev pub realm_row : RealmAttributes → FinMap nat_cmp RecRow → Rows → RealmRow
 realm_row realm recs rows = record {
   state = realm.state;
@@ -36,6 +35,6 @@ realm_row realm recs rows = record {
   rows = rows;
 }
 
--- the row of a REC with the given granule and attributes
+-- the machine's record of a REC, from the given granule and attributes
 abbrev pub rec_row : ℕ → RecAttributes → RecRow
 rec_row granule rec = record { granule = granule; auxiliaries = rec.auxiliaries; state = rec.state }

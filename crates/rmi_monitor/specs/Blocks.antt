@@ -1,4 +1,5 @@
--- The statements that taking a block from an RMM's store, and giving one back to it, are steps of a history.
+-- The statements that the model accepts a Take of a free block, and an UnTake of a block whose Take is its build's
+-- newest open operation.
 use Rattle.std.specs.Prelude.{◌≡◌, ℕ, ◌<◌, ◌≤◌, List, Some, None}
 use Rattle.std.specs.List.{last_or}
 use Rattle.page_arena.specs.Block.{IsFreeBlock}
@@ -11,13 +12,14 @@ use Rattle.realm_model.specs.Undoing.{by}
 use Rattle.rmi_monitor.specs.View.{MonitorView, IsGivable, with_block, without_block}
 use Rattle.rmi_monitor.specs.Mirror.{IsMirror, IsPerformed}
 
--- Any existing build can take a free block of order 0 to 9, and the take is a step of the model.
+-- The model accepts the Take of a free block of order 0 to 9 by any existing build, and the RMM then agrees with the
+-- new world.
 abbrev pub TakenIsStep : Limits → List Event → World → MonitorView → ℕ → ℕ → ℕ → Type 0
 TakenIsStep limits history world monitor build order first =
     IsMirror limits history world monitor → build < limits.builds → order ≤ 9 → IsFreeBlock monitor.free order first
     → IsPerformed limits history world build (Take order first) (with_block monitor order first)
 
--- The block can be given back: this is the reverse of the build's newest open operation, and is a step of the model.
+-- Giving the block back is possible, undoes the build's newest open operation, and is accepted by the model.
 pub record IsGivenBack (limits : Limits) (history : List Event) (world : World) (monitor : MonitorView) (build order first : ℕ) : Type 0 where
   pub givable : IsGivable monitor order first
   pub turn : IsInTurn history (by build (UnTake order first))

@@ -3,7 +3,7 @@ use Rattle.std.specs.Prelude.{◌≡◌, ◌<◌, ℕ, zero, suc, Option, Some, 
 use Rattle.std.specs.FinMap.{FinMap, empty, insert}
 use Rattle.std.specs.Ordering.{nat_cmp}
 
--- the map with one more entry, or the same map if no entry is given
+-- the map after the given entry is inserted; the same map if no entry is given
 abbrev pub added : {A : Type 0} → Option (ℕ × A) → FinMap nat_cmp A → FinMap nat_cmp A
 added None map = map
 added (Some entry) map = insert map entry.0 entry.1

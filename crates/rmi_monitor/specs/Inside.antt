@@ -20,7 +20,7 @@ use Rattle.rmi_monitor.specs.Gathered.{gathered, IsOnce}
 use Rattle.rmi_monitor.specs.Places.{is_realm_with}
 use Rattle.granule_addr.specs.Vmids.{is_used}
 
--- The fields of an RMM: two settings, the VMIDs in use, and lists with one element for each granule. The lists have the
+-- The two settings of an RMM, its VMIDs in use, and its lists with one element for each granule. The lists have the
 -- granule's state and realm, the bytes of its page, and whether it is free. They also have the realm whose RD it is,
 -- the number of that realm's RECs, and the REC that it holds.
 pub record Fields : Type 0 where
@@ -65,16 +65,16 @@ rec_at fields granule = slice_index_or fields.recs granule None
 abbrev pub is_of_realm : List Granule → ℕ → ℕ → Bool
 is_of_realm granules rd granule = option_eq nat_eq (granule_at granules granule).realm (Some rd)
 
--- the number and the row of the REC that the granule holds, if it holds a REC of the realm
+-- the number and the record of the REC that the granule holds, if it holds a REC of the realm
 abbrev pub rec_of : List Granule → List (Option RecAttributes) → ℕ → ℕ → Option (ℕ × RecRow)
 rec_of granules recs rd granule =
     if is_of_realm granules rd granule then option_map (λ rec. (rec.number, rec_row granule rec)) (slice_index_or recs granule None) else None
 
--- the map from the numbers of a realm's RECs to their rows
+-- the map from the numbers of a realm's RECs to the records of these RECs
 unfoldable pub recs_of : List Granule → List (Option RecAttributes) → ℕ → FinMap nat_cmp RecRow
 recs_of granules recs rd = gathered (rec_of granules recs rd) (length granules)
 
--- no two granules hold RECs of the realm with the same number
+-- no two granules hold RECs of the realm that have the same number
 abbrev pub IsNumbered : List Granule → List (Option RecAttributes) → ℕ → Type 0
 IsNumbered granules recs rd = IsOnce (rec_of granules recs rd) (length granules)
 
@@ -85,12 +85,13 @@ pub record IsRecAt (granules : List Granule) (recs : List (Option RecAttributes)
   pub at : rec_of granules recs rd granule ≡ Some (number, row)
   pub found : get (recs_of granules recs rd) number ≡ Some row
 
--- the row of the realm whose RD is the granule, if there is one, with the realm's RECs and translation
+-- the record of the realm whose RD is the granule, with the realm's RECs and translation; None if there is no such
+-- realm
 abbrev pub descriptor_of : Fields → ℕ → Option RealmRow
 descriptor_of fields rd =
     option_map (λ realm. realm_row realm (recs_of fields.granules fields.recs rd) (rows fields.pages realm.root)) (realm_at fields rd)
 
--- the bytes of a granule: its page's bytes, or zeros for a table, whose contents are rows
+-- the bytes of a granule's cell: the granule's contents, or zero bytes for a table, whose contents are rows
 abbrev pub bytes_of : GranuleState → List ℕ → List ℕ
 bytes_of InRtt page = zero_page
 bytes_of _ page = page
@@ -117,9 +118,9 @@ abbrev pub is_rec_state : GranuleState → Bool
 is_rec_state InRec = true
 is_rec_state _ = false
 
--- What the fields of an RMM have for a granule agrees with the granule's state. If the granule is UNDELEGATED or
--- DELEGATED, it belongs to no realm, and if it is DELEGATED, it is zero. There is a realm at it exactly when it is in
--- RD, and a REC exactly when it is in REC.
+-- The state of a granule agrees with its realm, with its contents, and with the attributes that the fields have at its
+-- index. A granule that is UNDELEGATED or DELEGATED belongs to no realm, and one that is DELEGATED is zero. There are
+-- attributes of a realm exactly when the state is RD, and attributes of a REC exactly when it is REC.
 pub record IsSoundAt (fields : Fields) (granule : ℕ) : Type 0 where
   pub host : is_host_state (granule_at fields.granules granule).state ≡ true → (granule_at fields.granules granule).realm ≡ None
   pub zero : (granule_at fields.granules granule).state ≡ Delegated → page_at fields.pages granule ≡ zero_page
@@ -146,8 +147,8 @@ pub record HasRecs (fields : Fields) : Type 0 where
       → slice_get rec.auxiliaries i ≡ Some auxiliary → slice_get other.auxiliaries j ≡ Some auxiliary → (g ≡ h) × (i ≡ j)
 
 pub record IsWhole (fields : Fields) : Type 0 where
-  -- There is a page, a place for a realm, a count and a place for a REC for each granule. A granule that is not
-  -- UNDELEGATED is taken.
+  -- The lists of granules' contents, of realms, of REC counts and of RECs have one element for each granule. A granule
+  -- that is not UNDELEGATED is not free.
   pub backed : IsBacked fields.pages fields.free fields.granules
   pub realm_places : length fields.realms ≡ length fields.granules
   pub count_places : length fields.rec_counts ≡ length fields.granules

@@ -36,8 +36,8 @@ FreshIsMirror limits = IsMirror limits [] (opening limits) (fresh limits.vmids l
 
 -- ---- the requirements
 
--- The requirements on a build's command before it goes to the RMM. The build exists and leases the granules named. The
--- operation's own numbers are in range, and its answers agree with the machine.
+-- The operation meets the requirements that a build's command has to meet before it goes to the RMM. The build exists
+-- and leases the granules named. The operation's own numbers are in range, and its answers agree with the machine.
 pub record IsAsked (limits : Limits) (world : World) (build : ℕ) (act : Act) : Type 0 where
   pub command : is_command act ≡ true
   pub there : build < limits.builds
@@ -65,22 +65,23 @@ UnRecNamesItsRec limits world build _ = Unit {0}
 
 -- ---- the effect
 
--- A performed operation is a step: the history with the operation's event is legal and leads to a world, and the RMM
--- then agrees with that world. The leases are changed as the operation says.
+-- The model accepts a build's operation in the world, and the RMM's new state agrees with the world after the
+-- operation. The history with the operation's event is legal and leads to the new world. The leases are changed as the
+-- operation says.
 pub record IsPerformed (limits : Limits) (history : List Event) (world : World) (build : ℕ) (act : Act) (new : MonitorView) : Type 0 where
   pub next : World
   pub stepped : step limits world (by build act) ≡ Some next
   pub leases : next.leases ≡ leases_after build act world.leases
   pub mirror : IsMirror limits (history ++ by build act ∷ []) next new
 
--- Either the operation is performed and is a step, or it is refused with the error of its outcome in the world, and
--- nothing changes.
+-- Either the operation is performed and the model accepts it, or the operation is refused with the error of its outcome
+-- in the world, and nothing changes.
 abbrev pub IsStepOrRefusal : Limits → List Event → World → MonitorView → ℕ → Act → Result (Unit {0}) Rmi → MonitorView → Type 0
 IsStepOrRefusal limits history world old build act (Ok done) new = IsPerformed limits history world build act new
 IsStepOrRefusal limits history world old build act (Err rmi) new = (outcome_in limits world (by build act) ≡ Err rmi) × (new ≡ old)
 
--- if the operation meets the requirements `IsAsked` and `IsInTurn`, each possible result of `perform` is a step or a
--- refusal
+-- if the operation meets the requirements `IsAsked` and `IsInTurn`, each possible result of `perform` meets
+-- `IsStepOrRefusal`
 abbrev pub PerformedIsStep : Limits → List Event → World → MonitorView → ℕ → Act → RealmAndRec → Type 0
 PerformedIsStep limits history world monitor build act place =
     IsMirror limits history world monitor → IsPlaceOf world build act place → IsAsked limits world build act → IsInTurn history (by build act)

@@ -24,7 +24,7 @@ rec_named machine granule =
     option_and_then (λ rd. option_map (λ number. (rd, number)) (number_in machine granule rd))
     (find (λ rd. is_some (number_in machine granule rd)) (range_with_len 0 (length machine)))
 
--- a REC's own attributes, from its number and its row
+-- a REC's own attributes, from its number and its record
 abbrev pub rec_attributes_of : ℕ → RecRow → RecAttributes
 rec_attributes_of number row = record { number = number; state = row.state; auxiliaries = row.auxiliaries }
 

@@ -33,7 +33,7 @@ is_in_realm _ = false
 
 -- ---- the outcome of an operation
 
--- a realm's RD as a command sees it, if there is a realm
+-- the granule of the realm's RD, as a number and a cell; None if there is no realm
 abbrev pub realm_on : MonitorView → Option ℕ → Option Seen
 realm_on monitor rd = option_map (seen_in monitor) rd
 
@@ -42,14 +42,14 @@ abbrev pub outcome_on : MonitorView → Option ℕ → Act → Outcome
 outcome_on monitor rd act =
     outcome_of monitor.vmids monitor.aux (used_vmids monitor.machine) act (realm_on monitor rd) (map (seen_in monitor) (named act))
 
--- The answer and the new RMM are as the command's outcome says.
+-- The answer and the RMM's new state are those of the command's outcome.
 pub record IsDone (old : MonitorView) (outcome : Outcome) (result : Result (Unit {0}) Rmi) (new : MonitorView) : Type 0 where
   pub answer : Answers result outcome
   pub machine : new ≡ after_command outcome old
 
 -- ---- the conditions
 
--- the granule is taken, if one is given
+-- the granule, if one is given, is inside the machine and not free
 abbrev pub IsTakenAt : MonitorView → Option ℕ → Type 0
 IsTakenAt monitor None = Unit {0}
 IsTakenAt monitor (Some granule) = IsTaken monitor granule
@@ -64,7 +64,7 @@ abbrev pub IsNumberReady : MonitorView → Option ℕ → Act → Type 0
 IsNumberReady monitor realm (Rec granule auxiliaries number) = HasNextNumber monitor realm
 IsNumberReady monitor realm _ = Unit {0}
 
--- `rec` is the taken granule of the realm's REC with the given number, or None if there is no such REC
+-- `rec` is `None` if the realm has no REC with the given number, and otherwise that REC's granule, which is not free
 pub record IsRecReady (monitor : MonitorView) (realm : Option ℕ) (number : ℕ) (rec : Option ℕ) : Type 0 where
   pub is : rec ≡ rec_granule (realm_on monitor realm) number
   pub taken : IsTakenAt monitor rec
@@ -74,9 +74,8 @@ abbrev pub IsRecReadyAt : MonitorView → Option ℕ → Option ℕ → Option �
 IsRecReadyAt monitor realm None rec = Unit {0}
 IsRecReadyAt monitor realm (Some number) rec = IsRecReady monitor realm number rec
 
--- The operation can be performed: it is a command, and the granules that it names and the RD of its build's realm are
--- taken. There is a number for the REC that it creates, and `place` has the granule of the REC that it names, if there
--- is such a REC.
+-- The operation is a command, and neither the granules that it names nor the RD of its build's realm are free. There is
+-- a number for the REC that it creates, and `place` has the granule of the REC that it names, if there is such a REC.
 pub record IsReady (monitor : MonitorView) (place : RealmAndRec) (act : Act) : Type 0 where
   pub command : is_command act ≡ true
   pub granules : All (IsTaken monitor) (named act)

@@ -1,4 +1,4 @@
--- The tests that commands make of an RMM's granules, realms and RECs, and two changes of a realm's attributes.
+-- The conditions that commands check or require on granules, realms and RECs, and two changes of a realm's attributes.
 use Rattle.std.specs.Prelude.{◌≡◌, ℕ, ◌+◌, ◌%◌, ◌==◌, ◌<◌, List, ◌∷◌, length, Bool, true, false, not, ◌&&◌, nat_le, Option, Some, None}
 use Rattle.std.specs.List.{list_all}
 use Rattle.granule_addr.specs.Root.{start_count, starting_tables}
@@ -12,7 +12,7 @@ use Rattle.realm_model.specs.declared.states.GranuleState.{GranuleState}
 use Rattle.realm_model.specs.declared.states.GranuleState.TheVariants.{Undelegated, Delegated}
 use Rattle.rmi_monitor.specs.Attributes.{RealmAttributes}
 
--- a realm's attributes with the measurement extended by an event
+-- a realm's attributes with the measurement extended by the given bytes
 abbrev pub measured_by : List ℕ → RealmAttributes → RealmAttributes
 measured_by event realm = record realm { measurement = measurement_after realm.measurement event }
 
@@ -27,7 +27,7 @@ is_delegated_at granules granule = elim (granule_at granules granule).state [ De
 abbrev pub is_undelegated_at : List Granule → ℕ → Bool
 is_undelegated_at granules granule = elim (granule_at granules granule).state [ Undelegated ↦ true | _ ↦ false ]
 
--- a granule can be a starting table of the new realm: it is DELEGATED, and not the RD
+-- a granule is DELEGATED and not the RD, so it can be a starting table of the new realm
 abbrev pub is_fit_to_start : List Granule → ℕ → ℕ → Bool
 is_fit_to_start granules rd table = is_delegated_at granules table && not (table == rd)
 
@@ -43,7 +43,7 @@ are_fit_for_realm granules rd root vmid vmids =
 abbrev pub is_realm_with : ℕ → Option RealmAttributes → Bool
 is_realm_with vmid place = elim place [ Some realm ↦ realm.vmid == vmid | None ↦ false ]
 
--- the granules are DELEGATED and distinct, and `count` of them follow the first
+-- the granule and the auxiliaries of a new REC are DELEGATED and distinct, and there are `count` auxiliaries
 abbrev pub are_fit_for_rec : List Granule → ℕ → List ℕ → ℕ → Bool
 are_fit_for_rec granules first others count =
     list_all (is_delegated_at granules) (first ∷ others) && are_distinct (first ∷ others) && length others == count
@@ -53,7 +53,7 @@ pub record IsInState (granules : List Granule) (state : GranuleState) (granule :
   pub inside : granule < length granules
   pub is : (granule_at granules granule).state ≡ state
 
--- the granule has a page, and is taken
+-- `pages` has contents for the granule, and the granule is not free
 pub record HasPage (pages : List (List ℕ)) (flags : List Bool) (granule : ℕ) : Type 0 where
   pub inside : granule < length pages
   pub taken : is_free flags granule ≡ false

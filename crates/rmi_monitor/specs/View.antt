@@ -14,29 +14,28 @@ use Rattle.realm_model.specs.Command.Realm.{realm_create}
 use Rattle.realm_model.specs.Step.{used_vmids}
 use Rattle.rmi_monitor.specs.Attributes.{RealmAttributes}
 
--- The view of an RMM: its numbers of VMIDs and of auxiliary granules per REC, its machine, and for each granule whether
--- it is free.
+-- An RMM's numbers of VMIDs and of auxiliary granules per REC, its machine, and for each granule whether it is free.
 pub record MonitorView : Type 0 where
   pub vmids : ℕ
   pub aux : ℕ
   pub machine : Machine
   pub free : List Bool
 
--- the granule is inside the machine, and taken
+-- the granule is inside the machine, and not free
 pub record IsTaken (monitor : MonitorView) (granule : ℕ) : Type 0 where
   pub inside : granule < length monitor.machine
   pub taken : is_free monitor.free granule ≡ false
 
--- the machine has `count` granules, and all are taken
+-- the machine has `count` granules, and none of them is free
 pub record AreAllTaken (monitor : MonitorView) (count : ℕ) : Type 0 where
   pub size : length monitor.machine ≡ count
   pub each : (granule : ℕ) → granule < count → IsTaken monitor granule
 
--- what a command sees of a granule: its number, and its cell in the machine
+-- the number of a granule and its cell in the machine, as a command sees them
 abbrev pub seen_in : MonitorView → ℕ → Seen
 seen_in monitor granule = seen monitor.machine granule
 
--- The answer is as the command's outcome says: success, or the error of the first check that fails.
+-- The answer is a success if the command's outcome is one, and otherwise the error in the outcome.
 abbrev pub Answers : {A : Type 0} → Result A Rmi → Outcome → Type 0
 Answers (Ok value) (Ok updates) = Unit {0}
 Answers (Ok value) (Err rmi) = ⊥
@@ -54,7 +53,7 @@ abbrev pub make_realm : MonitorView → ℕ → Root → ℕ → Outcome
 make_realm monitor rd root vmid =
     realm_create monitor.vmids (used_vmids monitor.machine) (seen_in monitor rd) (map (seen_in monitor) (starting_tables root)) root vmid
 
--- a realm's own attributes, from its row
+-- a realm's own attributes, from its record
 abbrev pub attributes_of : RealmRow → RealmAttributes
 attributes_of realm = record {
   state = realm.state;
@@ -89,22 +88,22 @@ pub record IsOnRec {A : Type 0} (command : Seen → ℕ → Outcome) (old : Moni
 abbrev pub with_block : MonitorView → ℕ → ℕ → MonitorView
 with_block monitor order first = record monitor { free = with_taken monitor.free order first }
 
--- the block may be given back: it is taken, and all its granules are UNDELEGATED
+-- granule `first` begins a block of 2^`order` granules, none of which is free, and all of which are UNDELEGATED
 pub record IsGivable (monitor : MonitorView) (order first : ℕ) : Type 0 where
   pub taken : IsTakenBlock monitor.free order first
   pub undelegated : (granule : ℕ) → first ≤ granule → granule < first + 2 ^ order → is_undelegated (seen_in monitor granule) ≡ true
 
--- the RMM after a block is given back: its granules are blank and free
+-- the RMM after a block is given back: the block's granules are then UNDELEGATED, zero and free
 abbrev pub without_block : MonitorView → ℕ → ℕ → MonitorView
 without_block monitor order first = record monitor {
   machine = with_run monitor.machine first (2 ^ order) blank;
   free = with_given monitor.free order first;
 }
 
--- an RMM that has just been built, with `pages` pages
+-- an RMM that has just been built, with `pages` granules
 abbrev pub fresh : ℕ → ℕ → ℕ → MonitorView
 fresh vmids aux pages = record { vmids = vmids; aux = aux; machine = replicate pages blank; free = replicate pages true }
 
--- the bytes are the cell's, unless the cell is a table
+-- the given bytes are those of the cell, unless the cell is that of a table
 abbrev pub IsPageOf : Cell → List ℕ → Type 0
 IsPageOf cell bytes = cell.state ≢ Rtt → bytes ≡ cell.bytes

@@ -20,8 +20,8 @@ pub fn what_is_asked_can_be_performed()
     ensures { (limits : Limits) (history : List Event) (world : World) (monitor : MonitorView) (build : ℕ) (act : Act) (place : RealmAndRec) → AskedIsReady limits history world monitor build act place }
 {}
 
-/// Proves that each command that the RMM performs is a step of the model, if it meets the requirements `IsAsked` and
-/// `IsInTurn`. The model refuses each such command that the RMM refuses.
+/// Proves that the model accepts each command that the RMM performs, if the command meets the requirements `IsAsked`
+/// and `IsInTurn`. The model refuses each such command that the RMM refuses.
 pub fn what_is_performed_is_a_step()
     ensures { (limits : Limits) (history : List Event) (world : World) (monitor : MonitorView) (build : ℕ) (act : Act) (place : RealmAndRec) → PerformedIsStep limits history world monitor build act place }
 {}
@@ -39,14 +39,14 @@ pub fn rec_taken_away_is_the_one_named()
     ensures { (limits : Limits) (world : World) (build : ℕ) (act : Act) → UnRecNamesItsRec limits world build act }
 {}
 
-/// Proves that taking a free block of granules for a build is a step of the model. This holds for each build, and for a
-/// block of any order from 0 to 9.
+/// Proves that the model accepts the Take of a free block of granules. This holds for each build, and for a block of
+/// any order from 0 to 9.
 pub fn what_is_taken_is_a_step()
     ensures { (limits : Limits) (history : List Event) (world : World) (monitor : MonitorView) (build order first : ℕ) → TakenIsStep limits history world monitor build order first }
 {}
 
-/// Proves that giving a build's block back is a step of the model if the block's Take is the build's newest open
-/// operation. The RMM can give the block back.
+/// Proves that the model accepts the UnTake of a block whose Take is its build's newest open operation. The RMM can
+/// give the block back.
 pub fn what_is_given_back_is_a_step()
     ensures { (limits : Limits) (history : List Event) (world : World) (monitor : MonitorView) (build order first : ℕ) → GivenBackIsStep limits history world monitor build order first }
 {}

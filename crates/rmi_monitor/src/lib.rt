@@ -5,14 +5,18 @@
 //! answer and the effect of each command are those of its definition on the named granules; a refusal changes nothing.
 //! A caller has to have taken the granules that a command names.
 //!
-//! A `RealmDesc` and a `Rec` are each seen as a record of their attributes, which gives the machine's row of a realm or
-//! of a REC. Each method says all that it changes. None of them takes memory or refuses a call: a command checks first
-//! whether it is allowed. The bytes of a realm's initial measurement are those of the RMM specification 1.0 (DEN0137).
+//! A `RealmDesc` and a `Rec` are each seen as a record of their attributes, which gives the machine's record of a realm
+//! or of a REC. Each method says all that it changes. None of them takes memory or refuses a call: a command checks
+//! first whether it is allowed. The bytes by which commands extend a realm's measurement are this profile's own, not
+//! those of DEN0137.
 //!
 //! One function performs each operation but a take and its reverse, with one contract: the answer and the machine are
-//! those of the operation's definition. `law` leads from there to the step of a history, and says that a reverse in
-//! turn is not refused. Take and UnTake are no commands: the RMM's `take`, `take_at` and `give` do them. `law` says
-//! that these are steps too.
+//! those of the operation's definition. `law` proves that the model accepts each operation that is performed, if it
+//! meets the requirements on a build's command. The reverse of a build's newest open operation is not refused, unless
+//! that operation created a REC that is running.
+//!
+//! Take and UnTake are no commands: the RMM's `take`, `take_at` and `give` do them. `law` proves that the model accepts
+//! the Take of a free block, and the UnTake of a block whose Take is its build's newest open operation.
 #![tactic(auto)]
 
 mod data;

@@ -1,4 +1,4 @@
-//! The initial measurement of a realm, and the events that extend it.
+//! The initial measurement of a realm, and the bytes by which commands extend it.
 ghost use Rattle.std.specs.Prelude.{◌≡◌};
 ghost use Rattle.realm_model.specs.Measurement as measured;
 
@@ -12,8 +12,7 @@ const RIPAS: u8 = 2;
 
 const REC: u8 = 3;
 
-/// Returns a measurement extended by the bytes of an event. It is SHA-256 of the old measurement followed by the
-/// event's bytes.
+/// Returns the measurement `old`, extended by the bytes `event`. The result is SHA-256 of `old` followed by `event`.
 ///
 /// RMM 1.0, Realm measurement.
 #[tactic(auto, unfolding(realm_model::specs::Measurement::measurement_after))]

@@ -1,4 +1,4 @@
-//! The simulated RMM, which also takes blocks of pages from its store and gives them back.
+//! The simulated RMM, which also takes blocks of granules from its store and gives them back.
 ghost use Rattle.std.specs.Prelude.{◌≡◌, ◌<◌, ◌≤◌, ◌↔◌, ℕ, Bool, true, List, length, filter, replicate, sum, Some, None, IsTrue, IfOk, IfErr, IfSome, IfNone};
 ghost use Rattle.std.specs.Bool.{OnTrue, OnFalse};
 ghost use Rattle.page_arena.specs.Page.{page_at};
@@ -94,8 +94,8 @@ impl<S: PageStore> Monitor<S> {
         }
     }
 
-    /// Takes a free block of 2^order granules. Returns its first granule, or `None` if there is no such block. The
-    /// contract leaves open which block that is.
+    /// Takes a free block of 2^order granules from the store. Returns its first granule, or `None` if there is no such
+    /// block. The contract leaves open which block that is.
     pub fn take(&mut self, order: Order) -> Option<Gran>
         ensures block { IfSome result (IsFreeBlock self.old.free order) }
         ensures taken { IfSome result (λ first. self.new ≡ with_block self.old order first) }
@@ -105,8 +105,9 @@ impl<S: PageStore> Monitor<S> {
         self.store.take(order)
     }
 
-    /// Takes a block of 2^order granules that begins at a given granule. Returns whether the block was taken. Returns
-    /// `false`, and changes nothing, if and only if the block is not aligned, not inside the machine, or not free.
+    /// Takes from the store the block of 2^order granules that begins at a given granule. Returns whether the block was
+    /// taken. Returns `false`, and changes nothing, if and only if the block is not aligned, not inside the machine, or
+    /// not free.
     pub fn take_at(&mut self, order: Order, first: Gran) -> bool
         ensures answer { IsTrue result ↔ IsFreeBlock self.old.free order first }
         ensures taken { OnTrue result (self.new ≡ with_block self.old order first) }

@@ -92,7 +92,7 @@ impl RealmDesc {
         &self.measurement
     }
 
-    /// Extends the realm's measurement with the bytes of an event. RMM 1.0, Realm measurement.
+    /// Extends the realm's measurement with the given bytes. RMM 1.0, Realm measurement.
     pub fn measure(&mut self, event: &[u8])
         ensures { self.new ≡ record self.old {
           measurement = measurement_after self.old.measurement event.now;

@@ -1,4 +1,4 @@
-//! Operations on a realm: its activation, and changes of its tables, pages and RECs.
+//! The operations that activate a realm, or change its tables, pages or RECs.
 ghost use Rattle.std.specs.Prelude.{◌≡◌, Some, true, is_some};
 ghost use Rattle.rmi_monitor.specs.View.{Answers, after_command};
 ghost use Rattle.rmi_monitor.specs.Performing.{IsReady, is_in_realm, outcome_on, IsDone};

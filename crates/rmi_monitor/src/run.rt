@@ -1,4 +1,4 @@
-//! Commands that run RECs: entries, writes by guests, and exits.
+//! Commands that enter a REC, write a byte as the REC's guest, and stop the REC.
 ghost use Rattle.realm_model.specs.Command.Rec as command;
 ghost use Rattle.rmi_monitor.specs.View.{IsTaken, IsOnRec};
 

@@ -11,18 +11,18 @@ failed_by : (fails : Bool) (refusal found : FailedCondition) (front all : Option
 failed_by true refusal found front all fails more = fails
 failed_by false refusal found front all fails more = more fails
 
--- if the first list passes, the second decides the refusal
+-- if the first of two lists of checks passes, the second decides the refusal
 pub passed : (xs ys : List Check) → None ≡ first_failing xs → first_failing ys ≡ first_failing (xs ++ ys)
 passed [] ys passes = refl
 passed (x ∷ xs) ys passes = passed_by x.fails x.refusal (first_failing xs) (first_failing ys) (first_failing (xs ++ ys)) passes (λ h. passed xs ys h)
 
--- if the first list fails, it decides the refusal
+-- if the first of two lists of checks has a failed check, that list decides the refusal
 pub failed : (xs ys : List Check) (refusal : FailedCondition) → Some refusal ≡ first_failing xs → Some refusal ≡ first_failing (xs ++ ys)
 failed [] ys refusal fails = cc
 failed (x ∷ xs) ys refusal fails = failed_by x.fails x.refusal refusal (first_failing xs) (first_failing (xs ++ ys)) fails (λ h. failed xs ys refusal h)
 
 module _ (a b c d : List Check) where
-  -- if the first of four lists fails, it decides the refusal
+  -- if the first of four lists of checks has a failed check, that list decides the refusal
   pub first_fails : (r : FailedCondition) → Some r ≡ first_failing a → Some r ≡ first_failing (a ++ b ++ c ++ d)
   first_fails r fails = failed (a ++ b ++ c) d r (failed (a ++ b) c r (failed a b r fails))
 

@@ -1,4 +1,4 @@
--- Proofs that the first group with a failed check decides the refusal of RMI_REALM_CREATE.
+-- Proofs that the first group of checks in which one fails decides the refusal of RMI_REALM_CREATE.
 use Rattle.std.proofs.Common.{◌≡◌, ℕ, List, Some, None, ap, ◌∙◌}
 use Rattle.rmi_abi.specs.declared.realm_params.RealmParams.{RealmParams}
 use Rattle.rmm_model.specs.declared.answer.FailedCondition.{FailedCondition}
@@ -22,7 +22,7 @@ module _ (m : Machine) (rd params : ℕ) where
   source_fails r fails = first_fails source_checks (params_checks m.settings (params_at m params) rd) rd_checks (free_checks m (params_at m params)) r fails
 
   module _ (p : RealmParams) (same : p ≡ params_at m params) (source : None ≡ first_failing source_checks) where
-    -- if the checks of the page pass, the first failed check of the parameters decides the refusal
+    -- if the checks of the parameter page pass, the first failed check of the parameters decides the refusal
     pub params_fail : (r : FailedCondition) → Some r ≡ first_failing (params_checks m.settings p rd) → Some r ≡ first_failing (realm_create rd params m).checks
     unfolding realm_create
     params_fail r fails =

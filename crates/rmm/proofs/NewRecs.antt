@@ -1,4 +1,4 @@
--- Proofs that the first group with a failed check decides the refusal of RMI_REC_CREATE.
+-- Proofs that the first group of checks in which one fails decides the refusal of RMI_REC_CREATE.
 use Rattle.std.proofs.Common.{◌≡◌, ℕ, ◌++◌, List, Some, None, ap, ◌∙◌}
 use Rattle.rmi_abi.specs.declared.settings.RmmSettings.{RmmSettings}
 use Rattle.rmm_model.specs.declared.answer.FailedCondition.{FailedCondition}
@@ -32,7 +32,7 @@ module _ (m : Machine) (rd rec params : ℕ) where
   source_fails r fails = failed (source ++ granule ++ owner ++ aux) number r (first_fails source granule owner aux r fails)
 
   module _ (one : None ≡ first_failing source) where
-    -- if the checks of the page pass, the first failed check of the REC's granule decides the refusal
+    -- if the checks of the parameter page pass, the first failed check of the REC's granule decides the refusal
     pub rec_fails : (r : FailedCondition) → Some r ≡ first_failing granule → Some r ≡ first_failing (rec_create rd rec params m).checks
     unfolding rec_create
     rec_fails r fails = failed (source ++ granule ++ owner ++ aux) number r (second_fails source granule owner aux r one fails)
@@ -54,8 +54,7 @@ module _ (m : Machine) (rd rec params : ℕ) where
         unfolding rec_create
         by_number four = passed (source ++ granule ++ owner ++ aux) number (four ∙ fourth_decides source granule owner aux one two three)
 
-        -- if the earlier checks pass, those of the realm and the MPIDR, made on settings, a page and a realm equal to
-        -- the command's, decide whether it is refused
+        -- the claim of `by_number` holds also for settings, a page and a realm that equal those of the command
         pub by_number_of : (s : RmmSettings) (page : List ℕ) (realm : RmmRealm) → s ≡ m.settings → page ≡ page_in m (number_of m params) → realm ≡ realm_at m rd → None ≡ first_failing aux
             → first_failing (number_checks s page realm) ≡ first_failing (rec_create rd rec params m).checks
         by_number_of s page realm settings there same four =

@@ -1,5 +1,5 @@
--- Proofs that writing words to a granule's page one by one gives the same machine as writing all of them at once, and
--- leaves other pages unchanged.
+-- Proofs that writing words to a granule one by one gives the same machine as writing all of them at once, and changes
+-- no other granule.
 use Rattle.std.proofs.Common.{◌≡◌, ◌≢◌, ℕ, zero, suc, ◌+◌, ◌<◌, ◌≤◌, List, [], length, set, refl, ap, sym, ◌∙◌, add-one, arith}
 use Rattle.std.proofs.lemmas.List.{get_or-set_same, get_or-set_other, set-set, set-get_or, length-set}
 use Rattle.page_arena.specs.Word.{page_with_word}
@@ -7,7 +7,7 @@ use Rattle.rmm_model.specs.Machine.{Machine, page_in, with_page, with_word}
 use Rattle.rmm_model.specs.Table.{with_words, with_words_from}
 use Rattle.rmm.proofs.WordEdits.{but, page_with_word-with_words_from}
 
--- writing word `count` after the first `count` words gives the page with one word more
+-- writing the first `count` words of `f`, and then word `count`, is writing the first `count + 1` words
 pub with_words-more : (m : Machine) (granule count : ℕ) (f : ℕ → ℕ) (page : List ℕ) → granule < length m.pages
     → with_word (with_page m granule (with_words count f page)) granule count (f count) ≡ with_page m granule (with_words (count + 1) f page)
 unfolding with_words
@@ -18,7 +18,7 @@ with_words-more m granule count f page inside =
     ∙ set-set m.pages granule written (page_with_word written count (f count))
     ∙ ap (λ (n : ℕ). set m.pages granule (with_words n f page)) (sym (add-one count)))
 
--- functions with the same values write the same words
+-- writing the words of two functions has the same result, if the functions have the same values
 pub with_words-same : (count : ℕ) (f g : ℕ → ℕ) (page : List ℕ) → ((k : ℕ) → f k ≡ g k) → with_words count f page ≡ with_words count g page
 unfolding with_words
 with_words-same zero f g page same = refl
@@ -44,8 +44,7 @@ with_word-with_page m granule i word page inside =
     (ap (λ (old : List ℕ). set (set m.pages granule page) granule (page_with_word old i word)) (get_or-set_same m.pages granule page [] inside)
     ∙ set-set m.pages granule page (page_with_word page i word))
 
--- the old page has 4,096 bytes: this is given if a word was written; if none was, the old page is the written page,
--- which has 4,096 bytes
+-- a page has 4,096 bytes if it has them after `k` words are written, and is known to have them before if `k` is above 0
 whole_before : (first k : ℕ) (f : ℕ → ℕ) (page : List ℕ) → (0 < k → length page ≡ 4096) → length (with_words_from first k f page) ≡ 4096 → length page ≡ 4096
 unfolding with_words_from
 whole_before first zero f page known whole = whole
@@ -64,7 +63,7 @@ module _ (m now : Machine) (granule first k : ℕ) (f : ℕ → ℕ) (made : now
   pub whole : (0 < k → length (page_in m granule) ≡ 4096) → length (page_in now granule) ≡ 4096 → length (page_in m granule) ≡ 4096
   whole known len = whole_before first k f (page_in m granule) known (ap (λ (p : List ℕ). length p) (sym page_now) ∙ len)
 
-  -- writing the next word of `f` gives the page with one more word of `f`
+  -- after `k` words of `f` from `first` on, writing the next word gives the page with `k + 1` words of `f`
   pub goes_on : (new : Machine) (word : ℕ) → new ≡ with_word now granule (first + k) word → word ≡ f (first + k) → new ≡ with_page m granule (with_words_from first (k + 1) f (page_in m granule))
   unfolding with_words_from
   goes_on new word wrote is =
@@ -74,7 +73,7 @@ module _ (m now : Machine) (granule first k : ℕ) (f : ℕ → ℕ) (made : now
       ∙ ap (λ (w : ℕ). with_page m granule (page_with_word written (first + k) w)) is
       ∙ ap (λ (n : ℕ). with_page m granule (with_words_from first n f (page_in m granule))) (sym (add-one k))
 
--- writing one of the written words again gives the page written with the new word at that index
+-- writing one of the written words, `j`, again is writing the words of `but j word f` instead of those of `f`
 pub one_again : (m now new : Machine) (granule first count j word : ℕ) (f : ℕ → ℕ) → granule < length m.pages → length (page_in m granule) ≡ 4096 → first + count ≤ 512 → first ≤ j → j < first + count
     → now ≡ with_page m granule (with_words_from first count f (page_in m granule)) → new ≡ with_word now granule j word → new ≡ with_page m granule (with_words_from first count (but j word f) (page_in m granule))
 one_again m now new granule first count j word f inside whole within low high made wrote =

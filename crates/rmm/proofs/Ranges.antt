@@ -1,4 +1,4 @@
--- Proofs that the first group with a failed check decides the refusal of RMI_RTT_INIT_RIPAS.
+-- Proofs that the first group of checks in which one fails decides the refusal of RMI_RTT_INIT_RIPAS.
 use Rattle.std.proofs.Common.{◌≡◌, ℕ, List, [], ◌∷◌, Some, None, ap, ◌∙◌}
 use Rattle.rmi_abi.specs.declared.settings.RmmSettings.{RmmSettings}
 use Rattle.rmm_model.specs.declared.answer.FailedCondition.{FailedCondition}
@@ -39,7 +39,8 @@ module _ (m : Machine) (rd base top : ℕ) where
       range_fails r fails =
           third_fails (size_checks base top) (rd_checks m rd) there goes r size passes (fails ∙ ap (λ (x : RmmRealm). first_failing (range_checks x base top)) same)
 
-      -- if the earlier checks pass, those of the first entry decide whether the command is refused
+      -- if the earlier checks pass, the checks of the RTT entry at the range's base decide whether the command is
+      -- refused
       pub by_progress : None ≡ first_failing (range_checks realm base top) → (found : Walked) → found ≡ walk m realm base 3 → (s : RmmSettings) → s ≡ m.settings → (which : Changeable) → which ≡ init_changeable s
           → first_failing (progress_checks [] m which found base top) ≡ first_failing (rtt_init_ripas rd base top m).checks
       unfolding rtt_init_ripas

@@ -1,4 +1,4 @@
--- Proofs that the first group with a failed check decides the refusal of RMI_RTT_SET_RIPAS.
+-- Proofs that the first group of checks in which one fails decides the refusal of RMI_RTT_SET_RIPAS.
 use Rattle.std.proofs.Common.{◌≡◌, ℕ, ◌++◌, Bool, List, [], ◌∷◌, Some, None, ap, ◌∙◌}
 use Rattle.rmm_model.specs.declared.answer.FailedCondition.{FailedCondition}
 use Rattle.rmm_model.specs.declared.condition.Condition.TheVariants.{Size, BaseBound, TopBound, RdState, RecAlign, RecBound, RecGranState, RecState, RecOwner}
@@ -61,7 +61,8 @@ module _ (m : Machine) (rd rec base top : ℕ) where
         unfolding rtt_set_ripas
         request_fails r fails = failed (size ++ owner ++ asking ++ request) goes r (fails ∙ there ∙ fourth_decides size owner asking request one two three)
 
-        -- if the earlier checks pass, those of the first entry decide whether the command is refused
+        -- if the earlier checks pass, the checks of the RTT entry at the range's base decide whether the command is
+        -- refused
         pub by_progress : None ≡ first_failing (ripas_request_checks realm who is base top) → (found : Walked) → found ≡ walk m realm base 3 → (which : Changeable) → which ≡ set_changeable who.ripas
             → first_failing (progress_checks [] m which found base top) ≡ first_failing (rtt_set_ripas rd rec base top m).checks
         unfolding rtt_set_ripas

@@ -1,4 +1,5 @@
--- Proofs that writing adjacent words into a page one by one gives the same page as writing their bytes at once.
+-- Proofs that writing adjacent words of a granule one by one leaves the same bytes as writing all of their bytes at
+-- once.
 use Rattle.std.proofs.Common.{◌≡◌, ℕ, zero, suc, ◌+◌, ◌*◌, ◌≤◌, List, length, replicate, sym, ap, ◌∙◌, add-one, arith}
 use Rattle.std.specs.Int.{to_le_bytes, w64}
 use Rattle.std.proofs.lemmas.List.{length-replicate, replicate-append-replicate}

@@ -1,4 +1,5 @@
--- A proof that the calling REC and the target REC of RMI_PSCI_COMPLETE are different granules if their checks pass.
+-- A proof that the calling REC and the target REC of RMI_PSCI_COMPLETE are different granules if the command's checks
+-- pass.
 use Rattle.std.proofs.Common.{◌≡◌, ◌≢◌, ℕ, ◌-◌, ◌/◌, ◌%◌, ◌≤◌, ◌==◌, Bool, true, false, nat_le, nat_lt, not, cond, length, [], ◌∷◌, Option, Some, None, refl, arith}
 use Rattle.std.proofs.lemmas.Bool.{and_parts, leb-true, eqb-true, eqb-false, not-false}
 use Rattle.rmm_model.specs.declared.answer.FailedCondition.{FailedCondition}
@@ -18,7 +19,7 @@ cond_rest : (fails : Bool) (refusal : FailedCondition) (rest : Option FailedCond
 cond_rest true refusal rest passes = cc
 cond_rest false refusal rest passes = passes
 
--- an address at which a granule begins, not below the first one
+-- the address is a multiple of 4,096, and not below that of the first granule
 record IsStart (m : Machine) (address : ℕ) : Type 0 where
   aligned : address % 4096 ≡ 0
   above : m.settings.base ≤ address
@@ -37,7 +38,7 @@ start m align bound state address passes =
 apart : (base a b : ℕ) → a % 4096 ≡ 0 → b % 4096 ≡ 0 → base ≤ a → base ≤ b → a ≢ b → (a - base) / 4096 ≢ (b - base) / 4096
 apart base a b one two low_a low_b other = λ same. other (omega arith)
 
--- the REC that made a request and another one are two granules
+-- if the checks of the calling REC and of the target REC pass, the two RECs are different granules
 pub two_recs : (m : Machine) (calling target : ℕ) (align bound state : Condition)
     → None ≡ first_failing (check Alias [] (calling == target) error_input ∷ rec_checks CallingAlign CallingBound CallingState m calling)
     → None ≡ first_failing (rec_checks align bound state m target) → number_of m calling ≢ number_of m target

@@ -1,5 +1,5 @@
--- A proof that any value computed from the found end of a walk, and from the entry there, equals the value computed
--- from the model's walk.
+-- A proof that two walks of one IPA end at the same entry if their realms are equal, and their levels too. Values
+-- computed from the two ends are then equal.
 use Rattle.std.proofs.Common.{◌≡◌, ℕ, ap, ◌∙◌}
 use Rattle.rmm_model.specs.declared.entry.RmmRttEntry.{RmmRttEntry}
 use Rattle.rmm_model.specs.declared.realm.RmmRealm.{RmmRealm}
@@ -7,7 +7,8 @@ use Rattle.rmm_model.specs.declared.realm.RttWalk.{RttWalk}
 use Rattle.rmm_model.specs.Machine.{Machine}
 use Rattle.rmm_model.specs.Walk.{entry_at, walk}
 
--- a value computed from the found end of a walk, and from the entry there, is the one computed from the model's walk
+-- `said` has the same value for the ends and entries of two walks of an IPA, if the realms are equal, and the levels
+-- too
 pub end_of_walk : {X : Type 0} (said : RttWalk → RmmRttEntry → X) (m : Machine) (realm named : RmmRealm) (ipa a b : ℕ) (found : RttWalk) (entry : RmmRttEntry)
     → realm ≡ named → a ≡ b → found ≡ walk m realm ipa a → entry ≡ entry_at m found ipa
     → said found entry ≡ said (walk m named ipa b) (entry_at m (walk m named ipa b) ipa)

@@ -8,7 +8,7 @@ use Rattle.page_arena.specs.Word.{with_bytes, word_of_page, page_with_word}
 use Rattle.page_arena.specs.Words.{word_of_page-page_with_word_other}
 use Rattle.rmm_model.specs.Table.{with_words_from}
 
--- a byte is among those of a word
+-- byte `k` of a page is one of the eight bytes of word `i`
 abbrev IsIn : ℕ → ℕ → Type 0
 IsIn k i = (8 * i ≤ k) × (k < 8 * i + 8)
 
@@ -119,7 +119,8 @@ word_of_page-with_words_from_other first (suc count) f page i within whole index
     word_of_page-page_with_word_other (with_words_from first count f page) (first + count) (f (first + count)) (length-with_words_from first count f page (omega arith) whole) (omega arith) i (omega arith) index
     ∙ word_of_page-with_words_from_other first count f page i (omega arith) whole index (⊎_elim (λ (below : i < first). inl below) (λ (above : first + suc count ≤ i). inr (omega arith)) beside)
 
--- functions with the same values below the end of the range write the same words
+-- writing a range of words of two functions has the same result, if the functions have the same values below the end of
+-- the range
 pub with_words_from-same : (first count : ℕ) (f g : ℕ → ℕ) (page : List ℕ) → ((i : ℕ) → i < first + count → f i ≡ g i) → with_words_from first count f page ≡ with_words_from first count g page
 unfolding with_words_from
 with_words_from-same first zero f g page same = refl
@@ -137,7 +138,7 @@ but_there j w i f same = sym (cond-true (i == j) w (f i) (eq-eqb i j same))
 but_elsewhere : (j w i : ℕ) (f : ℕ → ℕ) → i ≢ j → f i ≡ but j w f i
 but_elsewhere j w i f other = sym (cond-false (i == j) w (f i) (ne_eqb i j other))
 
--- writing one of the written words again gives the page written with the new word at that index
+-- writing one of the written words, `j`, again is writing the words of `but j w f` instead of those of `f`
 pub page_with_word-with_words_from : (first count : ℕ) (f : ℕ → ℕ) (page : List ℕ) (j w : ℕ) → first + count ≤ 512 → length page ≡ 4096 → first ≤ j → j < first + count
     → page_with_word (with_words_from first count f page) j w ≡ with_words_from first count (but j w f) page
 unfolding with_words_from

@@ -8,7 +8,7 @@ use Rattle.rmm_model.specs.Machine.{Machine, page_in, number_of, with_page}
 abbrev pub can_access_bytes : Machine → ℕ → ℕ → Bool
 can_access_bytes m address count = nat_le count (4096 - address % 4096) && is_host_page m address
 
--- the bytes of the page that an address lies in
+-- the bytes of the granule in which an address lies
 abbrev pub page_around : Machine → ℕ → List ℕ
 page_around m address = page_in m (number_of m address)
 

@@ -64,8 +64,7 @@ pub record IsPageVacancy (m : Machine) (rd page ipa : ℕ) (vacancy : PageVacanc
   pub above : vacancy.found.table < granule_count m
   pub entry : vacancy.entry ≡ entry_at m vacancy.found ipa
 
--- the found granules are those that RMI_DATA_CREATE names: the host's page to copy, and the granule that becomes the
--- page of data
+-- the found granules are those that RMI_DATA_CREATE names for the host's page to copy, and for the new page of data
 pub record IsSource (m : Machine) (page source : ℕ) (found : Source) : Type 0 where
   pub content : found.page ≡ number_of m source
   pub content_inside : found.page < granule_count m
@@ -73,7 +72,8 @@ pub record IsSource (m : Machine) (page source : ℕ) (found : Source) : Type 0 
   pub inside : found.granule < granule_count m
   pub apart : found.granule ≢ found.page
 
--- the found RD and realm are those that RMI_DATA_CREATE names, and the found walk end is that for the new page's IPA
+-- the found RD and realm are those that RMI_DATA_CREATE names, and the found walk end is where the walk of the new
+-- page's IPA ends
 pub record IsTarget (m : Machine) (rd ipa : ℕ) (target : Target) : Type 0 where
   pub owner : target.owner.granule ≡ number_of m rd
   pub inside : target.owner.granule < granule_count m
@@ -97,7 +97,8 @@ pub record IsNewPage (m : Machine) (rd page ipa source : ℕ) (new : NewPage) : 
   pub place : new.found ≡ walk m (realm_at m rd) ipa 3
   pub above : new.found.table < granule_count m
 
--- the found realm is the one that RMI_RTT_INIT_RIPAS names, and the found walk end is that for the range's base
+-- the found realm is the one that RMI_RTT_INIT_RIPAS names, and the found walk end is where the walk of the range's
+-- base ends
 pub record IsRipasRange (m : Machine) (rd base : ℕ) (range : RipasRange) : Type 0 where
   pub owner : range.owner.granule ≡ number_of m rd
   pub inside : range.owner.granule < granule_count m
@@ -108,7 +109,7 @@ pub record IsRipasRange (m : Machine) (rd base : ℕ) (range : RipasRange) : Typ
   pub low : base < 2 ^ 48
 
 -- the found REC is the one that RMI_RTT_SET_RIPAS names, the found request is that REC's, and the found walk end is
--- that for the range's base
+-- where the walk of the range's base ends
 pub record IsRequestedRange (m : Machine) (rd rec base : ℕ) (range : RequestedRange) : Type 0 where
   pub named : range.granule ≡ number_of m rec
   pub inside : range.granule < granule_count m
@@ -165,7 +166,7 @@ pub record IsCompletion (m : Machine) (calling target : ℕ) (found : Completion
   pub apart : found.calling ≢ found.target
   pub on : found.on ≡ is_on (rec_at m target)
 
--- the found granules are those that RMI_REC_ENTER names: the REC, and its run page
+-- the found granules are the REC and the run page that RMI_REC_ENTER names
 pub record IsEntry (m : Machine) (rec address : ℕ) (found : Entering) : Type 0 where
   pub place : found.rec ≡ number_of m rec
   pub inside : found.rec < granule_count m

@@ -12,7 +12,7 @@ use Rattle.rmm_model.specs.Walk.{with_entry}
 use Rattle.rmm_model.specs.Command.DataCreate.{are_flags_valid}
 use Rattle.rmm.specs.declared.data_create.NewPage.{NewPage}
 
--- the first check of RMI_DATA_CREATE: the flags are valid
+-- the first check of RMI_DATA_CREATE, that its flags are valid
 abbrev pub flags_checks : RmmSettings → ℕ → List Check
 flags_checks s flags = check FlagsValid [] (not (are_flags_valid s flags)) error_input ∷ []
 

@@ -1,4 +1,4 @@
-//! Reads and writes of memory by guests.
+//! Functions that perform a guest's reads and writes of memory.
 ghost use Rattle.std.specs.Prelude.{◌≡◌, ◌+◌, ◌<◌, ◌≤◌, true, false};
 ghost use Rattle.rmm_model.specs.Access as accesses;
 ghost use Rattle.rmm_model.specs.Machine.{granule_count};

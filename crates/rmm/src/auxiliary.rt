@@ -1,4 +1,4 @@
-//! Functions that replace the attributes of a REC's auxiliary granules, and zero their pages.
+//! Functions that replace the attributes of a REC's auxiliary granules, and zero their contents.
 ghost use Rattle.std.specs.Prelude.{◌≡◌, ◌<◌, ◌≤◌, None, IfSome};
 ghost use Rattle.rmm_model.specs.Granule.{realm_of};
 ghost use Rattle.rmm_model.specs.Machine.{granule_count};

@@ -1,4 +1,4 @@
-//! The steps queued for the guest of a REC, and their results.
+//! The guest steps that are queued for a REC, and their results.
 ghost use Rattle.std.specs.Prelude.{◌≡◌, ◌<◌, is_some, IfSome};
 ghost use Rattle.rmm_model.specs.Guest as guests;
 ghost use Rattle.rmm_model.specs.Machine.{granule_count, number_of};

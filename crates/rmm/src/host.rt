@@ -1,5 +1,4 @@
-//! The host's accesses to memory: loads, stores and fills. The file also has readings of the states and words of
-//! granules.
+//! Functions for the host's accesses to memory, and for reading the states and the words of granules.
 ghost use Rattle.std.specs.Prelude.{◌≡◌, ◌<◌, length, is_some, IfSome};
 ghost use Rattle.std.specs.Option.{option_copied};
 ghost use Rattle.rmm_model.specs.Machine.{granule_count, number_of};

@@ -84,7 +84,7 @@ impl<S: PageStore> Rmm<S> {
         self.granules
     }
 
-    /// Loads the eight bytes at an address, or returns `None` if the host faults. A host can access UNDELEGATED
+    /// Loads the eight bytes at an address, or returns `None` if the load faults. A host can access UNDELEGATED
     /// granules alone.
     pub fn load(&self, address: u64) -> Option<u64>
         ensures { result ≡ loaded self.now address }
@@ -134,8 +134,8 @@ impl<S: PageStore> Rmm<S> {
         store_bytes(&mut self.granules, address, bytes)
     }
 
-    /// Writes one value to each byte of the page at an address. Returns `false`, with nothing changed, if the host
-    /// faults.
+    /// Writes one value to each byte of the granule that begins at an address. Returns `false`, with nothing changed,
+    /// if the host faults.
     pub fn fill(&mut self, address: u64, value: u8) -> bool
         ensures answer { result ≡ can_fill self.old address }
         ensures machine { self.new ≡ after_fill self.old address value }
@@ -143,15 +143,15 @@ impl<S: PageStore> Rmm<S> {
         fill(&mut self.granules, address, value)
     }
 
-    /// Queues a step for the guest of a REC.
+    /// Queues a guest step for a REC.
     pub fn guest(&mut self, rec: u64, step: &StepWords) -> Queued
         ensures { (result, self.new) ≡ queued self.old rec step.now }
     {
         queue(&mut self.granules, rec, step)
     }
 
-    /// Ends the run of a REC with a host interrupt. Returns the result word of the REC's RMI_REC_ENTER; `None` if no
-    /// REC runs at the address.
+    /// Ends the run of a REC by a host interrupt. Returns the result word of the REC's RMI_REC_ENTER; `None` if no REC
+    /// runs at the address.
     pub fn interrupt(&mut self, rec: u64) -> Option<rmi_abi::Word>
         ensures { (result, self.new) ≡ interrupted self.old rec }
     {

@@ -1,5 +1,5 @@
-//! The command RMI_REALM_ACTIVATE, and functions shared with other commands: whether a realm is NEW, the refusal
-//! RMI_ERROR_REALM, and the change of a realm's measurement.
+//! The command RMI_REALM_ACTIVATE, with helper functions that check for a NEW realm, make the refusal RMI_ERROR_REALM,
+//! and set a realm's RIM.
 ghost use Rattle.std.specs.Prelude.{◌≡◌, ◌<◌, IfOk};
 ghost use Rattle.rmm_model.specs.Check.{outcome, first_failing, refusal_in, error_realm};
 ghost use Rattle.rmm_model.specs.Machine.{granule_count, number_of, with_realm};

@@ -1,4 +1,5 @@
-//! The outcomes of a simulated guest's steps: memory accesses, RSI and PSCI calls, waits, and system register writes.
+//! Functions that compute the outcomes of a guest's memory accesses, RSI and PSCI calls, waits, and writes of system
+//! registers.
 ghost use Rattle.std.specs.Prelude.{◌≡◌, ◌<◌, ◌≤◌, ◌^◌, IfOk};
 ghost use Rattle.rmm_model.specs.Entry.{descriptor_of};
 ghost use Rattle.rmm_model.specs.Machine.{granule_count};

@@ -1,4 +1,5 @@
--- Proofs that a repeated call or page fill has a further round if and only if one is left and the last round succeeded.
+-- Proofs that a trace's `repeat` goes on if and only if its count is not used up and the last call or page fill
+-- succeeded.
 use Rattle.std.proofs.Common.{◌≡◌, ◌≢◌, ℕ, zero, suc, ◌+◌, Bool, true, false, if◌then◌else◌, List, refl, sym, ap, ◌∙◌, eq-eqb, arith}
 use Rattle.std.proofs.lemmas.Bool.{ne_eqb}
 use Rattle.rmi_abi.specs.declared.registers.Registers.{Registers}

@@ -1,5 +1,5 @@
--- Lemmas about lookups in lists: an index within a list finds an element, a search finds the first match, and a lookup
--- past the end finds nothing.
+-- Lemmas that an index within a list finds an element, that a search finds the first match, and that a lookup past the
+-- end finds nothing.
 use Rattle.std.proofs.Common.{◌≡◌, ℕ, zero, suc, ◌+◌, ◌<◌, ◌≤◌, List, [], ◌∷◌, length, get_or, drop, Bool, true, cond, Some, None, refl, sym, ap, ◌∙◌, arith, drop-cons, ◌==◌, if◌then◌else◌}
 use Rattle.std.proofs.Math.ListN.{drop_of_length-le}
 use Rattle.std.specs.List.{position_from}
@@ -8,7 +8,7 @@ use Rattle.rmm_trace.specs.Compare.{atom_number}
 use Rattle.rmm_answers.specs.Naming.{written_number}
 use Rattle.rmm_answers.specs.Page.{offset_in}
 
--- a row that exists does not depend on the default
+-- if a list has an item at an index, `get_or` gives the same item for any default
 pub row_here : {X : Type 0} (rows : List X) (i : ℕ) (d e : X) → i < length rows → get_or rows i d ≡ get_or rows i e
 row_here [] i d e within = absurd (omega arith)
 row_here (x ∷ rows) zero d e within = refl

@@ -25,15 +25,14 @@ use Rattle.rmm_answers.specs.Words.{first_place}
 
 -- ---- calls and fills
 
--- the answer to a named call after its last round, and the resulting machine
+-- the answer to an RMI call by name with the machine afterwards, given the result of the call's last repetition
 abbrev pub call_reply_of : ℕ → List TraceWord → LastCall × Machine → TraceReply × Machine
 call_reply_of place call after = (call_reply place (asked call after.0.round) after.0 after.1, after.1)
 
 abbrev pub raw_reply_of : List TraceWord → LastCall × Machine → TraceReply × Machine
 raw_reply_of call after = (raw_reply (asked call 0) after.0, after.1)
 
--- the answer to one or more fills: whether the last fill was done, and after a fault the number of earlier fills, if
--- there were any
+-- the answer to a page fill, repeated or not: `done`, or `fault` with the number of fills done before the fault, if any
 abbrev pub fill_words : ℕ → Bool → List TraceWord
 fill_words round is_done =
     if not is_done && not (round == 0) then ([] ▷ put_word (access_atom is_done) ▷ put_value AFTER (Decimal round)) else ([] ▷ put_word (access_atom is_done))
@@ -41,8 +40,8 @@ fill_words round is_done =
 abbrev pub fill_reply_of : ℕ × Bool × Machine → TraceReply × Machine
 fill_reply_of after = (of_words (fill_words after.0 after.1), after.2)
 
--- The answer to a named call or fill with at most `more` further rounds, and the resulting machine. Any other name is
--- not a command.
+-- The answer to an RMI call by name or to a page fill, done once and at most `more` further times, and the resulting
+-- machine. Any other name is not a command.
 unfoldable pub rounds_answered : List TraceWord → ℕ → Machine → TraceReply × Machine
 rounds_answered call more m =
     let place = first_place call in
@@ -55,7 +54,8 @@ rounds_answered call more m =
 abbrev pub single : Atom → Machine → TraceReply × Machine
 single a m = (of_words ([] ▷ put_word a), m)
 
--- the answer to a reading at an address, with the unchanged machine
+-- the answer to a question `state`, `sum`, `realm`, `rim`, `rec` or `saw` about an address, and the unchanged machine;
+-- `no command` for any other name
 unfoldable pub reading_answered : ℕ → List TraceWord → Machine → TraceReply × Machine
 reading_answered place ws m =
     let address = operand_at ws 0 0 in
@@ -85,7 +85,7 @@ other_answered place ws m =
 
 -- ---- questions
 
--- The answer to a question that is asked of a given machine, and the resulting machine. A `platform` question is not a
+-- The answer to a question of a trace on a given machine, and the resulting machine. A `platform` question is not a
 -- command here.
 unfoldable pub answered_on : List TraceWord → Machine → TraceReply × Machine
 answered_on question m =
@@ -113,7 +113,7 @@ answered question m =
 
 -- ---- checks
 
--- the question without a leading `repeat` and its count
+-- a trace's question without a leading `repeat` and the count after it
 abbrev pub unrepeated : List TraceWord → List TraceWord
 unrepeated question = if first_place question == REPEAT then rest_of (rest_of question) else question
 
@@ -121,6 +121,7 @@ abbrev pub checks_in_round : List TraceWord → Machine → Option ℕ → Optio
 checks_in_round question m (Some round) = checks_at (asked (unrepeated question) round) m
 checks_in_round question m None = None
 
--- The checks of the round in which an RMI command was refused, evaluated on a machine; none if no command was refused.
+-- The checks of the RMI call that was refused, evaluated on a machine; none if no RMI call was refused. Of a repeated
+-- call, the refused repetition counts.
 unfoldable pub refused_checks : List TraceWord → TraceReply → Machine → Option (List EvaluatedCheck)
 refused_checks question reply m = checks_in_round question m reply.refused

@@ -20,7 +20,7 @@ use Rattle.rmm_answers.specs.Put.{◌▷◌, put_word, put_value}
 
 -- ---- refusals
 
--- X0 says that a call is refused: it is neither RMI_SUCCESS nor the value for a REC that runs on
+-- X0 says that a call is refused: X0 is neither RMI_SUCCESS nor the value that a trace writes as `RUNNING`
 abbrev pub is_refused : ℕ → Bool
 is_refused x0 = not (x0 == 0) && not (x0 == 0xFFFFFFFFFFFFFFFE)
 
@@ -39,12 +39,12 @@ abbrev pub put_check_name : Option Condition → List TraceWord → List TraceWo
 put_check_name (Some condition) ws = put_word (Name (179 + condition_number condition)) ws
 put_check_name None ws = ws
 
--- appends the name of the check that decided, if X0 says that the call is refused. A refusal leaves the machine
--- unchanged.
+-- appends the name of the first check that the call fails, if X0 says that the call is refused. A refusal leaves the
+-- machine unchanged.
 unfoldable pub put_check : Registers → Machine → ℕ → List TraceWord → List TraceWord
 put_check r m x0 ws = if is_refused x0 then put_check_name (deciding r m) ws else ws
 
--- appends the number of rounds before the last one, if the last one did not return RMI_SUCCESS and is not the first
+-- appends the number of earlier repetitions of a call, unless the last repetition returned RMI_SUCCESS or was the first
 unfoldable pub put_after : ℕ → ℕ → List TraceWord → List TraceWord
 put_after x0 round ws = if not (x0 == 0) && not (round == 0) then put_value AFTER (Decimal round) ws else ws
 
@@ -52,13 +52,13 @@ put_after x0 round ws = if not (x0 == 0) && not (round == 0) then put_value AFTE
 unfoldable pub put_exit_of : ℕ → ℕ → ℕ → Machine → List TraceWord → List TraceWord
 put_exit_of place x0 run m ws = if place == RMI_REC_ENTER && x0 == 0 then put_exit m run ws else ws
 
--- the number of the last round, if that round is refused
+-- the number of a call's last repetition, counted from 0, if X0 says that this repetition is refused
 abbrev pub refused_round : LastCall → Option ℕ
 refused_round it = if is_refused it.after.x0 then Some it.round else None
 
--- The answer to a named call, given the call's last round. It has the status and the returned outputs. A REC exit
--- follows an RMI_REC_ENTER with RMI_SUCCESS, and the deciding check follows a refusal. The number of earlier rounds, if
--- there are any, follows a round that did not return RMI_SUCCESS.
+-- The answer to an RMI call by name, given the result of the call's last repetition. The answer has the status and the
+-- returned outputs. A REC exit follows an RMI_REC_ENTER with RMI_SUCCESS, and the name of the first failed check
+-- follows a refusal. The number of earlier repetitions, if there are any, follows a status other than RMI_SUCCESS.
 unfoldable pub call_reply : ℕ → Registers → LastCall → Machine → TraceReply
 call_reply place r it m = record {
   words = record { items = [] ▷ put_status it.after.x0 ▷ put_outputs place it.after ▷ put_exit_of place it.after.x0 r.x2 m ▷ put_check r m it.after.x0 ▷ put_after it.after.x0 it.round };
@@ -66,7 +66,7 @@ call_reply place r it m = record {
   refused = refused_round it;
 }
 
--- the answer to a raw call, made up of X0 and the output registers of its command
+-- the answer to a raw `smc` call: X0, and the registers in which the call's command has outputs
 unfoldable pub raw_reply : Registers → LastCall → TraceReply
 raw_reply r it = record {
   words = record { items = [] ▷ put_registers (command_place r.x0) it.after };

@@ -16,14 +16,14 @@ field m run offset = unwrap_or (loaded m ((run + offset) % 2 ^ 64)) 0
 unfoldable pub put_field : Machine → ℕ → ℕ → ℕ → List TraceWord → List TraceWord
 put_field m run name offset ws = put_output name (field m run offset) ws
 
--- appends the value of a register, if it is to be shown
+-- appends the value `v` of a register if `shown` is true, and nothing otherwise
 unfoldable pub put_gpr : Bool → ℕ → List TraceWord → List TraceWord
 put_gpr shown v ws = if shown then put_word (Hexadecimal v) ws else ws
 
 abbrev pub is_some_set : ℕ → ℕ → ℕ → Bool
 is_some_set a b c = not (a == 0) || not (b == 0) || not (c == 0)
 
--- Appends general-purpose registers without trailing zeros, but at least the first one. An exit here has four.
+-- Appends the four general-purpose registers of an exit, up to the last register that is not 0, and at least the first.
 unfoldable pub put_gprs : ℕ → ℕ → ℕ → ℕ → List TraceWord → List TraceWord
 put_gprs gpr0 gpr1 gpr2 gpr3 ws =
     ws ▷ put_value GPRS (Hexadecimal gpr0) ▷ put_gpr (is_some_set gpr1 gpr2 gpr3) gpr1 ▷ put_gpr (is_some_set 0 gpr2 gpr3) gpr2
@@ -32,7 +32,8 @@ put_gprs gpr0 gpr1 gpr2 gpr3 ws =
 unfoldable pub put_gprs_in : Machine → ℕ → List TraceWord → List TraceWord
 put_gprs_in m run ws = put_gprs (field m run 0xA00) (field m run 0xA08) (field m run 0xA10) (field m run 0xA18) ws
 
--- appends the fields of an exit for its reason (SYNC, PSCI, RIPAS_CHANGE or HOST_CALL; no other reason has fields)
+-- appends the fields of a REC exit for the reasons SYNC, PSCI, RIPAS_CHANGE and HOST_CALL, and nothing for any other
+-- reason
 unfoldable pub put_fields : Machine → ℕ → ℕ → List TraceWord → List TraceWord
 put_fields m run reason ws =
     if reason == 0 then (ws ▷ put_field m run ESR 0x900 ▷ put_field m run FAR 0x908 ▷ put_field m run HPFAR 0x910 ▷ put_gprs_in m run) else

@@ -29,11 +29,11 @@ use Rattle.rmm_answers.specs.Replies.{of_words, no_command}
 
 -- ---- steps
 
--- the number, below 15, of the kind of step with this name; 15 if no kind has the name
+-- the kind of guest step with this name, as a number from 0 to 14; 15 if there is no such kind
 unfoldable pub step_kind : ℕ → ℕ
 step_kind name = unwrap_or (position_from (λ step. step == name) 0 STEPS) 15
 
--- a step's fourth operand; for a RIPAS change it is 1 if there is a fourth word (`destroyed`), and 0 if not
+-- a guest step's fourth operand; for a RIPAS change, 1 if a fourth operand is given, which is `destroyed`, and 0 if not
 abbrev pub last_operand : ℕ → List TraceWord → ℕ
 last_operand name ws = if name == SET_RIPAS then (if nat_lt 3 (length ws) then 1 else 0) else operand_at ws 3 0
 
@@ -88,7 +88,7 @@ interrupt_answered address m =
 
 -- ---- results of guest steps
 
--- the name of a result of this kind, as an index into the table of names
+-- the name for this kind of result of a guest step, as an index into the table of names
 abbrev pub result_name : ℕ → ℕ
 result_name kind =
     if kind == 0 then DONE else
@@ -102,13 +102,14 @@ result_name kind =
 abbrev pub has_value : ℕ → Bool
 has_value kind = kind == 1 || nat_le 3 kind && nat_le kind 6
 
--- the value of a result as a word: the name of a PSCI result that is SUCCESS or DENIED, and a number otherwise
+-- the word that shows the value of a guest step's result: a name for the PSCI results SUCCESS and DENIED, and a number
+-- otherwise
 abbrev pub result_atom : ℕ → ℕ → Atom
 result_atom kind v =
     if kind == 6 && v == 0 then Name PSCI_SUCCESS
     else (if kind == 6 && v == 0xFFFFFFFFFFFFFFFD then Name PSCI_DENIED else Hexadecimal v)
 
--- appends a result, with a comma before it if it is not the first
+-- appends a guest step's result, with a comma before it unless the result is the first
 unfoldable pub put_result : Bool → ℕ → ℕ → List TraceWord → List TraceWord
 put_result is_further kind v ws =
     let named = listed is_further ws ▷ put_word (Name (result_name kind)) in
@@ -117,17 +118,17 @@ put_result is_further kind v ws =
 abbrev pub result_word : Machine → ℕ → ℕ → ℕ
 result_word m rec i = unwrap_or (word_shown m rec i) 0
 
--- appends result k of a REC, with a comma before it unless k is 0
+-- appends result k of a REC's guest steps, with a comma before it unless k is 0
 abbrev pub put_result_at : Machine → ℕ → ℕ → List TraceWord → List TraceWord
 put_result_at m rec k ws = put_result (nat_lt 0 k) (result_word m rec (128 + 2 * k)) (result_word m rec (128 + 2 * k + 1)) ws
 
--- the words for the first results of a REC, as many as the given number
+-- the words for the first results of a REC's guest steps, as many as the given number
 unfoldable pub results : Machine → ℕ → ℕ → List TraceWord
 results m rec zero = []
 results m rec (suc k) = put_result_at m rec k (results m rec k)
 
--- the answer to the reading `saw`: the results of a REC since its last entry, or one word if there is no result or no
--- REC
+-- the answer to `saw`: one word if there is no REC or no result, and otherwise the results of guest steps since the REC
+-- was last entered
 unfoldable pub saw_words : Machine → ℕ → Option Attributes → List TraceWord
 saw_words m rec (Some attributes) =
     if attributes.result_count % 32 == 0 then ([] ▷ put_word (Name NOTHING)) else results m rec (attributes.result_count % 32)

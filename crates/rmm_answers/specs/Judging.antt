@@ -28,7 +28,7 @@ abbrev pub allows : List EvaluatedCheck → Option Word → Bool
 allows rows (Some w) = evaluated.is_allowed rows w
 allows rows None = false
 
--- X0 is the result word of the check that decided
+-- a failed check is given, and X0 is its result word
 abbrev pub is_word_of : ℕ → Option FailedCondition → Bool
 is_word_of x0 (Some failed) = number failed.answer.word == x0
 is_word_of x0 None = false
@@ -36,11 +36,11 @@ is_word_of x0 None = false
 abbrev pub is_ours : List EvaluatedCheck → ℕ → Bool
 is_ours rows x0 = is_word_of x0 (evaluated.first_failed rows)
 
--- X0 is a result word that the checks allow, and is not the word of the deciding check
+-- X0 is a result word that the checks allow, and is not the word of the first failed check
 abbrev pub allows_number : List EvaluatedCheck → ℕ → Bool
 allows_number rows x0 = allows rows (word_of x0) && not (is_ours rows x0)
 
--- the check was made and failed; its result word has this status, and is not the word of the deciding check
+-- the outcome is a failure whose result word has the given status, and is not the word of the first failed check
 abbrev pub has_status : List EvaluatedCheck → ℕ → CheckOutcome → Bool
 has_status rows status (Failed answer) = number answer.word % 256 == status && not (is_ours rows (number answer.word))
 has_status rows status _ = false
@@ -69,7 +69,7 @@ allows_first rows (Name place) ws = allows_name rows place ws
 allows_first rows (Decimal x0) ws = not (x0 == 0) && allows_number rows x0
 allows_first rows (Hexadecimal x0) ws = not (x0 == 0) && allows_number rows x0
 
--- A written answer is a refusal with a result word that the checks allow and that is not the word of the deciding
+-- A written answer is a refusal with a result word that the checks allow and that is not the word of the first failed
 -- check.
 abbrev pub is_refusal_allowed : List TraceWord → List EvaluatedCheck → Bool
 is_refusal_allowed [] rows = false

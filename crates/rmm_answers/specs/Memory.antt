@@ -4,7 +4,7 @@ use Rattle.rmm_trace.specs.declared.word.Atom.{Atom}
 use Rattle.rmm_trace.specs.declared.word.Atom.TheVariants.{Name, Hexadecimal}
 use Rattle.rmm_answers.specs.declared.place.TheConstants.{DONE, FAULT}
 
--- the word that says whether the host's access is done
+-- the word that answers a host's access to memory: `done`, or `fault` if the access is not done
 abbrev pub access_atom : Bool → Atom
 access_atom is_done = Name (if is_done then DONE else FAULT)
 

@@ -1,4 +1,4 @@
--- Raw SMC calls and their answers in a trace, rewritten with the names of commands and outputs.
+-- The raw `smc` calls of a trace and their answers, rewritten with the names of commands and outputs.
 use Rattle.std.specs.Prelude.{ℕ, zero, suc, ◌==◌, nat_lt, if◌then◌else◌, List, [], ◌∷◌, slice_index, slice_index_or, Option, Some, None}
 use Rattle.rmm_trace.specs.declared.place.TheConstants.{PLATFORM, PSCI_DENIED, PSCI_SUCCESS}
 use Rattle.rmm_trace.specs.declared.word.Atom.{Atom}
@@ -14,18 +14,18 @@ use Rattle.rmm_answers.specs.Put.{◌▷◌, put_word}
 
 -- ---- calls
 
--- a PSCI status as a word: its name if it is SUCCESS or DENIED, and otherwise its number
+-- a PSCI status as a word of a trace, by name if it is SUCCESS or DENIED, and otherwise by number
 abbrev pub psci_atom : ℕ → Atom
 psci_atom v = if v == 0 then Name PSCI_SUCCESS else (if v == 0xFFFFFFFFFFFFFFFD then Name PSCI_DENIED else Hexadecimal v)
 
--- appends an operand in its notation, unless it is absent
+-- appends an operand in the given notation, and nothing if the notation is `Absent`
 unfoldable pub put_operand : OperandForm → ℕ → List TraceWord → List TraceWord
 put_operand Absent v ws = ws
 put_operand InDecimal v ws = put_word (Decimal v) ws
 put_operand InHexadecimal v ws = put_word (Hexadecimal v) ws
 put_operand Psci v ws = put_word (psci_atom v) ws
 
--- the call of a command by its name, with its operands taken from X1 to X5 of a raw call
+-- the call of a command by name, with the operands that a raw `smc` call gives in X1 to X5
 unfoldable pub named_call : ℕ → List TraceWord → List TraceWord
 named_call place ws =
     let forms = slice_index_or OPERANDS place NO_OPERANDS in
@@ -33,7 +33,7 @@ named_call place ws =
     ▷ put_operand (slice_index_or forms 2 Absent) (operand_at ws 3 0) ▷ put_operand (slice_index_or forms 3 Absent) (operand_at ws 4 0)
     ▷ put_operand (slice_index_or forms 4 Absent) (operand_at ws 5 0)
 
--- A raw call rewritten as a named call; none if no command has its function identifier.
+-- A raw `smc` call rewritten as a call by name; none if no command has its function identifier.
 unfoldable pub named_question : List TraceWord → Option (List TraceWord)
 named_question question =
     let ws = rest_of question in
@@ -42,7 +42,7 @@ named_question question =
 
 -- ---- answers
 
--- the number that a raw answer gives for register `k`; none if the register is omitted or `-`
+-- the number that the answer to a raw `smc` call gives for register `k`; none if the register is omitted or `-`
 abbrev pub written_number : List TraceWord → ℕ → Option ℕ
 written_number [] k = None
 written_number (w ∷ ws) zero = atom_number w.value
@@ -52,7 +52,8 @@ unfoldable pub put_written : ℕ → ℕ → ℕ → Option ℕ → List TraceWo
 put_written place x0 name (Some v) ws = put_returned place x0 name v ws
 put_written place x0 name None ws = ws
 
--- a command's named answer, given X0 and the registers of a raw answer: the status and the returned outputs
+-- a command's answer with names, from X0 and the registers that answer a raw `smc` call: the status and the returned
+-- outputs
 unfoldable pub answer_by : ℕ → ℕ → List TraceWord → List TraceWord
 answer_by place x0 written =
     let names = outputs_of place in
@@ -64,6 +65,7 @@ abbrev pub answer_of : ℕ → Option ℕ → List TraceWord → Option (List Tr
 answer_of place (Some x0) written = Some (answer_by place x0 written)
 answer_of place None written = None
 
--- A raw answer rewritten with the names of its status and its outputs; none if it gives no number for X0.
+-- The answer to a raw `smc` call, rewritten with the names of its status and outputs; none if the answer gives no
+-- number for X0.
 unfoldable pub named_answer : List TraceWord → List TraceWord → Option (List TraceWord)
 named_answer question written = answer_of (command_place (operand_at (rest_of question) 0 0)) (written_number written 0) written

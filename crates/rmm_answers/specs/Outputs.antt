@@ -40,7 +40,7 @@ abbrev pub put_index : Option Atom → List TraceWord → List TraceWord
 put_index (Some a) ws = put_word a ws
 put_index None ws = ws
 
--- appends the status that X0 holds, with its index if an index is shown
+-- appends X0 as `status_of` shows it, and then the index in X0 if `index_of` gives one
 unfoldable pub put_status : ℕ → List TraceWord → List TraceWord
 put_status x0 ws = ws ▷ put_word (status_of x0) ▷ put_index (index_of x0)
 

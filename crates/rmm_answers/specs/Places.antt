@@ -54,8 +54,8 @@ command_inputs =
     (codes "rmi_data_destroy", codes "rd" ∷ codes "ipa" ∷ []) ∷
     (codes "rmi_psci_complete", codes "calling_rec" ∷ codes "target_rec" ∷ codes "status" ∷ []) ∷ []
 
--- The notation is right for the input: decimal for a level or an index, PSCI for a status, and hexadecimal for any
--- other input.
+-- The notation is the one for an input of this name: decimal for a level or an index, PSCI for a status, and
+-- hexadecimal for any other input.
 unfoldable pub is_form_of : List ℕ → OperandForm → Bool
 is_form_of input Absent = false
 is_form_of input Decimal = bytes_eq input (codes "level") || bytes_eq input (codes "index")
@@ -66,14 +66,14 @@ unfoldable pub is_no_operand : OperandForm → Bool
 is_no_operand Absent = true
 is_no_operand _ = false
 
--- the first notations are the right ones for these inputs, in sequence, and the rest are `Absent`
+-- the first notations satisfy `is_form_of` for these inputs, in sequence, and the rest are `Absent`
 unfoldable pub are_forms : List (List ℕ) → List OperandForm → Bool
 are_forms [] forms = list_all is_no_operand forms
 are_forms (input ∷ inputs) [] = false
 are_forms (input ∷ inputs) (form ∷ forms) = is_form_of input form && are_forms inputs forms
 
--- the table of names has the listed commands at the indices from this one to 22, and `OPERANDS` has the right notations
--- for their inputs
+-- the table of names has the listed commands from the given index to 22, and `OPERANDS` has the notations of their
+-- inputs
 unfoldable pub are_operands : ℕ → List (List ℕ × List (List ℕ)) → Bool
 are_operands place [] = place == 23
 are_operands place (row ∷ rows) = has_name place row.0 && are_forms row.1 (slice_index_or OPERANDS place NO_OPERANDS) && are_operands (place + 1) rows
@@ -103,8 +103,7 @@ are_named [] (place ∷ places) = place == 0 && are_named [] places
 are_named (text ∷ texts) [] = false
 are_named (text ∷ texts) (place ∷ places) = has_name place text && are_named texts places
 
--- the table of names has the listed commands at the indices from this one to 22, and `OUTPUTS` has the names of their
--- outputs
+-- the table of names has the listed commands from the given index to 22, and `OUTPUTS` has the names of their outputs
 unfoldable pub are_outputs : ℕ → List (List ℕ × List (List ℕ)) → Bool
 are_outputs place [] = place == 23
 are_outputs place (row ∷ rows) = has_name place row.0 && are_named row.1 (slice_index_or OUTPUTS place []) && are_outputs (place + 1) rows

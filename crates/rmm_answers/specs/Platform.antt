@@ -23,7 +23,8 @@ abbrev pub is_first : ℕ → List TraceWord → Bool
 is_first name [] = false
 is_first name (w ∷ ws) = is_name name w.value
 
--- the words give the setting its second value, whose name follows the first value's name in the table of names
+-- in a `platform` line, the setting `name` has the second of its values; `first` is the index of the first value in the
+-- table of names
 abbrev pub is_second : List TraceWord → ℕ → ℕ → Bool
 is_second ws name first = is_first (first + 1) (after_name name ws)
 
@@ -53,10 +54,11 @@ settings_in ws = record {
   checks_gic = is_second ws GIC NONE;
 }
 
--- the platform can be opened: it has 1 to 4,096 granules, and each setting is in its range
+-- a `platform` line gives 1 to 4,096 granules, and each of its settings is in its range
 abbrev pub is_opened : List TraceWord → Bool
 is_opened ws = nat_le 1 (operand_at ws 1 0) && nat_le (operand_at ws 1 0) 4096 && is_platform (settings_in ws)
 
--- The fresh machine of a platform, if it can be opened: the machine's granules are UNDELEGATED, and their bytes are 0.
+-- The fresh machine of a `platform` line, whose granules are UNDELEGATED with bytes 0; none if the number of granules
+-- or a setting is out of range.
 unfoldable pub machine_of_platform : List TraceWord → Option Machine
 machine_of_platform ws = if is_opened ws then Some (platform_machine (settings_in ws) (replicate (operand_at ws 1 0) zero_page)) else None

@@ -1,4 +1,4 @@
--- Operations that append words, flags and named values to an answer in a trace.
+-- Functions that append words, and names with or without a value, to an answer in a trace.
 use Rattle.std.specs.Prelude.{ℕ, List, [], ◌∷◌, ◌++◌}
 use Rattle.rmm_trace.specs.declared.word.Atom.{Atom}
 use Rattle.rmm_trace.specs.declared.word.Atom.TheVariants.{Name}
@@ -17,11 +17,11 @@ put_word a ws = ws ++ plain a ∷ []
 abbrev pub put_part : Atom → List TraceWord → List TraceWord
 put_part a ws = with_comma ws ++ plain a ∷ []
 
--- appends a further part of an answer, which is a name alone
+-- appends a name alone, as a further part of an answer
 abbrev pub put_flag : ℕ → List TraceWord → List TraceWord
 put_flag name ws = put_part (Name name) ws
 
--- appends a further part of an answer, which is a name with a value
+-- appends a name with a value, as a further part of an answer
 unfoldable pub put_value : ℕ → Atom → List TraceWord → List TraceWord
 put_value name a ws = ws ▷ put_part (Name name) ▷ put_word a
 

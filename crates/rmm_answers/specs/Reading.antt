@@ -1,4 +1,5 @@
--- The answers in a trace to readings of the states of granules, realms and RECs, which no firmware offers to a host.
+-- The answers in a trace to questions about the states of granules, realms and RECs. No firmware offers such readings
+-- to a host.
 use Rattle.std.specs.Prelude.{ℕ, ◌+◌, ◌*◌, ◌%◌, ◌^◌, Bool, true, false, not, ◌||◌, if◌then◌else◌, List, [], take, Option, Some, None, option_and_then, unwrap_or}
 use Rattle.std.specs.List.{sum}
 use Rattle.rmi_abi.specs.declared.hash.HashAlgorithm.{HashAlgorithm}
@@ -80,7 +81,7 @@ abbrev pub realm_answer : Option RmmRealm → ℕ → List TraceWord
 realm_answer (Some realm) base = realm_words realm base
 realm_answer None base = [] ▷ put_word (Name NONE)
 
--- the digest in a measurement: its first 32 bytes for SHA-256, and all its bytes for SHA-512
+-- the digest that a realm's measurement holds, in the first 32 bytes for SHA-256, and in all bytes for SHA-512
 abbrev pub digest_of : HashAlgorithm → List ℕ → Digest
 digest_of BySha256 rim = Sha256 (take 32 rim)
 digest_of BySha512 rim = Sha512 rim
@@ -106,7 +107,7 @@ put_pending is ws = if is then put_flag PENDING ws else ws
 abbrev pub rec_page_word : Machine → ℕ → ℕ → ℕ
 rec_page_word m rec i = unwrap_or (word_shown m rec i) 0
 
--- the words for the attributes of the REC at an address
+-- the words of an answer that show the state, the realm and the attributes of the REC at an address
 unfoldable pub rec_words : Machine → ℕ → Attributes → List TraceWord
 rec_words m address rec =
     [] ▷ put_word (Name (if is_running rec.state then RUNNING else READY)) ▷ put_value RD (Hexadecimal (owner_address m address))

@@ -1,4 +1,4 @@
--- The comparison of the registers in a trace's raw answer with the registers of the model's answer. RMM 1.0, RMI
+-- The comparison of a trace's answer to a raw `smc` call with the model's answer, register by register. RMM 1.0, RMI
 -- commands: outputs.
 use Rattle.std.specs.Prelude.{ℕ, Bool, true, ◌&&◌, if◌then◌else◌, List, [], ◌∷◌}
 use Rattle.rmm_trace.specs.declared.word.TraceWord.{TraceWord}
@@ -20,7 +20,8 @@ names_after (name ∷ names) = names
 abbrev pub is_same_output : Bool → TraceWord → TraceWord → Bool
 is_same_output is_output written ours = if is_output then is_same_register written ours else is_register written
 
--- the trace's words for the registers from X1 on agree with the model's words, as far as the call returns outputs there
+-- the trace's words for the registers from X1 on agree with the model's words, in each register in which the call
+-- returns an output
 abbrev pub are_outputs_same : ℕ → ℕ → List ℕ → List TraceWord → List TraceWord → Bool
 are_outputs_same place x0 names [] ours = true
 are_outputs_same place x0 names (w ∷ ws) ours =

@@ -31,7 +31,7 @@ no_answer = of_words []
 unfoldable pub no_command : TraceReply
 no_command = of_words ([] ▷ put_word (Name NO) ▷ put_word (Name COMMAND))
 
--- the text of a digest: two lower-case hexadecimal digits for each byte
+-- a digest as text, with two lower-case hexadecimal digits for each byte
 abbrev pub digest_text : Digest → List ℕ
 digest_text (Sha256 bytes) = encode_lower bytes
 digest_text (Sha512 bytes) = encode_lower bytes
@@ -48,15 +48,16 @@ abbrev pub is_absent : Option Digest → Bool
 is_absent None = true
 is_absent (Some digest) = false
 
--- the reply is empty: it has neither words nor a measurement
+-- the reply has neither words nor a measurement, and is therefore empty
 abbrev pub is_unanswered : TraceReply → Bool
 is_unanswered reply = is_none_left reply.words.items && is_absent reply.rim
 
--- the text of a reply: the digits of its measurement, or its words
+-- a reply as text: the digits of the reply's measurement if there is one, and otherwise the reply's words
 abbrev pub reply_text : TraceReply → List ℕ
 reply_text reply = text_by reply.rim reply.words.items
 
--- A written answer to a question agrees with the model's. Answers to raw calls are compared by registers.
+-- A written answer agrees with the model's answer to the same question of a trace. Answers to raw calls are compared by
+-- registers.
 abbrev pub is_same_answer : List TraceWord → List TraceWord → List TraceWord → Bool
 is_same_answer question written ours =
     if first_place question == SMC then registers_agree (command_place (operand_at (rest_of question) 0 0)) written ours

@@ -1,4 +1,4 @@
--- The rounds of a repeated call or page fill in a trace, up to the first round that does not succeed.
+-- The repetitions of a call or page fill in a trace, up to the first repetition that does not succeed.
 use Rattle.std.specs.Prelude.{ℕ, zero, suc, ◌+◌, ◌%◌, ◌==◌, Bool, if◌then◌else◌, List, slice_index, Option, Some, None}
 use Rattle.rmi_abi.specs.declared.registers.Registers.{Registers}
 use Rattle.rmm_model.specs.Call.{rmi}
@@ -23,28 +23,28 @@ registers_in (Some xs) = record {
 }
 registers_in None = record { x0 = 0; x1 = 0; x2 = 0; x3 = 0; x4 = 0; x5 = 0; x6 = 0 }
 
--- the input registers of a call in a round
+-- the input registers of a call in repetition number `round`, counted from 0
 unfoldable pub asked : List TraceWord → ℕ → Registers
 asked call round = registers_in (call_registers call round)
 
--- the round that is performed last, with its number and output registers, and the resulting machine
+-- the number and the output registers of a call's last repetition, and the machine after that repetition
 abbrev pub last : ℕ → Registers × Machine → LastCall × Machine
 last round after = (record { round = round; after = after.0 }, after.1)
 
--- the last round of a call that has performed this round; at most the given number of rounds follow, each only after
+-- the last repetition of a call, given the repetition just done and how many may follow; another follows only after
 -- RMI_SUCCESS
 unfoldable pub more_rounds : ℕ → List TraceWord → ℕ → Registers × Machine → LastCall × Machine
 more_rounds zero call round after = last round after
 more_rounds (suc left) call round after =
     if after.0.x0 == 0 then more_rounds left call (round + 1) (rmi (asked call (round + 1)) after.1) else last round after
 
--- The last round of a call with at most `more` rounds after the first, and the resulting machine.
+-- The last repetition of a call that is made once and at most `more` further times, and the resulting machine.
 unfoldable pub performed_rounds : ℕ → List TraceWord → Machine → LastCall × Machine
 performed_rounds more call m = more_rounds more call 0 (rmi (asked call 0) m)
 
 -- ---- rounds of fills
 
--- whether the host may fill the page of a round, and the machine after the fill
+-- whether the host may fill the page in this repetition of a page fill, and the machine afterwards
 unfoldable pub filled : List TraceWord → ℕ → Machine → Bool × Machine
 filled operands round m =
     let address = operand_at operands 0 round in
@@ -58,6 +58,6 @@ more_fills zero operands round after = last_fill round after
 more_fills (suc left) operands round after =
     if after.0 then more_fills left operands (round + 1) (filled operands (round + 1) after.1) else last_fill round after
 
--- The number of the last round of a fill, whether that round was done, and the resulting machine.
+-- The number of the last repetition of a page fill, whether the page was filled in it, and the resulting machine.
 unfoldable pub filled_rounds : ℕ → List TraceWord → Machine → ℕ × Bool × Machine
 filled_rounds more operands m = more_fills more operands 0 (filled operands 0 m)

@@ -33,7 +33,7 @@ fn registers(x: [u64; 7]) -> Registers
     }
 }
 
-// The registers of a call in a round of a `repeat`; zeros if the words encode no call.
+// The registers of a call in one repetition; zeros if the words encode no call.
 #[tactic(auto, unfolding(crate::specs::Rounds::asked))]
 pub(crate) fn registers_at(call: &[TraceWord], round: u64) -> Registers
     ensures { result ≡ asked call.now round }
@@ -91,7 +91,7 @@ fn put_check<S: PageStore>(answer: &mut Sentence, rmm: &Rmm<S>, asked: Registers
     }
 }
 
-// Appends the number of earlier rounds, if there were any and the last round did not return RMI_SUCCESS.
+// Appends the number of earlier repetitions, if there were any and the last repetition did not return RMI_SUCCESS.
 #[tactic(auto, unfolding(crate::specs::Call::put_after))]
 fn put_after(answer: &mut Sentence, x0: u64, round: u64)
     requires { length answer.old.items ≤ 62 }
@@ -102,7 +102,7 @@ fn put_after(answer: &mut Sentence, x0: u64, round: u64)
     }
 }
 
-// The round of the last call, if that call is refused.
+// The number of the last repetition, if it is refused.
 fn refused_round(last: &LastCall) -> Option<u64>
     ensures { result ≡ calls.refused_round last.now }
 {
@@ -125,7 +125,7 @@ fn put_exit_of<S: PageStore>(answer: &mut Sentence, rmm: &Rmm<S>, place: usize, 
     }
 }
 
-// Answers a call with the result of its last round, in which outputs are named.
+// Answers a call by name with the result of its last repetition, in which outputs are named.
 #[tactic(auto, unfolding(crate::specs::Call::call_reply))]
 pub(crate) fn answer_call<S: PageStore>(
     reply: &mut TraceReply,

@@ -1,4 +1,4 @@
-//! Functions that judge whether an answer written in a trace is right, allowed or wrong.
+//! Functions that judge whether an answer written in a trace is the model's answer, an allowed refusal, or wrong.
 ghost use Rattle.std.specs.Prelude.{◌≡◌, ◌<◌};
 ghost use Rattle.std.specs.List.{list_any};
 ghost use Rattle.rmm_answers.specs.Judging as judging;
@@ -18,7 +18,7 @@ pub enum Verdict {
     Wrong,
 }
 
-// Whether X0 is the word of the deciding check.
+// Whether X0 is the word of the first failed check.
 fn is_ours(checks: &EvaluatedChecks, x0: u64) -> bool
     ensures { result ≡ judging.is_ours checks.now x0 }
 {
@@ -28,7 +28,7 @@ fn is_ours(checks: &EvaluatedChecks, x0: u64) -> bool
     }
 }
 
-// Whether X0 is a word that the checks allow, other than the word of the deciding check.
+// Whether X0 is a word that the checks allow, other than the word of the first failed check.
 fn allows_number(checks: &EvaluatedChecks, x0: u64) -> bool
     ensures { result ≡ judging.allows_number checks.now x0 }
 {
@@ -38,7 +38,7 @@ fn allows_number(checks: &EvaluatedChecks, x0: u64) -> bool
     }
 }
 
-// Whether a check failed with a word that has the given status and is not the word of the deciding check.
+// Whether a check failed with a word that has the given status and is not the word of the first failed check.
 fn has_status(checks: &EvaluatedChecks, row: &EvaluatedCheck, status: u64) -> bool
     ensures { result ≡ judging.has_status checks.now status row.now.outcome }
 {
@@ -52,7 +52,7 @@ fn has_status(checks: &EvaluatedChecks, row: &EvaluatedCheck, status: u64) -> bo
     }
 }
 
-// Whether the checks allow some word with the given status, other than the word of the deciding check.
+// Whether the checks allow some word with the given status, other than the word of the first failed check.
 fn allows_status(checks: &EvaluatedChecks, rows: &[EvaluatedCheck], status: u64) -> bool
     ensures { result ≡ list_any (λ row. judging.has_status checks.now status row.outcome) rows.now }
 {
@@ -64,7 +64,7 @@ fn allows_status(checks: &EvaluatedChecks, rows: &[EvaluatedCheck], status: u64)
     false
 }
 
-// Whether the checks allow the word with a status and an index, other than the word of the deciding check.
+// Whether the checks allow the word with a status and an index, other than the word of the first failed check.
 fn allows_index(checks: &EvaluatedChecks, status: u64, index: u64) -> bool
     requires { status < 5 }
     ensures { result ≡ judging.allows_index checks.now status index }
@@ -105,8 +105,8 @@ fn allows_name(checks: &EvaluatedChecks, place: usize, rest: &[TraceWord]) -> bo
 }
 
 /// Returns whether an answer in a trace is an allowed refusal other than the model's. Such a refusal has a word that
-/// the evaluated checks allow, and that is not the deciding check's word. The word is written as the name of its status
-/// with an index, or as X0.
+/// the evaluated checks allow, and that is not the first failed check's word. The word is written as the name of its
+/// status with an index, or as X0.
 pub fn is_allowed(written: &[TraceWord], checks: &EvaluatedChecks) -> bool
     ensures { result ≡ judging.is_refusal_allowed written.now checks.now }
 {

@@ -1,5 +1,5 @@
-//! Theorems that the indices of names and this crate's tables are right, and that a refused RMI call leaves the machine
-//! unchanged.
+//! Theorems that this crate's constants and the table of names agree with the definitions, and that a refused RMI call
+//! leaves the machine unchanged.
 ghost use Rattle.std.specs.Prelude.{◌≡◌, ◌+◌, ◌++◌, true, codes};
 ghost use Rattle.rmi_abi.specs.declared.registers.Registers.{Registers};
 ghost use Rattle.rmm_checks.specs.Names.{name_of};
@@ -17,8 +17,9 @@ pub fn answer_places_are_of_their_names()
     ensures { are_answer_places_named ≡ true }
 {}
 
-/// Proves that this crate's tables are right: the names of outputs, page fields and guest steps, the offsets of fields,
-/// and the notations of operands. The operands and outputs are those of commands.
+/// Proves that this crate's tables agree with their definitions in `specs/Places.antt`: the names of outputs, page
+/// fields and guest steps, the offsets of fields, and the notations of operands. The operands and outputs are those of
+/// commands.
 pub fn tables_are_of_their_names()
     ensures operands { are_operands_named ≡ true }
     ensures outputs { are_outputs_named ≡ true }
@@ -27,7 +28,8 @@ pub fn tables_are_of_their_names()
     ensures steps { are_steps_named ≡ true }
 {}
 
-/// Proves that the table of names has each check's parenthesized name at the right index.
+/// Proves that the table of names has each check's name in parentheses, at the index 179 plus the number of the check's
+/// condition.
 pub fn checks_are_of_their_names()
     ensures { (c : Condition) → has_name (179 + condition_number c) (codes "(" ++ (name_of c ++ codes ")")) ≡ true }
 {}

@@ -1,4 +1,4 @@
-//! The simulated RMM that performs the calls of a trace, created by a `platform` line.
+//! The simulated RMM that a trace's `platform` line creates, and that performs the calls of the trace.
 ghost use Rattle.std.specs.Prelude.{◌≡◌, None, OnOk, OnErr, option_and_then};
 ghost use Rattle.rmm_answers.specs.Answering as specs;
 ghost use Rattle.rmm_answers.specs.Platform.{machine_of_platform};

@@ -1,4 +1,4 @@
-//! Functions that rewrite raw SMC calls and their answers with names.
+//! Functions that rewrite raw `smc` calls and their answers with names.
 ghost use Rattle.std.specs.Prelude.{◌≡◌, ◌+◌, ◌<◌, ◌≤◌, length, slice_index_or, option_map};
 ghost use Rattle.rmm_answers.specs.Naming as naming;
 
@@ -100,7 +100,7 @@ fn row_at(rows: &[[OperandForm; 5]], place: usize) -> [OperandForm; 5]
     }
 }
 
-// The named call of a command, given the words after `smc`: the function identifier and the operands.
+// The call of a command by name, given the words after `smc`: the function identifier and the operands.
 #[tactic(auto, unfolding(crate::specs::Naming::named_call))]
 fn named_call(place: usize, words: &[TraceWord]) -> Sentence
     ensures { result.items ≡ naming.named_call place words.now }
@@ -116,7 +116,8 @@ fn named_call(place: usize, words: &[TraceWord]) -> Sentence
     call
 }
 
-/// Rewrites a raw call `smc FID X1 ..` as a call of a named command. Returns `None` if the function is not a command.
+/// Rewrites a raw call `smc FID X1 ..` as a call by the command's name. Returns `None` if the function is not a
+/// command.
 #[tactic(auto, unfolding(crate::specs::Naming::named_question))]
 pub fn named_question(question: &[TraceWord]) -> Option<Sentence>
     ensures { option_map (λ call. call.items) result ≡ naming.named_question question.now }
@@ -154,7 +155,7 @@ fn put_written(answer: &mut Sentence, place: usize, x0: u64, name: usize, number
     }
 }
 
-// The named answer of a command, from the result in X0 and the registers of a raw answer.
+// The answer of a command with names, from X0 and the registers that answer a raw `smc` call.
 #[tactic(auto, unfolding(crate::specs::Naming::answer_by))]
 fn answer_by(place: usize, x0: u64, written: &[TraceWord]) -> Sentence
     ensures { result.items ≡ naming.answer_by place x0 written.now }
@@ -169,8 +170,8 @@ fn answer_by(place: usize, x0: u64, written: &[TraceWord]) -> Sentence
     answer
 }
 
-/// Rewrites a raw answer with names, or returns `None` if it has no value for X0. A raw answer has the words
-/// `X0 X1 ..`, and `question` is the raw call that it answers. Outputs that are not written are left out.
+/// Rewrites the answer to a raw `smc` call with names, or returns `None` if the answer has no value for X0. The answer
+/// has the words `X0 X1 ..`, and `question` is the call. Outputs that are not written are left out.
 #[tactic(auto, unfolding(crate::specs::Naming::named_answer))]
 pub fn named_answer(question: &[TraceWord], written: &[TraceWord]) -> Option<Sentence>
     ensures { option_map (λ answer. answer.items) result ≡ naming.named_answer question.now written.now }

@@ -1,4 +1,4 @@
-//! Functions that compare a trace's raw answer with the model's answer, register by register.
+//! Functions that compare a trace's answer to a raw `smc` call with the model's answer, register by register.
 ghost use Rattle.std.specs.Prelude.{◌≡◌};
 ghost use Rattle.rmm_answers.specs.Registers as specs;
 

@@ -25,8 +25,8 @@ pub enum Digest {
 pub struct TraceReply {
     pub words: Sentence,
     pub rim: Option<Digest>,
-    /// The round in which a repeated call was refused, counted from 0. It is 0 for a call without `repeat`, and `None`
-    /// if no call was refused.
+    /// The number of the repetition in which a repeated call was refused, counted from 0. The number is 0 for a call
+    /// without `repeat`, and `None` if no call was refused.
     pub refused: Option<u64>,
 }
 

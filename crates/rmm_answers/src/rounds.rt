@@ -1,5 +1,5 @@
-//! Functions that repeat an RMI call or a page fill, as a trace requests. The repetition ends at the first round that
-//! does not succeed.
+//! Functions that repeat an RMI call or a page fill, as a trace requests. The first repetition that does not succeed is
+//! the last.
 ghost use Rattle.std.specs.Prelude.{◌≡◌};
 ghost use Rattle.rmm_answers.specs.Rounds as rounds;
 
@@ -9,7 +9,7 @@ use rmi_abi::Registers;
 use rmm::Rmm;
 use rmm_trace::{TraceWord, operand};
 
-// The last performed round of a call, and the registers after that round.
+// The number of a call's last repetition, and the registers after that repetition.
 #[derive(Clone, Copy)]
 pub struct LastCall {
     pub round: u64,
@@ -39,7 +39,7 @@ pub(crate) fn perform_rounds<S: PageStore>(
     LastCall { round, after }
 }
 
-// Fills the page of one round of a `repeat`. Returns whether the host may write the page.
+// Fills the page of one repetition. Returns whether the host may write the page.
 #[tactic(auto, unfolding(crate::specs::Rounds::filled))]
 fn fill_round<S: PageStore>(rmm: &mut Rmm<S>, operands: &[TraceWord], round: u64) -> bool
     ensures { (result, rmm.new) ≡ rounds.filled operands.now round rmm.old }
@@ -48,8 +48,8 @@ fn fill_round<S: PageStore>(rmm: &mut Rmm<S>, operands: &[TraceWord], round: u64
     rmm.fill(operand(operands, 0, round), value as u8)
 }
 
-// Fills one page and up to `more` further pages, until a fill faults. Returns the last round, and whether its fill is
-// done.
+// Fills one page and up to `more` further pages, until a fill faults. Returns the number of the last repetition, and
+// whether its fill is done.
 #[tactic(auto, unfolding(crate::specs::Rounds::filled_rounds))]
 pub(crate) fn fill_rounds<S: PageStore>(
     rmm: &mut Rmm<S>,

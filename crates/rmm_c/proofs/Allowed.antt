@@ -1,5 +1,4 @@
--- Proofs that X0 is an allowed answer if and only if it is the word of a failed check, or if no check failed and it is
--- RMI_SUCCESS.
+-- Proofs that the allowed values of X0 are the result words of the failed checks or, if no check failed, RMI_SUCCESS.
 use Rattle.std.proofs.Common.{ℕ, ◌≡◌, ◌==◌, ◌||◌, Bool, true, false, List, [], ◌∷◌, refl, ap, sym, ◌∙◌}
 use Rattle.std.specs.List.{list_any}
 use Rattle.rmi_abi.specs.declared.word.Word.{Word}

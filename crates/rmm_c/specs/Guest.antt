@@ -1,4 +1,4 @@
--- The C interface to the guests of RECs: queued steps, interrupts of running RECs, and the results of steps.
+-- The effect of the C functions that queue steps for the guests of RECs, interrupt RECs, and read the results of steps.
 use Rattle.std.specs.Prelude.{ℕ, ◌+◌, ◌*◌, ◌&&◌, nat_lt, Option, Some, None, option_map, option_and_then, if◌then◌else◌}
 use Rattle.rmi_abi.specs.Word.{number}
 use Rattle.rmm_model.specs.declared.rec.RmmRec.{RmmRec}
@@ -16,7 +16,7 @@ use Rattle.rmm_c.specs.declared.guest.GuestStepResult.{GuestStepResult}
 
 -- ---- steps
 
--- a guest's step from its C struct, in the RMM's form
+-- the kind and the operands of a step of a guest's program, from the C struct of the step
 abbrev pub words_of : RawStep → StepWords
 words_of step = record { kind = step.kind; a = step.a; b = step.b; c = step.c; d = step.d }
 
@@ -41,12 +41,12 @@ after_interrupt rec m = (interrupted m rec).1
 
 -- ---- results
 
--- the result whose kind and value are words `first` and `first + 1` of a REC's granule
+-- a result of a guest's step: its kind is word `first` of a REC's granule, and its value is the next word
 abbrev pub outcome_shown : ℕ → ℕ → Machine → Option GuestStepResult
 outcome_shown rec first m =
     option_and_then (λ kind. option_map (λ value. record { kind = kind; value = value }) (word_shown m rec (first + 1))) (word_shown m rec first)
 
--- result `k` of the guest of a REC with these attributes, if there is such a result
+-- result `k` of a REC's guest, if `k` is below 32 and below the number of results in the REC's attributes
 abbrev pub outcome_in : ℕ → ℕ → Machine → RmmRec → Option GuestStepResult
 outcome_in rec k m attributes = if nat_lt k 32 && nat_lt k attributes.result_count then outcome_shown rec (128 + 2 * k) m else None
 

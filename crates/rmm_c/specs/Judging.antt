@@ -23,36 +23,36 @@ abbrev pub check_number : Option FailedCondition → ℕ
 check_number (Some refusal) = condition_number refusal.condition
 check_number None = 0
 
--- the number of the first failing check of a call; 0 if none fails, or if the function is not a command
+-- the number of the first failing check of a call; 0 if no check fails, or if the call is for no RMI command
 abbrev pub check_of_call : Option Call → Machine → ℕ
 check_of_call (Some call) m = check_number (first_failing (command_of call m).checks)
 check_of_call None m = 0
 
--- The number of the check that decides a call: the first check that fails, or 0 if none fails. A closed handle has no
--- check.
+-- The number of the first failing check of a call that is given by its registers; 0 if none fails. A closed handle has
+-- no checks, and neither has a function that is not a command.
 abbrev pub deciding_check : SmcRegisters → Option Machine → ℕ
 deciding_check r (Some m) = check_of_call (call_in (call_of r)) m
 deciding_check r None = 0
 
 -- ---- the words that are allowed
 
--- the value of X0 is one of these words
+-- X0 has the value of one of the words in a list
 abbrev pub is_among_words : ℕ → List Word → Bool
 is_among_words x0 words = list_any (λ word. x0 == number word) words
 
--- the value of X0 is a word that the command may return, or NOT_SUPPORTED if the function is not a command
+-- X0 has a word that the command may return, or NOT_SUPPORTED if the call is for no RMI command
 abbrev pub is_answer_of_call : Option Call → ℕ → Machine → Bool
 is_answer_of_call (Some call) x0 m = is_among_words x0 (allowed_words (command_of call m))
 is_answer_of_call None x0 m = x0 == 2 ^ 64 - 1
 
--- An RMM may answer a call with this value of X0. A closed handle is firmware without an RMM.
+-- An RMM may answer a call with the given value of X0. A closed handle is firmware without an RMM.
 abbrev pub may_answer : SmcRegisters → ℕ → Option Machine → Bool
 may_answer r x0 (Some m) = is_answer_of_call (call_in (call_of r)) x0 m
 may_answer r x0 None = x0 == 2 ^ 64 - 1
 
 -- ---- evaluated checks
 
--- a check was made and failed, and its answer has this value of X0
+-- a check was made and failed, and its answer has the given value of X0
 abbrev pub refuses_with : ℕ → CheckOutcome → Bool
 refuses_with x0 (Failed answer) = x0 == number answer.word
 refuses_with x0 _ = false

@@ -16,11 +16,11 @@ answered_by Remark q m = (no_answer, m)
 answered_by Question q m = answered q m
 answered_by Neither q m = (no_command, m)
 
--- the model's answer to a line, and the new machine; a remark has no answer and changes nothing
+-- the RMM's answer to a trace line, and the new machine; a blank line or a comment gets no answer and changes nothing
 abbrev pub line_answered : RmmTraceLine → Option Machine → TraceReply × Option Machine
 line_answered line m = answered_by line.kind line.words.items m
 
--- the model's answer to a line given by its bytes, and the new machine
+-- the RMM's answer to a trace line that is given by its bytes, and the new machine
 abbrev pub on_line : List ℕ → Option Machine → TraceReply × Option Machine
 on_line bytes m = line_answered (line_in GROUPS START bytes) m
 
@@ -29,8 +29,8 @@ abbrev pub put_text : List ℕ → List ℕ → List ℕ
 put_text text [] = []
 put_text text (b ∷ bs) = let kept = take (length bs) text in kept ++ 0 ∷ drop (length kept) bs
 
--- A line is answered: the buffer has as much of the answer's text as fits, and the length of the whole text is
--- returned.
+-- After a trace line the buffer has as much of the RMM's answer as fits, and the answer's whole length is returned. The
+-- machine changes as in the model.
 pub record IsLineAnswered (bytes old : List ℕ) (before : Option Machine) (returned : ℕ) (new : List ℕ) (after : Option Machine) : Type 0 where
   pub count : returned ≡ length (reply_text (on_line bytes before).0)
   pub text : new ≡ put_text (reply_text (on_line bytes before).0) old

@@ -19,7 +19,7 @@ use Rattle.rmm_model.specs.Machine.{Machine}
 use Rattle.rmm_c.specs.declared.attributes.RealmAttributes.{RealmAttributes}
 use Rattle.rmm_c.specs.declared.attributes.RecAttributes.{RecAttributes}
 
--- A function that reads a value answers whether there was one to read. The new value is the one that was read, or the
+-- A reading function answers true exactly if there is a value to read. The new value is the one that was read, or the
 -- old one if none was.
 pub record Reports {A : Type 0} (read : Option A) (old : A) (answer : Bool) (new : A) : Type 0 where
   pub is_read : answer ≡ is_some read
@@ -54,7 +54,7 @@ abbrev pub hash_code : HashAlgorithm → ℕ
 hash_code Sha256 = 0
 hash_code Sha512 = 1
 
--- a flag as a number: 1 if it holds, and 0 if not
+-- a flag as a number, which is 1 if the flag is true and 0 if not
 abbrev pub flag : Bool → ℕ
 flag holds = if holds then 1 else 0
 
@@ -64,7 +64,7 @@ flag holds = if holds then 1 else 0
 abbrev pub state_code_shown : ℕ → Machine → Option ℕ
 state_code_shown address m = option_map granule_state_code (state_shown m address)
 
--- the attributes of a realm, on a machine whose first granule is at `base`
+-- the attributes of a realm as a C struct, on a machine whose first granule is at `base`
 abbrev pub realm_attributes : ℕ → RmmRealm → RealmAttributes
 realm_attributes base realm = record {
   state = realm_state_code realm.state;

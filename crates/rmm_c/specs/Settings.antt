@@ -1,4 +1,5 @@
--- The platform settings of the C interface: their valid ranges, and the machine of a handle opened with them.
+-- The valid ranges of the C interface's platform settings, and the machine of a handle that is opened with such
+-- settings.
 use Rattle.std.specs.Prelude.{◌==◌, ◌&&◌, Bool, nat_le, replicate, Option, Some, None, if◌then◌else◌}
 use Rattle.granule_addr.specs.Page.{zero_page}
 use Rattle.rmi_abi.specs.declared.settings.Layout.TheVariants.{Rel0, Eac5}
@@ -44,10 +45,10 @@ settings_of s = record {
 abbrev pub platform_of : PlatformSettings → Option RmmSettings
 platform_of s = if fit s && is_platform (settings_of s) then Some (settings_of s) else None
 
--- A machine can have these settings: there are 1 to 4,096 granules, and each setting is in its range.
+-- The settings are valid for a machine, with 1 to 4,096 granules and each setting in its range.
 abbrev pub is_machine : PlatformSettings → Bool
 is_machine s = nat_le 1 s.granules && nat_le s.granules 4096 && (fit s && is_platform (settings_of s))
 
--- The machine of a newly opened handle: its granules are UNDELEGATED, and their bytes are 0.
+-- The machine of a newly opened handle, with all granules UNDELEGATED and all bytes 0.
 abbrev pub opened_machine : PlatformSettings → Machine
 opened_machine s = platform_machine (settings_of s) (replicate s.granules zero_page)

@@ -1,4 +1,4 @@
--- The effect of an SMC call on the RMM of a C handle: the registers and the machine after the call.
+-- The registers that an SMC call returns, and the machine of the C handle after the call.
 use Rattle.std.specs.Prelude.{Option, Some, None}
 use Rattle.rmi_abi.specs.declared.registers.Registers.{Registers}
 use Rattle.rmi_abi.specs.Answer.{not_supported}
@@ -14,7 +14,7 @@ call_of r = record { x0 = r.x0; x1 = r.x1; x2 = r.x2; x3 = r.x3; x4 = r.x4; x5 =
 abbrev pub smc_registers : Registers → SmcRegisters
 smc_registers r = record { x0 = r.x0; x1 = r.x1; x2 = r.x2; x3 = r.x3; x4 = r.x4; x5 = r.x5; x6 = r.x6 }
 
--- The registers and the machine after a call. A closed handle has no RMM: no function is supported.
+-- The registers and the machine after an SMC call. A closed handle has no RMM: no function is supported.
 abbrev pub on_smc : SmcRegisters → Option Machine → SmcRegisters × Option Machine
 on_smc r (Some m) = (smc_registers (rmi (call_of r) m).0, Some (rmi (call_of r) m).1)
 on_smc r None = (smc_registers (not_supported (call_of r)), None)

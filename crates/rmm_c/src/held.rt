@@ -1,4 +1,4 @@
-//! The pointer to a heap-allocated RMM that a handle of a C program owns. No other file has access to the pointer.
+//! The pointer through which a C program's handle owns an RMM on the heap. No other file has access to the pointer.
 ghost use Rattle.std.specs.Prelude.{◌≡◌, true, Option, Some, None, is_some};
 ghost use Rattle.std.specs.Coded.{coded_option};
 ghost use Rattle.rmm_model.specs.Codes.{machine_code};

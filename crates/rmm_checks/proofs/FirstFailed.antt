@@ -1,5 +1,5 @@
--- Lemmas on the search for the first failed check in a list of evaluated checks: a failed check is found, and any other
--- is skipped.
+-- Lemmas on the search for the first failed check in a list: the search ends at a failed check, and goes on after a
+-- check that did not fail.
 use Rattle.std.proofs.Common.{◌≡◌, ℕ, ◌+◌, ◌<◌, ◌≤◌, List, None, Some, Option, length, get_or, drop, refl, sym, ap, add-one, drop-cons}
 use Rattle.std.proofs.lemmas.List.{drop_all}
 use Rattle.rmm_model.specs.declared.answer.FailedCondition.{FailedCondition}
@@ -19,13 +19,13 @@ pub failed_end : (rows : List EvaluatedCheck) (i : ℕ) → length rows ≤ i �
 unfolding first_failed
 failed_end rows i past = ap first_failed (drop_all i rows past)
 
--- a check that did not fail is skipped
+-- if a check did not fail, the first refusal is that of the checks after it
 pub none_here : (r : EvaluatedCheck) (outcome : CheckOutcome) (rest : Option FailedCondition) → None ≡ refusal_or r outcome None → refusal_or r outcome rest ≡ rest
 none_here r NotMade rest h = refl
 none_here r Passed rest h = refl
 none_here r (Failed answer) rest h = cc
 
--- a check that failed decides the refusal
+-- if a check failed, the first refusal is its own, whatever the checks after it give
 pub some_here : (r : EvaluatedCheck) (outcome : CheckOutcome) (rest : Option FailedCondition) (found : FailedCondition) → Some found ≡ refusal_or r outcome None → refusal_or r outcome rest ≡ Some found
 some_here r NotMade rest found h = cc
 some_here r Passed rest found h = cc

@@ -23,19 +23,19 @@ before_walk = RdState ∷ IpaAlign ∷ IpaBound ∷ []
 abbrev pub before_new_walk : List Condition
 before_new_walk = RdState ∷ IpaAlign ∷ IpaBound ∷ RealmState ∷ []
 
--- a check that is sure to pass does not fail, and the checks on which it depends are sure to pass, if no other check
--- has its condition
+-- a condition with a single check is sure to pass only if the check does not fail, and the conditions on which the
+-- check depends are sure to pass
 pub known : (n : ℕ) (cs : List Check) (x : Condition) (fails rest : Bool) → sure n cs x ≡ true → sure n cs x ≡ ((not fails && rest) || false) → (fails ≡ false) × (rest ≡ true)
 known n cs x fails rest passes is = sure_parts fails rest (sym is ∙ passes)
 
--- the conditions on which the check of a walk to the start of a NEW realm's range depends
+-- the conditions on which a walk's check depends, for the first address of a range in a NEW realm
 abbrev pub before_range : List Condition
 before_range = Size ∷ RdState ∷ BaseBound ∷ TopBound ∷ RealmState ∷ []
 
 abbrev pub before_request : List Condition
 before_request = Size ∷ RecGranState ∷ RdState ∷ RecState ∷ RecOwner ∷ BaseBound ∷ TopBound ∷ []
 
--- if the check that a page is one of the host's is sure to pass, the page's address is in the machine
+-- if the check that a granule is one of the host's is sure to pass, the granule's address is in the machine
 pub page_inside : (cs : List Check) (pas bound : Condition) (host inside : Bool) → sure 2 cs pas ≡ true
     → sure 2 cs pas ≡ ((not (not host) && list_all (sure 1 cs) (bound ∷ [])) || false)
     → sure 1 cs bound ≡ ((not (not inside) && true) || false) → inside ≡ true
@@ -50,7 +50,7 @@ some_realm (Some realm) h = refl
 one_less : (level : ℕ) → nat_le level 3 ≡ true → nat_le (level - 1) 3 ≡ true
 one_less level h = let low = leb-true level 3 h in le-leb (level - 1) 3 (omega arith)
 
--- a level that is above another one is at least 1
+-- a level that is greater than another level is at least 1
 pub one_below : (start level : ℕ) → nat_le (start + 1) level ≡ true → nat_le 1 level ≡ true
 one_below start level h = let low = leb-true (start + 1) level h in le-leb 1 level (omega arith)
 
@@ -63,7 +63,7 @@ half_in_space : (s2sz ipa : ℕ) → nat_lt ipa (2 ^ (s2sz - 1)) ≡ true → na
 half_in_space s2sz ipa h = lt-ltb ipa (2 ^ s2sz) (half_fits s2sz ipa (ltb-true ipa (2 ^ (s2sz - 1)) h))
 
 module _ (m : Machine) (rd ipa : ℕ) where
-  -- a walk can be made to a level of at most 3, for an address in the space of an RD's realm
+  -- a walk to a level of at most 3 can be made for an address in the address space of an RD's realm
   pub may_walk : (to : ℕ) → is_none (realm_of (state_at m rd)) ≡ false → nat_le to 3 ≡ true → is_in_space (realm_at m rd) ipa ≡ true → can_walk m rd ipa to ≡ true
   may_walk to named low within =
       and_from (is_some (realm_of (state_at m rd))) (nat_le to 3 && is_in_space (realm_at m rd) ipa) (some_realm (realm_of (state_at m rd)) named)
@@ -99,7 +99,7 @@ module _ (m : Machine) (rd ipa : ℕ) where
         not-false level_ok (known 1 cs LevelBound (not level_ok) true (and_parts (sure 1 cs LevelBound) true below).0 is).0
 
     -- if the checks before a walk are sure to pass, the given level is from `least` to 3, and the walk to the level
-    -- above it can be made
+    -- above the given one can be made
     pub above_walk : (least level : ℕ) (fails : Bool)
         → sure 2 cs RdState ≡ ((not (is_none (realm_of (state_at m rd))) && list_all (sure 1 cs) (RdBound ∷ [])) || false)
         → sure 2 cs IpaAlign ≡ ((not fails && list_all (sure 1 cs) (LevelBound ∷ [])) || false)
@@ -110,7 +110,7 @@ module _ (m : Machine) (rd ipa : ℕ) where
         let level_ok = and_parts (nat_le least level) (nat_le level 3) (levelled fails (is_level least level) align_is level_is) in
         (may_walk (level - 1) (named rd_is) (one_less level level_ok.1) (within (is_in_space (realm_at m rd) ipa) bound_is), level_ok.1, level_ok.0)
 
-    -- if the checks before a walk are sure to pass, the walk for an unprotected address to the given level can be made
+    -- if the checks before a walk are sure to pass, the walk to the given level can be made for an unprotected address
     pub unprotected_walk : (block least level : ℕ) (fails : Bool)
         → sure 2 cs RdState ≡ ((not (is_none (realm_of (state_at m rd))) && list_all (sure 1 cs) (RdBound ∷ [])) || false)
         → sure 2 cs IpaAlign ≡ ((not fails && list_all (sure 1 cs) (LevelBound ∷ [])) || false)
@@ -123,15 +123,15 @@ module _ (m : Machine) (rd ipa : ℕ) where
         let half = and_parts (not (is_protected (realm_at m rd) ipa)) (is_in_space (realm_at m rd) ipa) (within (is_unprotected (realm_at m rd) ipa) bound_is) in
         may_walk level (named rd_is) level_ok.1 half.1
 
-    -- if the checks before a walk are sure to pass, the walk for a protected address to level 3 can be made
+    -- if the checks before a walk are sure to pass, the walk to level 3 can be made for a protected address
     pub page_walk :
         sure 2 cs RdState ≡ ((not (is_none (realm_of (state_at m rd))) && list_all (sure 1 cs) (RdBound ∷ [])) || false)
         → sure 2 cs IpaBound ≡ ((not (not (is_protected (realm_at m rd) ipa)) && list_all (sure 1 cs) (RdState ∷ [])) || false)
         → can_walk m rd ipa 3 ≡ true
     page_walk rd_is bound_is = may_walk_page (named rd_is) (within (is_protected (realm_at m rd) ipa) bound_is)
 
-  -- if the checks before a walk in a NEW realm are sure to pass, the walk for a protected address to level 3 can be
-  -- made
+  -- if the checks before a walk in a NEW realm are sure to pass, the walk to level 3 can be made for a protected
+  -- address
   pub new_page_walk : (cs : List Check) → list_all (sure 2 cs) before_new_walk ≡ true
       → sure 2 cs RdState ≡ ((not (is_none (realm_of (state_at m rd))) && list_all (sure 1 cs) (RdBound ∷ [])) || false)
       → sure 2 cs IpaBound ≡ ((not (not (is_protected (realm_at m rd) ipa)) && list_all (sure 1 cs) (RdState ∷ [])) || false)
@@ -143,7 +143,8 @@ module _ (m : Machine) (rd ipa : ℕ) where
       may_walk_page (known 2 cs RdState (is_none (realm_of (state_at m rd))) (list_all (sure 1 cs) (RdBound ∷ [])) one.0 rd_is).0
       (not-false (is_protected (realm_at m rd) ipa) (known 2 cs IpaBound (not (is_protected (realm_at m rd) ipa)) (list_all (sure 1 cs) (RdState ∷ [])) three.0 bound_is).0)
 
-  -- if the checks of a range in a NEW realm are sure to pass, a walk for its first address to level 3 can be made
+  -- if the checks of a range in a NEW realm are sure to pass, a walk to level 3 can be made for the range's first
+  -- address
   pub range_walk : (cs : List Check) → list_all (sure 2 cs) before_range ≡ true
       → sure 2 cs RdState ≡ ((not (is_none (realm_of (state_at m rd))) && list_all (sure 1 cs) (RdBound ∷ [])) || false)
       → sure 2 cs BaseBound ≡ ((not (not (is_protected (realm_at m rd) ipa)) && list_all (sure 1 cs) (RdState ∷ [])) || false)
@@ -155,7 +156,8 @@ module _ (m : Machine) (rd ipa : ℕ) where
       may_walk_page (known 2 cs RdState (is_none (realm_of (state_at m rd))) (list_all (sure 1 cs) (RdBound ∷ [])) two.0 rd_is).0
       (not-false (is_protected (realm_at m rd) ipa) (known 2 cs BaseBound (not (is_protected (realm_at m rd) ipa)) (list_all (sure 1 cs) (RdState ∷ [])) three.0 bound_is).0)
 
-  -- if the checks of a range that a REC asked for are sure to pass, a walk for its first address to level 3 can be made
+  -- if the checks of a range that a REC asked for are sure to pass, a walk to level 3 can be made for the range's first
+  -- address
   pub request_walk : (cs : List Check) (owner ends none : Bool) → list_all (sure 2 cs) before_request ≡ true
       → sure 2 cs Size ≡ ((not none && true) || false)
       → sure 2 cs RdState ≡ ((not (is_none (realm_of (state_at m rd))) && list_all (sure 1 cs) (RdBound ∷ [])) || false)

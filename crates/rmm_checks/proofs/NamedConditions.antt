@@ -1,5 +1,5 @@
--- Lemmas on the search for a failure condition by its name: a condition with that name is found, and any other is
--- skipped.
+-- Lemmas on the search for a failure condition by name: the search ends at the condition with that name, and goes on
+-- after any other condition.
 use Rattle.std.proofs.Common.{◌≡◌, ℕ, ◌+◌, ◌<◌, ◌≤◌, List, None, Some, cond, length, get_or, drop, ap, add-one, drop-cons}
 use Rattle.std.specs.Str.{bytes_eq}
 use Rattle.std.proofs.lemmas.List.{drop_all}

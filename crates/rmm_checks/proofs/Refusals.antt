@@ -137,7 +137,8 @@ none_failed = refl
 none_among : ArePassed [] []
 none_among x h = cc
 
--- the first check that was made and failed is the first that fails
+-- if each check comes after those on which it depends, the first check that was made and failed is the first one whose
+-- `fails` is true
 pub first_failed-evaluated : (cs : List Check) → is_ordered [] cs ≡ true → first_failed (evaluated_after [] cs) ≡ first_failing cs
 first_failed-evaluated cs ordered = decides [] cs [] none_failed none_among ordered
 
@@ -186,8 +187,8 @@ other_one passed rows condition outcome other before x =
     ∙ sym (passed-on rows (row condition outcome) x)
 
 module _ (passed : List Condition) (c : Check) (cs : List Check) (rows : List EvaluatedCheck) where
-  -- if a check has the given outcome, the words of failed checks are those of the earlier rows, of this check and of
-  -- the rest
+  -- if the later checks add the result words `rest`, this check adds its own word before `rest`, provided that its
+  -- outcome is a failure
   words_by : (outcome : CheckOutcome) → row_after rows c ≡ row c.refusal.condition outcome → (rest : List Word)
       → failed_words (evaluated_after (rows ++ row c.refusal.condition outcome ∷ []) cs) ≡ failed_words (rows ++ row c.refusal.condition outcome ∷ []) ++ rest
       → failed_words (evaluated_after (rows ++ row_after rows c ∷ []) cs) ≡ failed_words rows ++ (failed_words (row c.refusal.condition outcome ∷ []) ++ rest)
@@ -236,7 +237,7 @@ same_none : ArePassedOnes [] []
 unfolding is_passed
 same_none x = refl
 
--- the words of the checks that were made and failed are those of the definition
+-- evaluating checks in sequence gives the failed checks the result words that `words_after` defines
 pub failed_words-evaluated : (cs : List Check) → failed_words (evaluated_after [] cs) ≡ words_after [] cs
 unfolding failed_words
 failed_words-evaluated cs = words_on cs [] [] same_none

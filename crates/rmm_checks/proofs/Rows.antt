@@ -1,5 +1,5 @@
--- Proofs that evaluating two lists of checks one after another is the same as evaluating their concatenation, and that
--- a check with an equal test or answer is evaluated equally.
+-- Proofs that evaluating two lists of checks in sequence is the same as evaluating their concatenation, and that a
+-- check's test or answer can be replaced by an equal one.
 use Rattle.std.proofs.Common.{◌≡◌, Bool, true, false, not, List, [], ◌∷◌, ◌++◌, Option, Some, None, is_none, is_some, refl, ap, subst, ◌∙◌}
 use Rattle.rmi_abi.specs.declared.registers.SmcResult.{SmcResult}
 use Rattle.rmm_model.specs.declared.condition.Condition.{Condition}
@@ -12,16 +12,16 @@ unfolding evaluated_after
 then rows [] ys = refl
 then rows (x ∷ xs) ys = then (rows ++ row_after rows x ∷ []) xs ys
 
--- evaluating two lists of checks one after another is evaluating their concatenation
+-- if two lists of checks are evaluated one after another, the result is the evaluation of their concatenation
 pub on : {r s t : List EvaluatedCheck} {xs ys : List Check} → Adds r xs s → Adds s ys t → Adds r (xs ++ ys) t
 on {r} {s} {t} {xs} {ys} first second = record { rows = second.rows ∙ ap (λ (now : List EvaluatedCheck). evaluated_after now ys) first.rows ∙ then r xs ys }
 
--- a check may be evaluated with an equal test in place of its own
+-- exchanging a check's test for an equal test does not change the evaluation of the check
 pub told : {r s : List EvaluatedCheck} {condition : Condition} {after : List Condition} {test fails : Bool} {answer : SmcResult} → test ≡ fails
     → Adds r (check condition after test answer ∷ []) s → Adds r (check condition after fails answer ∷ []) s
 told {r} {s} {condition} {after} {test} {fails} {answer} same added = subst (λ (b : Bool). Adds r (check condition after b answer ∷ []) s) same added
 
--- a check may be evaluated with an equal answer in place of its own
+-- exchanging a check's answer for an equal answer does not change the evaluation of the check
 pub told_answer : {r s : List EvaluatedCheck} {condition : Condition} {after : List Condition} {fails : Bool} {given answer : SmcResult} → given ≡ answer
     → Adds r (check condition after fails given ∷ []) s → Adds r (check condition after fails answer ∷ []) s
 told_answer {r} {s} {condition} {after} {fails} {given} {answer} same added = subst (λ (a : SmcResult). Adds r (check condition after fails a ∷ []) s) same added
@@ -30,7 +30,7 @@ told_answer {r} {s} {condition} {after} {fails} {given} {answer} same added = su
 pub from_none : {r s : List EvaluatedCheck} {xs : List Check} → r ≡ [] → Adds r xs s → s ≡ evaluated_after [] xs
 from_none {r} {s} {xs} none added = added.rows ∙ ap (λ (now : List EvaluatedCheck). evaluated_after now xs) none
 
--- a test that is false exactly when an option is present is the test that the option is absent
+-- if an option has a value exactly when `b` is false, `b` is `is_none` of the option
 pub none_told : {X : Type 0} (o : Option X) (b : Bool) → is_some o ≡ not b → b ≡ is_none o
 none_told None true h = refl
 none_told None false h = cc

@@ -101,7 +101,7 @@ pub made-sure : (cs : List Check) (after : List Condition) (n : ℕ) → is_made
 unfolding is_made
 made-sure cs after n h = list_all_more (is_passed (evaluated_after [] cs)) (sure n cs) (λ x passed. passed-sure cs x n passed) after h
 
--- a check is not made if one that it comes after fails
+-- a check is not made if some condition on which it depends is not sure to pass
 pub unmade : (cs : List Check) (after : List Condition) (n : ℕ) → list_all (sure n cs) after ≡ false → is_made (evaluated_after [] cs) after ≡ false
 unmade cs after n fails =
     ⊎_elim

@@ -1,4 +1,4 @@
--- Proofs that a check is evaluated as it is defined if its test and its answer agree with the definition whenever the
+-- Proofs that a check is evaluated as defined even if its test and its answer agree with the definition only when the
 -- check is made.
 use Rattle.std.specs.Prelude.{if◌then◌else◌}
 use Rattle.std.proofs.Common.{◌≡◌, ℕ, ◌==◌, ◌&&◌, ◌||◌, Bool, true, false, not, List, [], ◌∷◌, ◌++◌, ⊎_elim, refl, ap, sym, ◌∙◌}
@@ -41,7 +41,8 @@ one_made : (s : List EvaluatedCheck) (x : Condition) → is_made s (x ∷ []) �
 unfolding is_made
 one_made s x made = (and_parts (is_passed s x) true made).0
 
--- if a condition is passed only once its check is added, that check was made and its test is false
+-- if a condition is not passed before its check is added, but is passed afterwards, that check was made, and its test
+-- is false
 pub passed_here : {r s : List EvaluatedCheck} {x : Condition} {after : List Condition} {test : Bool} {answer : SmcResult}
     → is_passed r x ≡ false → Adds r (check x after test answer ∷ []) s → is_made s (x ∷ []) ≡ true → (is_made r after ≡ true) × (test ≡ false)
 unfolding evaluated_after
@@ -66,7 +67,7 @@ absent_on {r} {s} {y} {after} {test} {answer} x none other added =
     ∙ ap (λ (b : Bool). b || (condition_number y == condition_number x && is_pass (row_after r c).outcome)) none
     ∙ ap (λ (b : Bool). b && is_pass (row_after r c).outcome) other
 
--- a condition that passed after a check of another condition passed before that check
+-- if a condition is passed after a check of another condition is added, the condition was already passed before
 pub made_before : {r s : List EvaluatedCheck} {y : Condition} {after : List Condition} {test : Bool} {answer : SmcResult} (x : Condition)
     → (condition_number y == condition_number x) ≡ false → Adds r (check y after test answer ∷ []) s → is_made s (x ∷ []) ≡ true → is_made r (x ∷ []) ≡ true
 unfolding evaluated_after is_made
@@ -88,8 +89,8 @@ absent_in {r} cs x rows none = ap (λ (now : List EvaluatedCheck). is_passed now
 pub made_in : {r : List EvaluatedCheck} (cs : List Check) (after : List Condition) (n : ℕ) → r ≡ evaluated_after [] cs → is_made r after ≡ true → list_all (sure n cs) after ≡ true
 made_in {r} cs after n rows made = made-sure cs after n (ap (λ (now : List EvaluatedCheck). is_made now after) (sym rows) ∙ made)
 
--- if one check is the only one of its condition and is sure to pass, it does not fail, and what it depends on is sure
--- to pass
+-- if `sure` holds of a condition with a single check, the check does not fail, and `sure` holds of the conditions on
+-- which it depends
 pub sure_parts : (fails rest : Bool) → ((not fails && rest) || false) ≡ true → (fails ≡ false) × (rest ≡ true)
 sure_parts true rest h = (cc, cc)
 sure_parts false true h = (refl, refl)
@@ -112,7 +113,7 @@ before_list x (c ∷ cs) r others passed =
     ∙ sym (passed-on r (row_after r c) x)
     ∙ later
 
--- a condition that is passed after a list of checks of other conditions was passed before that list
+-- if a condition is passed after checks of other conditions are added, the condition was already passed before
 pub made_before_all : {r s : List EvaluatedCheck} {cs : List Check} (x : Condition) → Adds r cs s → are_others x cs ≡ true → is_made s (x ∷ []) ≡ true → is_made r (x ∷ []) ≡ true
 unfolding is_made
 made_before_all {r} {s} {cs} x added others made =

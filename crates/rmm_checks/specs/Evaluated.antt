@@ -23,7 +23,7 @@ is_pass _ = false
 unfoldable pub is_passed : List EvaluatedCheck → Condition → Bool
 is_passed rows condition = list_any (λ row. condition_number row.condition == condition_number condition && is_pass row.outcome) rows
 
--- for each of these conditions, a check was made and passed
+-- for each of the given conditions, a check was made and passed
 unfoldable pub is_made : List EvaluatedCheck → List Condition → Bool
 is_made rows after = list_all (is_passed rows) after
 
@@ -43,13 +43,13 @@ evaluated_after rows (c ∷ cs) = evaluated_after (rows ++ row_after rows c ∷ 
 abbrev pub evaluated : List Check → List EvaluatedCheck
 evaluated checks = evaluated_after [] checks
 
--- `after` has the checks of `before`, followed by these checks with their outcomes
+-- `after` has the checks of `before`, followed by the checks in `checks` with their outcomes
 pub record Adds (before : List EvaluatedCheck) (checks : List Check) (after : List EvaluatedCheck) : Type 0 where
   pub rows : after ≡ evaluated_after before checks
 
 -- ---- refusals
 
--- the refusal by a check if its outcome is a failure; otherwise `rest`
+-- the refusal by a check if its outcome is a failure, and otherwise the given later refusal, if any
 abbrev pub refusal_or : EvaluatedCheck → CheckOutcome → Option FailedCondition → Option FailedCondition
 refusal_or row (Failed answer) rest = Some (record { condition = row.condition; answer = answer })
 refusal_or row _ rest = rest

@@ -11,7 +11,8 @@ use Rattle.rmm_model.specs.Realm.{is_new}
 use Rattle.rmm_model.specs.Command.RecCreate.{all_aux, all_from, is_apart, can_be_aux}
 use Rattle.rmm_checks.specs.declared.rec_create.RecFacts.{RecFacts}
 
--- the facts about the REC parameters in a page, for a REC granule at an address
+-- the facts about the parameters of a new REC, given the bytes that hold the parameters and the address of the REC's
+-- granule
 abbrev pub facts_in : Machine → List ℕ → ℕ → RecFacts
 facts_in m page rec = record {
   has_count = num_aux_in page == m.settings.aux;
@@ -23,7 +24,7 @@ facts_in m page rec = record {
   number = rec_number (mpidr_in page);
 }
 
--- the checks of the auxiliary granules, given these facts
+-- the checks of a new REC's auxiliary granules, given the facts about the REC's parameters
 abbrev pub aux_rows : RecFacts → List Check
 aux_rows facts =
     check NumAux (ParamsPas ∷ []) (not facts.has_count) error_input
@@ -32,7 +33,8 @@ aux_rows facts =
     ∷ check AuxAlias (NumAux ∷ []) (not facts.are_apart) error_input
     ∷ check AuxState (AuxBound ∷ []) (not facts.are_delegated) error_input ∷ []
 
--- the checks of the MPIDR, the realm's state and the realm's number of RECs, given these facts
+-- the checks of a new REC's MPIDR, and of the realm's state and number of RECs, given the facts about the REC's
+-- parameters
 abbrev pub number_rows : RmmSettings → RmmRealm → RecFacts → List Check
 number_rows s realm facts =
     check ParamsValid (ParamsPas ∷ []) (not facts.is_mpidr) error_input

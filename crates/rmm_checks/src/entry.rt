@@ -1,5 +1,5 @@
-//! Checks on the translation table entries at which walks end, and functions for RMI_ERROR_RTT answers that have an
-//! address.
+//! Checks on the translation table entries at which walks end, and functions that make RMI_ERROR_RTT answers with an
+//! address in X1 or X2.
 ghost use Rattle.std.specs.Prelude.{◌≡◌, ◌+◌, ◌≤◌, ◌==◌, Bool, not, nat_le, true, false, [], ◌∷◌, length, is_some};
 ghost use Rattle.rmi_abi.specs.declared.registers.SmcResult.{SmcResult as Registers};
 ghost use Rattle.rmm_model.specs.declared.condition.Condition.TheVariants.{RttWalk as WalkEnds, RtteState};

@@ -19,7 +19,7 @@ pub enum CheckOutcome {
     Failed(SmcResult),
 }
 
-/// A check of an RMI call: its failure condition, and its outcome.
+/// The outcome of a check of an RMI call, with the check's failure condition.
 #[derive(Clone, Copy)]
 pub struct EvaluatedCheck {
     pub condition: Condition,

@@ -1,12 +1,13 @@
--- Lemmas on the test that one of several adjacent tables has a live entry: a table that has one makes the test succeed,
--- and otherwise the remaining tables decide.
+-- Proofs that one of several adjacent tables has a live entry if and only if the first table has one, or a table after
+-- it has one.
 use Rattle.std.proofs.Common.{◌≡◌, ℕ, suc, ◌+◌, ◌-◌, ◌<◌, ◌≤◌, ◌||◌, Bool, true, false, ap, ◌∙◌, arith}
 use Rattle.rmm_model.specs.Machine.{Machine, page_in}
 use Rattle.rmm_model.specs.Table.{has_live}
 use Rattle.rmm_model.specs.Command.RealmDestroy.{has_live_table}
 
 module _ (m : Machine) (first count k : ℕ) where
-  -- the test succeeds from table `first + k` on if that table has a live entry, or if the test succeeds after it
+  -- `has_live_table` holds from table `first + k` on if and only if that table has a live entry, or `has_live_table`
+  -- holds from the next table on
   by_table : (is : Bool) → k < count → has_live (page_in m (first + k)) ≡ is → has_live_table m (first + k) (count - k) ≡ (is || has_live_table m (first + (k + 1)) (count - (k + 1)))
   unfolding has_live_table
   by_table is lt tested =

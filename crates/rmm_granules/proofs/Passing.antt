@@ -1,10 +1,9 @@
--- Lemmas on the condition that consecutive numbers all pass a test: a number that fails makes it false, and otherwise
--- the remaining numbers decide.
+-- Proofs that consecutive numbers all pass a test if and only if the first passes and all numbers after it pass.
 use Rattle.std.proofs.Common.{◌≡◌, ℕ, suc, ◌+◌, ◌-◌, ◌<◌, ◌≤◌, ◌&&◌, Bool, true, false, ap, ◌∙◌, arith}
 use Rattle.rmm_model.specs.Command.RecCreate.{all_from}
 
 module _ (test : ℕ → Bool) (count k : ℕ) where
-  -- all numbers from `k` on pass if `k` passes and all numbers after it do
+  -- of the numbers below `count`, all from `k` on pass if and only if `k` and all numbers after `k` pass
   by_test : (is : Bool) → k < count → test k ≡ is → all_from test k (count - k) ≡ (is && all_from test (k + 1) (count - (k + 1)))
   unfolding all_from
   by_test is lt tested =

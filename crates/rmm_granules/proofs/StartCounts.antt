@@ -7,7 +7,7 @@ use Rattle.rmm_model.specs.Level.{entry_size}
 use Rattle.rmm_model.specs.Realm.{is_start, start_count}
 use Rattle.rmm_granules.proofs.Starts.{entry_size-positive}
 
--- four tests that hold together
+-- each of four Booleans is true
 pub record AllFour (a b c d : Bool) : Type 0 where
   pub first : a ≡ true
   pub second : b ≡ true
@@ -21,7 +21,7 @@ all_four a b c d h =
     let front = and_parts a b middle.0 in
     record { first = front.0; second = front.1; third = middle.1; fourth = last.1 }
 
--- a number is at most its quotient by `d`, rounded up, times `d`
+-- `n` divided by `d` and rounded up, times `d`, is at least `n`
 ceiling : (n d : ℕ) → 0 < d → n ≤ (n + (d - 1)) / d * d
 ceiling n d some =
     let whole = div-add-mod' (n + (d - 1)) d in

@@ -1,5 +1,5 @@
--- Proofs that the starting tables of realms lie in the machine: at first, when there is no realm, and after a granule
--- gets valid attributes.
+-- Proofs of the invariant that each realm's starting tables are in the machine: while all granules are UNDELEGATED, and
+-- after a granule gets new attributes. If the new attributes are an RD's, the RD's realm has to satisfy `IsServed`.
 use Rattle.std.proofs.Common.{◌≡◌, ◌≢◌, ℕ, ◌<◌, ◌≤◌, List, length, set, get_or, replicate, IfSome, sym, subst, ⊎_elim, arith}
 use Rattle.std.proofs.lemmas.Bool.{cases_eq, cases_lt}
 use Rattle.std.proofs.lemmas.List.{length-set, length-replicate, get_or-replicate, get_or_past, get_or-set_same, get_or-set_other}
@@ -25,7 +25,7 @@ HasTables-set granules g kept inside roots served = record {
       (cases_eq h g));
 }
 
--- each granule of a machine without realms reads as UNDELEGATED
+-- in a list of UNDELEGATED granules without owners, each number gives such a granule, also a number past the end
 undelegated : (count g : ℕ) → get_or (replicate count (of_no_realm Undelegated)) g (of_no_realm Undelegated) ≡ of_no_realm Undelegated
 undelegated count g =
     ⊎_elim
@@ -34,7 +34,7 @@ undelegated count g =
     (let len = length-replicate count (of_no_realm Undelegated) in omega arith))
     (cases_lt g count)
 
--- starting tables lie in the machine at the start, when there is no realm
+-- `HasTables` holds of granules that are all UNDELEGATED and of no realm, as there are no starting tables
 pub HasTables-replicate : (count : ℕ) → HasTables (replicate count (of_no_realm Undelegated))
 HasTables-replicate count = record {
   each = λ g. subst (λ (granule : RmmGranule). Served (length (replicate count (of_no_realm Undelegated))) granule) (sym (undelegated count g)) tt;

@@ -1,4 +1,4 @@
--- The machine that the fields of a Granules value represent, and the invariant of these fields.
+-- The machine that the fields of a `Granules` value represent, and the invariant of these fields.
 use Rattle.std.specs.Prelude.{◌≡◌, ℕ, ◌<◌, ◌≤◌, Bool, false, List, length, replicate}
 use Rattle.page_arena.specs.Page.{is_free}
 use Rattle.rmi_abi.specs.declared.settings.RmmSettings.{RmmSettings}
@@ -18,7 +18,7 @@ no_vmids = replicate 65536 false
 abbrev pub platform_machine : RmmSettings → List (List ℕ) → Machine
 platform_machine settings pages = machine_of settings (replicate (length pages) (of_no_realm Undelegated)) no_vmids pages
 
--- Each granule has a page that is taken in the store, and each realm's starting tables are in the machine. There are at
+-- For each granule a page of the page store is taken, and each realm's starting tables are in the machine. There are at
 -- most 4,096 granules, and a flag for each 16-bit VMID.
 pub record IsWhole (settings : RmmSettings) (granules : List RmmGranule) (vmids : List Bool) (pages : List (List ℕ)) (free : List Bool) : Type 0 where
   pub as_many : length granules ≡ length pages

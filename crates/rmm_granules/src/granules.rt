@@ -1,4 +1,4 @@
-//! Granules with their pages and attributes, and the set of VMIDs that realms use.
+//! Granules with their attributes and contents, and the set of VMIDs that realms use.
 ghost use Rattle.std.specs.Prelude.{◌≡◌, ◌≢◌, ◌+◌, ◌^◌, ◌<◌, ◌≤◌, false, length, replicate, slice_set, IfErr, IfOk, IfSome, IsTrue};
 ghost use Rattle.granule_addr.specs.Page.{page_of};
 ghost use Rattle.page_arena.specs.Word.{with_bytes, bytes_of_words, rising_word};
@@ -28,7 +28,7 @@ use std::marker::Model;
 // The number of 16-bit VMIDs.
 const VMIDS: u32 = 0x1_0000;
 
-/// The granules of a platform, with their attributes, their pages in a store, and the set of VMIDs that realms use.
+/// The granules of a platform: their attributes, their contents in a page store, and the set of VMIDs that realms use.
 #[derive(Drop)]
 pub struct Granules<S: PageStore> {
     platform: Platform,
@@ -84,8 +84,8 @@ fn rows(
 }
 
 impl<S: PageStore> Granules<S> {
-    /// Creates the granules of a platform, one for each page of a store. All granules are UNDELEGATED. An error returns
-    /// the store as it was.
+    /// Creates the granules of a platform, one for each page of a page store. All granules are UNDELEGATED. An error
+    /// returns the store as it was.
     pub fn open(
         alloc: Global,
         platform: Platform,
@@ -116,7 +116,7 @@ impl<S: PageStore> Granules<S> {
         self.platform.settings()
     }
 
-    /// Returns the platform that the granules belong to, with settings that are in range.
+    /// Returns the platform to which the granules belong. The settings of the platform are in range.
     pub fn platform(&self) -> &Platform
         ensures { result.now ≡ self.now.settings }
     {
@@ -256,7 +256,7 @@ impl<S: PageStore> Granules<S> {
         self.store.bytes(granule)
     }
 
-    /// Writes word `index` of a granule's page.
+    /// Writes word `index` of a granule.
     pub fn set_word(&mut self, granule: Gran, index: u16, word: u64)
         requires inside { granule < granule_count self.old }
         requires index { index < 512 }
@@ -267,7 +267,7 @@ impl<S: PageStore> Granules<S> {
         self.store.set_word(granule, index, word);
     }
 
-    /// Writes bytes into a granule's page, from an offset on.
+    /// Writes bytes into a granule, from an offset on.
     pub fn write(&mut self, granule: Gran, offset: u16, bytes: &[u8])
         requires inside { granule < granule_count self.old }
         requires fits { offset + length bytes.now ≤ 4096 }
@@ -279,7 +279,7 @@ impl<S: PageStore> Granules<S> {
         self.store.write(granule, offset, bytes);
     }
 
-    /// Fills a granule's page with 512 words that rise by `step` modulo 2^48.
+    /// Fills a granule with 512 words that rise by `step` modulo 2^48.
     ///
     /// Word k, counted from 0, is `kind + (first + k * step) % 2^48`.
     pub fn write_rising(&mut self, granule: Gran, kind: u64, first: u64, step: u64)
@@ -293,7 +293,7 @@ impl<S: PageStore> Granules<S> {
         self.store.write_rising(granule, kind, first, step);
     }
 
-    /// Writes one byte of a granule's page.
+    /// Writes one byte of a granule.
     pub fn set_byte(&mut self, granule: Gran, offset: u16, value: u8)
         requires inside { granule < granule_count self.old }
         requires offset { offset < 4096 }
@@ -304,7 +304,7 @@ impl<S: PageStore> Granules<S> {
             .set(granule, PageOff::new(offset).unwrap(), value);
     }
 
-    /// Writes one value to each byte of a granule's page.
+    /// Writes one value to each byte of a granule.
     pub fn fill(&mut self, granule: Gran, value: u8)
         requires { granule < granule_count self.old }
         ensures page { granule < length self.old.pages }
@@ -313,7 +313,7 @@ impl<S: PageStore> Granules<S> {
         self.store.fill(granule, value);
     }
 
-    /// Copies the page of `source` to the page of `target`. The two granules are different.
+    /// Copies the contents of granule `source` to granule `target`. The two granules are different.
     pub fn copy(&mut self, target: Gran, source: Gran)
         requires target { target < granule_count self.old }
         requires source { source < granule_count self.old }

@@ -1,5 +1,5 @@
-//! The attributes of a platform's granules, their pages in a store, and functions that the RMM's checks use. RMM 1.0,
-//! RMI.
+//! The granules of a platform: their attributes, their contents in a page store, and functions that the RMM's checks
+//! use. RMM 1.0, RMI.
 //!
 //! `Granules` is seen as a machine. Each call of it reads or writes one granule or VMID, and the contract says which in
 //! the words of `rmm_model`. So nothing above sees a store, its flags or its bytes. Memory is taken by `open` alone.

@@ -67,7 +67,7 @@ impl OperandConditions {
         state: Condition::RecGranState,
     };
 
-    /// The failure conditions on the address of the run page of RMI_REC_ENTER.
+    /// The failure conditions on the address of RMI_REC_ENTER's run page, which holds the entry and exit values.
     pub const RUN: OperandConditions = OperandConditions {
         align: Condition::RunAlign,
         bound: Condition::RunBound,

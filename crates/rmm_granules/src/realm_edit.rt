@@ -1,4 +1,4 @@
-//! Edits of realm attributes that commands and guests' steps make in place.
+//! Edits of a realm's attributes, made in place by commands and by steps of guests' programs.
 ghost use Rattle.std.specs.Prelude.{◌≡◌};
 ghost use Rattle.rmm_granules.specs.RealmEdits.{edited_realm};
 

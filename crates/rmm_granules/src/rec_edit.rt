@@ -1,4 +1,4 @@
-//! Edits of REC attributes that commands and guests' steps make in place.
+//! Edits of a REC's attributes, made in place by commands and by steps of guests' programs.
 ghost use Rattle.std.specs.Prelude.{◌≡◌};
 ghost use Rattle.rmm_granules.specs.RecEdits.{edited};
 
@@ -7,13 +7,14 @@ use rmm_model::{LastExit, PsciRequest, RipasRequest, RmmRec, RmmRecState};
 /// An edit of the attributes of a REC.
 #[derive(Clone, Copy)]
 pub enum RecEdit {
-    /// Sets the REC to RUNNING, with its run page at this address, no exit to complete and no results of its guest.
+    /// Sets the REC to RUNNING, with its run page at the given address, no exit to complete and no results of its
+    /// guest.
     Enter(u64),
     /// Sets the REC to READY after an exit.
     Leave(LastExit),
     /// Removes the first step from the queue of the guest's pending steps.
     PassStep,
-    /// Sets the number of steps in the queue of the guest's pending steps.
+    /// Sets the length of the queue of the guest's pending steps.
     Steps(u8),
     /// Adds one to the number of the guest's results, modulo 32.
     AddResult,

@@ -13,7 +13,7 @@ use rmi_abi::HashAlgorithm;
 use rmm_model::{RmmGranule, RmmGranuleState, RmmRealm, RmmRealmState, RmmRec};
 use std::marker::Model;
 
-/// The kind of a granule's state. RMM 1.0, RmmGranuleState.
+/// The kind of a granule's state, without the attributes of a realm or a REC. RMM 1.0, RmmGranuleState.
 #[derive(Clone, Copy)]
 pub(crate) enum GranuleKind {
     Undelegated,
@@ -25,7 +25,7 @@ pub(crate) enum GranuleKind {
     Rtt,
 }
 
-/// The record that `Granules` keeps of a granule, which contracts see as the granule's attributes.
+/// The record that `Granules` keeps of a granule, with the granule's attributes as its logical view.
 ///
 /// It has attributes of a REC and of a realm in addition to the kind of the state. Those that the kind does not have
 /// are left as they are. So a state without attributes is set by writing its kind and the owner. RMI_REC_ENTER reads

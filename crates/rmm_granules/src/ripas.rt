@@ -1,4 +1,4 @@
-//! The RTT entries whose RIPAS a command may change.
+//! Functions that return the kinds of RTT entries whose RIPAS a command may change.
 ghost use Rattle.std.specs.Prelude.{◌≡◌};
 ghost use Rattle.rmm_model.specs.Command.RttInitRipas as making;
 ghost use Rattle.rmm_model.specs.Command.RttSetRipas as setting;

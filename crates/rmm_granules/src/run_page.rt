@@ -1,4 +1,4 @@
-//! Checks of the host's flags and GIC fields in a run page. RMM 1.0, RMI_REC_ENTER.
+//! Checks of the flags and the GIC fields that the host gives in the run page of RMI_REC_ENTER. RMM 1.0, RMI_REC_ENTER.
 ghost use Rattle.std.specs.Prelude.{◌≡◌, length};
 ghost use Rattle.rmi_abi.specs.Gic.{is_gicv3_lr};
 ghost use Rattle.rmm_model.specs.Command.RecCreate.{all_from};
@@ -28,8 +28,8 @@ fn are_lrs(num_lrs: u8, page: &[u8]) -> bool
     true
 }
 
-/// Returns whether the settings require a check of a run page's GIC fields, and one of these has a value that a host
-/// may not set.
+/// Returns whether the GIC fields of a run page are refused: the settings require their check, and one has a value that
+/// a host may not set.
 #[tactic(auto, unfolding(rmm_model::specs::Command::RecEnter::is_gic_wrong))]
 pub fn refuses_gic(settings: &RmmSettings, page: &[u8]) -> bool
     requires { length page.now ≡ 4096 }

@@ -26,8 +26,8 @@ fn is_aligned_above(entry: RmmRttEntry, level: u8) -> bool
     !entry.is_mapping() || entry_offset(level - 1, entry.descriptor() / 4096 * 4096) == 0
 }
 
-/// Returns whether the entries of a translation table are the children of one non-TABLE entry of the level above.
-/// Whether that level allows blocks is not checked.
+/// Returns whether a table is homogeneous: its entries are the children that one non-TABLE entry of the level above
+/// would have. Whether that level allows blocks is not checked.
 #[tactic(auto, unfolding(rmm_model::specs::Command::RttFold::is_homogeneous))]
 pub fn is_homogeneous(page: &[u8], level: u8) -> bool
     requires page { length page.now ≡ 4096 }

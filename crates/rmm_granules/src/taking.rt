@@ -1,4 +1,4 @@
-//! A function that takes every free page of a store.
+//! A function that takes every free page of a page store, so that none is free afterwards.
 ghost use Rattle.std.specs.Prelude.{◌≡◌, ℕ, ◌<◌, false, length};
 ghost use Rattle.page_arena.specs.Page.{is_free};
 

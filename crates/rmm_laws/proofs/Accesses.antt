@@ -1,4 +1,5 @@
--- Proofs that a guest's access reaches a page of its realm or a page of the host outside the secure world.
+-- Proofs that a guest's access reaches only DATA granules of the guest's realm, and host pages outside the secure
+-- world.
 use Rattle.std.proofs.Common.{◌≡◌, ℕ, ◌+◌, ◌*◌, ◌/◌, ◌%◌, ◌^◌, ◌<◌, ◌≤◌, ◌-◌, ◌==◌, ◌&&◌, Bool, true, false, not, length, Option, Some, None, Result, Ok, Err, option_map, refl, sym, ap, subst, ◌∙◌, ⊎_elim, arith, ◌⊎◌, inl, inr}
 use Rattle.std.specs.Prelude.{if◌then◌else◌, IfSome, nat_le, nat_lt}
 use Rattle.std.proofs.lemmas.Bool.{cases_Bool, cases_lt, and_parts, le-leb, leb-true, lt-leb, not-true, cond-true, cond-false, cond_both, ltb-true, lt-ltb, not-false}
@@ -31,15 +32,15 @@ use Rattle.rmm_laws.proofs.Plain.{host_inside, host_plain}
 use Rattle.rmm_laws.proofs.Walks.{IsPlace, walk_ends, uses-entry, right, entry_index-few, entry_size-positive}
 use Rattle.rmm_laws.proofs.Writes.{taken_inside}
 
--- a granule is the page of the host at an address
+-- granule `h` contains an address of host memory, which is UNDELEGATED and outside the secure world
 abbrev pub IsHostAt : Machine → ℕ → Type 0
 IsHostAt m h = (address : ℕ) × (is_host_page m address ≡ true) × (h ≡ number_of m address)
 
--- a granule is memory of the machine, of a realm or of the host
+-- a granule of the machine is a DATA granule of the realm, or is UNDELEGATED
 abbrev pub IsPlainAt : Machine → ℕ → ℕ → Type 0
 IsPlainAt m rd h = (h < length m.granules) × (is_memory_state (granule_at m h).state ≡ true) × ((granule_at m h ≡ of_realm rd Data) ⊎ ((granule_at m h).state ≡ Undelegated))
 
--- an access reaches a page of the realm, or a page of the host at an address that the host can use
+-- a granule of the machine is DATA of the realm, or is UNDELEGATED and satisfies `IsHostAt`
 abbrev pub IsReached : Machine → ℕ → ℕ → Type 0
 IsReached m rd h = IsPlainAt m rd h × ((granule_at m h ≡ of_realm rd Data) ⊎ IsHostAt m h)
 
@@ -51,7 +52,8 @@ page_below level offset =
     cond_both (level == 2) (2 ^ 21) (if level == 1 then 2 ^ 30 else 2 ^ 39) (λ (s : ℕ). offset < s → offset / 4096 < s / 4096) (λ sure lt. omega arith) (λ never.
     cond_both (level == 1) (2 ^ 30) (2 ^ 39) (λ (s : ℕ). offset < s → offset / 4096 < s / 4096) (λ sure lt. omega arith) (λ never lt. omega arith)))
 
--- an offset from the beginning of a granule moves an address on by one granule for each 4,096 bytes
+-- an address that is `offset` bytes after the beginning of granule `first` has the granule number
+-- `first + offset / 4096`
 pub number_on : (m : Machine) (address first offset : ℕ) → address ≡ m.settings.base + first * 4096 → number_of m (address + offset) ≡ first + offset / 4096
 unfolding number_of
 number_on m address first offset is = omega arith
@@ -92,7 +94,7 @@ reached_normal m h sound at =
     ap (λ (k : ℕ). is_secure m (m.settings.base + k * 4096)) at.2 ∙ secure_page m address sound parts.0 ∙ not-true (is_secure m address) (and_parts (is_undelegated (state_at m address)) (not (is_secure m address)) parts.1).1
 
 module _ (m : Machine) (proper : IsLinked m) (rd : ℕ) (realm : RmmRealm) (is : (granule_at m rd).state ≡ Rd realm) (ipa : ℕ) where
-  -- the granule at an offset in a memory entry of the realm's table is one that an access can reach
+  -- the granule at an offset into the memory of an entry of the realm's table satisfies `IsReached`
   by_memory : (place : RttWalk) (i offset h : ℕ) (entry : RmmRttEntry) → IsPlace m proper rd ipa place → i < 512 → entry_in_page (page_in m place.table) i ≡ entry → LeadsInside m entry
       → is_memory entry ≡ true → offset < entry_size place.level → granule_named m (descriptor_of entry + offset) ≡ Some h → IsReached m rd h
   by_memory place i offset h (Assigned ripas address) place_is lt entry_is leads memory within named =
@@ -112,7 +114,7 @@ module _ (m : Machine) (proper : IsLinked m) (rd : ℕ) (realm : RmmRealm) (is :
       ((taken_inside m h (λ free. cc), ap is_memory_state is_data, inl there), inl there)
   by_memory place i offset h _ place_is lt entry_is leads memory within named = absurd (cc)
 
-  -- the granule that an access reaches, if it reaches any, is one that the realm's guest can reach
+  -- the result of an access is an error, or a granule that satisfies `IsReached`
   abbrev pub IsPlainIfOk : Result ℕ StepOutcome → Type 0
   IsPlainIfOk (Ok h) = IsReached m rd h
   IsPlainIfOk (Err outcome) = Unit {0}

@@ -1,5 +1,5 @@
--- A proof about the walks of one address in two machines: a relation holds of their ends if it holds both where the
--- walks end together and where they part.
+-- Proofs that a relation holds between the ends of an address's walks in two machines, if `IsMet` holds at each table
+-- that serves the address.
 use Rattle.std.proofs.Common.{◌≡◌, ℕ, zero, suc, ◌+◌, ◌-◌, ◌^◌, ◌<◌, ◌⊎◌, Option, Some, None, refl, sym, ap, subst, ⊎_elim, arith}
 use Rattle.std.specs.Option.{option_map_or}
 use Rattle.rmm_model.specs.declared.granule.RmmGranuleState.TheVariants.{Rd}
@@ -23,14 +23,14 @@ pub goes : (m : Machine) (x levels table : ℕ) (p : RttWalk) → table_below m 
 unfolding walk_from
 goes m x levels table p leads = ap (λ (o : Option ℕ). option_map_or (λ (t : ℕ). walk_from m x levels (record { table = t; level = p.level + 1 })) o p) leads
 
--- The relation `Q` holds of the ends of both walks, if each place of the walk is of one of two kinds. Either both walks
--- go on alike there and `Q` holds of that place, or `Q` holds of their ends from there. `Good` is a property of the
--- tables on the way.
+-- `Q` relates the ends of the walks of `x` in `m` and `n`, if each place on the way satisfies `IsMet`. From such a
+-- place, either both walks go on alike and `Q` relates the place to itself, or `Q` relates the ends of the walks.
+-- `Good` is a property of the tables on the way.
 module _ (m n : Machine) (linked : IsLinked m) (halves : HasHalves m) (rd x : ℕ) (realm : RmmRealm) (Good : ℕ → Type 0) (Q : RttWalk → RttWalk → Type 0) where
   abbrev child : RttWalk → ℕ → RttWalk
   child place table = record { table = table; level = place.level + 1 }
 
-  -- a place at which both walks go on alike
+  -- at place `p` the entries in both machines lead to the same `Good` table or to none, and `Q p p` holds
   pub record IsOn (p : RttWalk) : Type 0 where
     pub leads : table_below n (entry_at n p x) ≡ table_below m (entry_at m p x)
     pub good : (table : ℕ) → table_below m (entry_at m p x) ≡ Some table → Good table
@@ -66,8 +66,8 @@ module _ (m n : Machine) (linked : IsLinked m) (halves : HasHalves m) (rd x : �
       (λ (ends : (levels : ℕ) → p.level + levels ≡ 3 → Ends levels p). ends (suc levels) far)
       (each p seat good)
 
-  -- under the condition `Each`, `Q` holds of the ends of an address's walks, if the realm has the same starting tables
-  -- in both machines
+  -- if `Each` holds, the realm has the same starting tables in both machines, and that of `x` is `Good`, then `Q` holds
+  -- of the ends of the walks of `x`
   pub along : (after : RmmRealm) → after.start_level ≡ realm.start_level → after.first_table ≡ realm.first_table → (granule_at m rd).state ≡ Rd realm → x < 2 ^ realm.s2sz
       → Good (start_of realm x).table → Each → Q (walk m realm x 3) (walk n after x 3)
   unfolding walk start_of

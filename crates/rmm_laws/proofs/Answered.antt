@@ -55,7 +55,7 @@ entered : (leaves : Bool) → IsOwn (entered_answer leaves).word
 entered true = tt
 entered false = tt
 
--- the word of each command's own answer satisfies `IsOwn`
+-- the answer that a command gives if its checks pass has a word that satisfies `IsOwn`
 pub own : (call : Call) (m : Machine) → IsOwn (command_of call m).answer.word
 unfolding version features granule_delegate granule_undelegate realm_create realm_activate rec_aux_count rtt_read_entry rtt_create rtt_destroy realm_destroy rtt_fold rtt_map_unprotected rtt_unmap_unprotected data_create data_create_unknown data_destroy rtt_init_ripas rtt_set_ripas rec_create rec_destroy rec_enter psci_complete
 own (Version requested) m = tt
@@ -158,7 +158,8 @@ no_words seen (c ∷ cs) ok =
     (λ (unmade : list_all (is_among seen) c.after ≡ false). words_unmade seen c cs unmade ∙ no_words seen cs ok.1)
     (cases_Bool (list_all (is_among seen) c.after))
 
--- the word of the first check that fails is the first of the failed checks' words, and it refuses the call
+-- if `refuses` holds of the checks, the words that `words_after` gives begin with the first failing check's word, which
+-- is a refusal
 first_word : (seen : List Condition) (cs : List Check) (refusal : FailedCondition) → refuses seen cs ≡ true → first_failing cs ≡ Some refusal
     → (more : List Word) × (words_after seen cs ≡ refusal.answer.word ∷ more) × (is_refusal refusal.answer.word ≡ true)
 first_word seen [] refusal all is = absurd (cc)
@@ -176,7 +177,7 @@ first_word seen (c ∷ cs) refusal all is =
     (rest.0, words_passed seen c cs parts.1 passes ∙ rest.1, rest.2))
     (cases_Bool c.fails)
 
--- each word of the failed checks in a list is one that refuses the call
+-- if `refuses` holds of the checks, each word that `words_after` gives is a refusal
 each_word : (seen all : List Condition) (cs : List Check) (word : Word) → refuses all cs ≡ true → IsOneOf word (words_after seen cs) → is_refusal word ≡ true
 unfolding words_after
 each_word seen all [] word refuse is = absurd is
@@ -220,7 +221,7 @@ own_at : (f : Option FailedCondition) (command : Command) (m : Machine) → firs
 own_at (Some refusal) command m is all done = absurd (both_ways (is_refusal refusal.answer.word) done (first_word [] command.checks refusal all is).2)
 own_at None command m is all done = refl
 
--- a call that is not refused has its command's own answer and own machine
+-- a call that is not refused gives the answer and the machine of its command
 pub done_own : (call : Call) (m : Machine) → is_refusal (performed call m).0.word ≡ false → performed call m ≡ ((command_of call m).answer, (command_of call m).machine)
 unfolding performed
 done_own call m done = own_at (first_failing (command_of call m).checks) (command_of call m) m refl (all_refuse call m) done

@@ -1,5 +1,5 @@
--- Proofs that a queued step, an interrupt or a guest write changes only the REC that it concerns and the pages that it
--- writes.
+-- Proofs that an interrupt, a guest write or the queueing of a guest step changes only the REC concerned and the pages
+-- written.
 use Rattle.std.proofs.Common.{◌≡◌, ◌≢◌, ℕ, ◌+◌, ◌*◌, ◌/◌, ◌%◌, ◌^◌, ◌⊎◌, inl, inr, List, Option, Result, Ok, Err, unwrap_or, refl, sym, ap, subst, ◌∙◌, ⊎_elim}
 use Rattle.std.specs.Prelude.{nat_lt}
 use Rattle.std.proofs.lemmas.Bool.{and_parts, both_ways, cases_eq, cond_both}

@@ -106,7 +106,7 @@ module _ (g : ℕ) (P : RipasRequest → Type 0) where
   asks_passed m (IsExit exit last) asks = cond_both _ m _ Asks (λ sure. asks) (λ never. asks_past m asks)
   asks_passed m Spins asks = asks_past m asks
 
--- what holds of the request of the REC in granule `g` holds of the request of `rec`, if `rec` is in `g`
+-- if `Asks g P m` holds and `rec` is the REC in granule `g`, then `P` holds of the RIPAS request of `rec`
 holds_of : (g : ℕ) (P : RipasRequest → Type 0) (m : Machine) (rec : RmmRec) → Asks g P m → (granule_at m g).state ≡ IsRec rec → P rec.ripas
 holds_of g P m rec asks is = subst (λ (r : RmmRec). P r.ripas) (same_rec (sym asks.1 ∙ is)) asks.2
 
@@ -137,8 +137,8 @@ nothing_asked m g address flags rec left is =
     holds_of g IsNone (with_host_answer k g (rec_in m g).exit page flags) rec
     (subst (λ (last : LastExit). Asks g IsNone (with_host_answer k g last page flags)) (sym left) answered) is
 
--- an entry that answers an exit other than a RIPAS change keeps the RIPAS request at granule `g`, whether the granule
--- is a REC or not
+-- The writes by which the REC in granule `g` is entered keep the REC's RIPAS request, if the last exit was no RIPAS
+-- change. If no REC is in `g`, the request is taken from `no_rec`.
 module _ (g : ℕ) (asked : RipasRequest) where
   abbrev Tells : Machine → Type 0
   Tells m = (rec_in m g).ripas ≡ asked
@@ -245,7 +245,7 @@ with_steps : (s : RmmGranuleState) → ((unwrap_or (rec_of s) no_rec).step_count
 with_steps (IsRec rec) some = refl
 with_steps _ some = absurd (cc)
 
--- what a REC asks for after a step of its guest is what it asked for before, or what the step asks for
+-- after a step of its guest, a REC has the RIPAS request that it had before, or the one that the step asks for
 pub asked_by_step : (m : Machine) (g flags : ℕ) (rec : RmmRec) → (granule_at (after_first_step m g flags) g).state ≡ IsRec rec → (rec.ripas ≡ (rec_in m g).ripas) ⊎ IsAskedFor m g rec.ripas
 unfolding after_first_step
 asked_by_step m g flags rec =

@@ -73,7 +73,7 @@ module _ (G : ℕ → ℕ → ℕ → Option Used) (S T : ℕ → Used) (t i g :
 
 -- ---- pages of levels
 
--- an entry has 512 times the pages of an entry one level down, which has at least one page and at most 2^30 bytes
+-- an entry has 512 times the pages of an entry one level down; the latter has at least one page, and at most 2^30 bytes
 pub sizes : (l : ℕ) → l ≤ 2 → (entry_size (l + 1) ≡ page_count (l + 1) * 4096) × (page_count l ≡ 512 * page_count (l + 1)) × (0 < page_count (l + 1)) × (entry_size (l + 1) ≤ 2 ^ 30)
 unfolding entry_size
 sizes zero few = (refl, refl, omega arith, omega arith)
@@ -113,7 +113,7 @@ module _ (m : Machine) (proper : IsLinked m) (rd ipa : ℕ) (place : RttWalk) (e
   pub block_end : (k : ℕ) → page_count l ≤ k → entry_uses m (Some rd) l (Assigned ripas a) k ≡ None
   block_end k past = cond-false _ _ _ (le-ltb k (page_count l) past)
 
-  -- the memory of child `j` begins `j` times a child's number of pages into the block's memory
+  -- the memory of child `j` begins after the pages of `j` children, counted from the beginning of the block's memory
   module _ (begin : IsBegin m a) (j : ℕ) where
     abbrev child : ℕ
     child = a + j * entry_size (l + 1)

@@ -104,7 +104,7 @@ length-children (AssignedNs desc) level = length-with_words (λ (k : ℕ). entry
 length-children (Table address) level = length-with_words (λ (k : ℕ). entry_word (child_entry (Table address) level k)) zero_page (length-page_of 0) 512 (lit≤ tt)
 length-children (Assigned ripas address) level = length-with_words (λ (k : ℕ). entry_word (child_entry (Assigned ripas address) level k)) zero_page (length-page_of 0) 512 (lit≤ tt)
 
--- word `j` of a page of children is the word of child `j`
+-- in the table into which an entry is unfolded, word `j` is the word of child `j`
 pub children_word : (whole : RmmRttEntry) (level j : ℕ) → j < 512 → word_of_page (children_page whole level) j ≡ entry_word (child_entry whole level j)
 unfolding children_page entry_word
 children_word (Unassigned Empty) level j lt = word_of_page-page_of 0 j lt

@@ -1,5 +1,5 @@
--- Proofs that calls, stores, fills, queued steps and interrupts change the bytes at protected addresses only as
--- `KeepsContents` allows.
+-- Proofs that calls, stores, fills, interrupts and the queueing of guest steps change the bytes at protected addresses
+-- only as `KeepsContents` allows.
 use Rattle.std.proofs.Common.{◌≡◌, ◌≢◌, ℕ, ◌+◌, ◌-◌, ◌*◌, ◌/◌, ◌%◌, ◌^◌, ◌<◌, ◌≤◌, ◌⊎◌, ◌==◌, ◌&&◌, inl, inr, Bool, true, false, List, length, Option, Some, None, Ok, option_map, refl, sym, ap, subst, ◌∙◌, ⊎_elim, arith}
 use Rattle.std.proofs.lemmas.Bool.{and_from, and_left, and_parts, and_right, both_ways, cases_eq, cond-false, cond-true, cond_both, eqb-true, le-leb, lt-ltb, ltb-true}
 use Rattle.std.proofs.lemmas.Nat.{mod_below}
@@ -83,14 +83,15 @@ inside_by : (m : Machine) (a : ℕ) → m.settings.base ≤ a → number_of m a 
 unfolding is_inside number_of
 inside_by m a low few = and_from _ _ (le-leb m.settings.base a low) (lt-ltb ((a - m.settings.base) / 4096) (length m.granules) few)
 
--- an entry of a table uses the granule at a location, as a page of the realm of an RD
+-- part `k` of entry `i` of a table uses granule `g` as a DATA granule of the realm with RD `rd`
 pub record IsUsedAt (m : Machine) (proper : IsProper m) (rd g table i k : ℕ) : Type 0 where
   pub number : ℕ
   pub at : g ≡ number
   pub gives : uses m proper.linked.level table i k ≡ Some (used Data (Some rd) 0 number)
 
 module _ (m : Machine) (proper : IsProper m) (rd : ℕ) (realm : RmmRealm) (is : (granule_at m rd).state ≡ Rd realm) (x : ℕ) (protected : is_protected realm x ≡ true) (at : Location) where
-  -- an entry of the protected half that leads to a page of the realm
+  -- location `at` is `offset` bytes into the memory of `e`, and entry `i` of the table at `place` uses the location's
+  -- granule as DATA
   pub record IsMapping (place : RttWalk) (i offset : ℕ) (e : RmmRttEntry) : Type 0 where
     pub ripas : RmmRipas
     pub address : ℕ
@@ -180,7 +181,7 @@ content_place : (m : Machine) (o : Option Location) (page : List ℕ) → conten
 content_place m (Some at) page is = (at, refl, same_page is)
 content_place m None page is = absurd (cc)
 
--- a guest reads the bytes of the page that its address leads to
+-- a guest that reads a protected address with RIPAS RAM gets bytes of the page to which the address leads
 pub read_content : (m : Machine) (rd g flags ipa : ℕ) (size : AccessSize) (realm : RmmRealm) (page : List ℕ) → IsProper m → (granule_at m rd).state ≡ Rd realm → is_protected realm ipa ≡ true
     → content_at m realm ipa ≡ Some page → ripas_at m realm ipa ≡ Ram → step_outcome m realm g flags (Read ipa size) ≡ IsResult (IsRead (value_in page size ipa))
 unfolding step_outcome
@@ -190,7 +191,7 @@ read_content m rd g flags ipa size realm page proper is protected content ram =
 
 -- ---- addresses that lead to the location that they led to
 
--- pages of data of the realm of an RD are as they were, or DELEGATED
+-- each DATA granule of the realm with the given RD is as it was, or is DELEGATED
 abbrev pub KeepsDataOf : Machine → Machine → ℕ → Type 0
 KeepsDataOf m n rd = (g : ℕ) → granule_at m g ≡ of_realm rd Data → IsSameAt m n g ⊎ ((granule_at n g).state ≡ Delegated)
 
@@ -290,7 +291,8 @@ unknown_bytes rd page ipa m proper ok =
       page_content m t (number_of m page) (of_realm r Data) zero_page _ proper table free,
     )
 
--- if a call gives or takes the location of an address, it gives or takes the bytes at the address accordingly
+-- if a call may change an address's location from `old` to `new`, it may change the address's bytes from those at `old`
+-- to those at `new`
 moved_content : (call : Call) (m : Machine) → IsProper m → Passed (command_of call m).checks → Touches (touches_host call) m (command_of call m).machine (named_realm m call) → (rd x : ℕ) (old new : Option Location) → IsLocationGiven m (Some call) rd x old new
     → IsContentGiven m (Some call) rd x (content_of m old) (content_of (command_of call m).machine new)
 moved_content (DataCreate of page at source flags) m proper ok touches rd x old new given =
@@ -309,8 +311,8 @@ moved_content _ m proper ok touches rd x old new given = absurd given
 
 -- ---- each call
 
--- a call leaves a realm's data pages as they were or DELEGATED, or it may change the bytes at the address, as
--- RMI_REC_ENTER may for a REC of the realm
+-- a call keeps the data pages of a realm as `KeepsDataOf` says, or it enters a REC of the realm and may change the
+-- bytes at any address
 data_or_entered : (call : Call) (m : Machine) (rd x : ℕ) (old new : Option (List ℕ)) → IsProper m → Passed (command_of call m).checks → Touches (touches_host call) m (command_of call m).machine (named_realm m call)
     → KeepsDataOf m (command_of call m).machine rd ⊎ IsContentGiven m (Some call) rd x old new
 data_or_entered (RecEnter rec run) m rd x old new proper ok touches =

@@ -1,5 +1,5 @@
--- Proofs that calls, stores, fills, steps and interrupts change a property of protected addresses, such as RIPAS, only
--- as a given relation allows.
+-- Proofs that calls, stores, fills, interrupts and the queueing of guest steps change a property of protected
+-- addresses, such as RIPAS, only as a given relation allows.
 use Rattle.std.proofs.Common.{◌≡◌, ℕ, ◌/◌, ◌%◌, ◌<◌, ◌⊎◌, ◌==◌, inl, Bool, true, false, List, length, Option, Some, None, refl, sym, ap, subst, ◌∙◌, ⊎_elim, arith}
 use Rattle.std.proofs.lemmas.Bool.{cond_both, and_parts}
 use Rattle.std.proofs.lemmas.List.{length-set}
@@ -46,7 +46,7 @@ use Rattle.rmm_laws.proofs.Writes.{granule_at-same}
 use Rattle.rmm_laws.proofs.KeptTables.{read_at, IsRead}
 use Rattle.rmm_laws.proofs.ReadCalls.{ReadsSo, tables_read, none_read, rd_read}
 
--- a call acts on entries or tables of a realm
+-- a call is an RMI_RTT or RMI_DATA command, except RMI_RTT_READ_ENTRY; these change entries or tables of a realm
 abbrev pub is_acting : Call → Bool
 is_acting (RttCreate of rtt ipa level) = true
 is_acting (RttDestroy of ipa level) = true
@@ -60,7 +60,7 @@ is_acting (DataCreateUnknown of page ipa) = true
 is_acting (DataDestroy of ipa) = true
 is_acting _ = false
 
--- the address of the RD of the realm on whose entries or tables a call acts; 0 for any other call
+-- the address of the RD that a call names, if `is_acting` holds of the call; 0 for any other call
 abbrev pub target_of : Call → ℕ
 target_of (RttCreate of rtt ipa level) = of
 target_of (RttDestroy of ipa level) = of
@@ -94,7 +94,8 @@ destroyed_no_rd _ m rd after count ok gone is = gone
 -- `F` gives the value that is read at an address, from the entry and its level; `G` relates the values before and after
 -- a call that may change them
 module _ (x : ℕ) (A : Type 0) (F : RmmRttEntry → ℕ → A) (G : Machine → Option Call → ℕ → A → A → Type 0) where
-  -- In each realm before and after a call, a protected address reads the same, or as `G` allows for the call.
+  -- In each realm that exists before and after a call, the value read at a protected address is the same, or `G` allows
+  -- the new one for the call.
   abbrev pub KeepsRead : Machine → Option Call → Machine → Type 0
   KeepsRead m call n =
       (rd : ℕ) (before after : RmmRealm) → (granule_at m rd).state ≡ Rd before → (granule_at n rd).state ≡ Rd after → is_protected before x ≡ true

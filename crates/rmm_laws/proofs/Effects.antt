@@ -133,7 +133,7 @@ left_then m rec run success =
 abbrev HasMeasured : Machine → Machine → Call → ℕ → Type 0
 HasMeasured m n call rd = (rim : List ℕ) × HasRim n rd rim × IsMeasured m (Some call) rd rim
 
--- a granule that is written as an RD has the RIM of the written realm
+-- writing the RD of a realm to a granule makes the granule the RD of a realm with the same RIM
 has_rim : (k : Machine) (g : ℕ) (realm : RmmRealm) → g < length k.granules → HasRim (with_granule k g (of_no_realm (Rd realm))) g realm.rim
 has_rim k g realm inside = (realm, ap (λ (r : RmmGranule). r.state) (granule_at-same k g (of_no_realm (Rd realm)) inside), refl)
 

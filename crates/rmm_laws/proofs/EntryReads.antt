@@ -37,7 +37,7 @@ entry_between l few =
     level_cases (λ (k : ℕ). (ipa x : ℕ) → ipa % entry_size k ≡ 0 → x / entry_size k ≡ ipa / entry_size k → IsBetween ipa (ipa + entry_size k) x)
     (λ ipa x begins same. (omega arith, omega arith)) (λ ipa x begins same. (omega arith, omega arith)) (λ ipa x begins same. (omega arith, omega arith)) (λ ipa x begins same. (omega arith, omega arith)) l few
 
--- The machines may differ in entries of the table at which the walk of `ipa` ends.
+-- Machines `m` and `n` have the same settings; entries of the table at which the walk of `ipa` ends may differ.
 module _ (m n : Machine) (proper : IsProper m) (settings : n.settings ≡ m.settings) (count : length n.granules ≡ length m.granules) (rd ipa level : ℕ) (realm : RmmRealm)
     (is : (granule_at m rd).state ≡ Rd realm) (within : ipa < 2 ^ realm.s2sz) where
   abbrev found : RttWalk
@@ -46,7 +46,8 @@ module _ (m n : Machine) (proper : IsProper m) (settings : n.settings ≡ m.sett
   abbrev at : ℕ
   at = entry_index (walk m realm ipa level).level ipa
 
-  -- if a walk of `x` reaches this table, the table's entry at the walk's index covers `x`
+  -- a walk of `x` that comes to the last table of the walk of `ipa` has the same level there, and the entry at the
+  -- index of `x` covers `x`
   pub covered : (x : ℕ) (p : RttWalk) → IsSeat m proper.linked proper.ordered.halves rd x realm p → p.table ≡ (walk m realm ipa level).table
       → (p.level ≡ (walk m realm ipa level).level) × (x / entry_size (walk m realm ipa level).level ≡ ipa / entry_size (walk m realm ipa level).level / 512 * 512 + entry_index p.level x)
   covered x p seat here =
@@ -59,8 +60,7 @@ module _ (m n : Machine) (proper : IsProper m) (settings : n.settings ≡ m.sett
   -- `F` gives the value that is read at an address, from the entry and its level; `G` relates an old value to a new one
   -- that is allowed
   module _ (x : ℕ) (A : Type 0) (F : RmmRttEntry → ℕ → A) (G : A → A → Type 0) where
-    -- entry `j` is as it was, or it leads to no table before and after, and reads as `IsReadAs` allows if it covers the
-    -- address
+    -- entry `j` is as it was, or is no TABLE before and after and satisfies `IsReadAs` if the entry covers the address
     abbrev pub IsChanged : ℕ → Type 0
     IsChanged j =
         (entry_in_page (page_in n (walk m realm ipa level).table) j ≡ entry_in_page (page_in m (walk m realm ipa level).table) j)
@@ -107,7 +107,8 @@ module _ (m n : Machine) (proper : IsProper m) (settings : n.settings ≡ m.sett
           (λ (other : p.table ≢ found.table). met_same p (ap (λ (q : List ℕ). entry_in_page q (entry_index p.level x)) (others p.table seat.is.table other)))
           (cases_eq p.table found.table)
 
-      -- the walk of the address ends at the same place in both machines, where it reads as `IsReadAs` allows
+      -- If each entry of the table satisfies `IsChanged`, the walk of the address ends at the same place in both
+      -- machines, at entries that satisfy `IsReadAs`. The realm's other tables have the same pages.
       pub changed : (after : RmmRealm) → after.start_level ≡ realm.start_level → after.first_table ≡ realm.first_table → x < 2 ^ realm.s2sz → Q (walk m realm x 3) (walk n after x 3)
       changed after start first inside = along m n proper.linked proper.ordered.halves rd x realm (λ table. Unit {0}) Q after start first is inside tt met
 
@@ -117,8 +118,8 @@ module _ (m n : Machine) (proper : IsProper m) (settings : n.settings ≡ m.sett
           let both = changed after start first inside in
           subst (λ (q : RttWalk). (F (entry_at n q x) q.level ≡ read_at A F m realm x) ⊎ G (read_at A F m realm x) (F (entry_at n q x) q.level)) (sym both.0) both.1
 
-    -- writing one entry changes each entry only as `IsChanged` allows, if neither the old entry nor the new one is a
-    -- table, and the new one reads as `IsReadAs` allows
+    -- replacing one entry satisfies `IsChanged` at each index, if neither entry is a TABLE, and both satisfy `IsReadAs`
+    -- when they cover the address
     pub one_changed : (e : RmmRttEntry) → entry_in_page (page_in n (walk m realm ipa level).table) (entry_index (walk m realm ipa level).level ipa) ≡ e
         → ((j : ℕ) → j < 512 → j ≢ entry_index (walk m realm ipa level).level ipa → entry_in_page (page_in n (walk m realm ipa level).table) j ≡ entry_in_page (page_in m (walk m realm ipa level).table) j)
         → is_table (entry_at m (walk m realm ipa level) ipa) ≡ false → is_table e ≡ false
@@ -186,7 +187,7 @@ range_between l few =
     (λ base top x place first j count begins at covers low high below. (omega arith, omega arith))
     l few
 
--- an address in an entry whose RIPAS is changed is in the range
+-- an address in an entry whose RIPAS is changed is at or above `base` and below `top`
 pub in_range : (m : Machine) (changeable : Changeable) (found : RttWalk) (base top x j : ℕ) → found.level ≤ 3 → base % entry_size found.level ≡ 0
     → x / entry_size found.level ≡ base / entry_size found.level / 512 * 512 + j → entry_index found.level base ≤ j → j < entry_index found.level base + change_count m changeable found base top → IsBetween base top x
 in_range m changeable found base top x j few begins covers low high =

@@ -368,7 +368,7 @@ module _ (m : Machine) (rd rtt ipa level : ℕ) (proper : IsProper m) (ok : Pass
         (cases_eq g x);
   }
 
-  -- the entry can replace the table
+  -- the entry that RMI_RTT_CREATE replaced satisfies `CanReplaceTable`
   stand_is : CanReplaceTable m parent level
   unfolding entry_at
   stand_is =

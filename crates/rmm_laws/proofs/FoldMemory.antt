@@ -34,7 +34,8 @@ use Rattle.rmm_laws.proofs.Walks.{entry_index-few}
 
 -- ---- children
 
--- the descriptor of a child has 48 bits
+-- if a descriptor is below 2^48 and its memory is aligned to an entry one level up, the descriptor of each child is
+-- below 2^48
 fits_below : (l : ℕ) → 1 ≤ l → l ≤ 3 → (d j : ℕ) → d < 2 ^ 48 → d / 4096 * 4096 % entry_size (l - 1) ≡ 0 → j < 512 → d + j * entry_size l < 2 ^ 48
 unfolding entry_size
 fits_below zero least few d j fits begins lt = absurd (omega arith)
@@ -43,7 +44,7 @@ fits_below (suc (suc zero)) least few d j fits begins lt = omega arith
 fits_below (suc (suc (suc zero))) least few d j fits begins lt = omega arith
 fits_below (suc (suc (suc (suc l)))) least few d j fits begins lt = absurd (omega arith)
 
--- the child that covers an address leads it to the same memory
+-- the child that covers an address maps the address to the same memory as the unfolded entry does
 same_place : (l : ℕ) → 1 ≤ l → l ≤ 3 → (d x : ℕ)
     → ((d + entry_index l x * entry_size l) / 4096 * 4096 + x % entry_size l ≡ d / 4096 * 4096 + x % entry_size (l - 1)) × ((d + entry_index l x * entry_size l) % 4096 ≡ d % 4096)
 unfolding entry_size entry_index
@@ -53,7 +54,8 @@ same_place (suc (suc zero)) least few d x = (omega arith, omega arith)
 same_place (suc (suc (suc zero))) least few d x = (omega arith, omega arith)
 same_place (suc (suc (suc (suc l)))) least few d x = absurd (omega arith)
 
--- an entry's descriptor is below 2^48, and the memory of a mapping begins at a multiple of the entry size one level up
+-- an entry's descriptor is below 2^48 and, if the entry is a mapping, its memory begins at a multiple of the entry size
+-- one level up
 abbrev IsWhole : RmmRttEntry → ℕ → Type 0
 IsWhole e l = (descriptor_of e < 2 ^ 48) × (is_mapping e ≡ true → descriptor_of e / 4096 * 4096 % entry_size (l - 1) ≡ 0)
 

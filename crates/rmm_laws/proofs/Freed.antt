@@ -1,4 +1,5 @@
--- Proofs that the granules that RTT_DESTROY, RTT_FOLD, DATA_DESTROY and REC_DESTROY remove become DELEGATED and zero.
+-- Proofs that a granule becomes DELEGATED and zero when RTT_DESTROY, RTT_FOLD, DATA_DESTROY or REC_DESTROY removes it
+-- from its realm.
 use Rattle.std.proofs.Common.{◌≡◌, ◌≢◌, ℕ, ◌+◌, ◌-◌, ◌^◌, ◌<◌, ◌≤◌, ◌&&◌, List, [], ◌∷◌, Bool, true, false, not, length, Option, Some, None, unwrap_or, refl, sym, ap, subst, ◌∙◌, ⊎_elim, arith}
 use Rattle.std.specs.Prelude.{nat_le, is_some}
 use Rattle.std.proofs.lemmas.Bool.{cases_Bool, and_parts, both_ways, eqb-true, leb-true, ltb-true, not-true, cond-true, cond-false}
@@ -42,7 +43,7 @@ use Rattle.rmm_laws.proofs.Writes.{granule_at-same, granule_at-other, page_in-sa
 
 -- ---- commands that succeed
 
--- no check is refused with RMI_SUCCESS
+-- no check of a list refuses with RMI_SUCCESS
 abbrev pub none_succeeds : List Check → Bool
 none_succeeds [] = true
 none_succeeds (c ∷ cs) = not (is_success c.refusal.answer.word) && none_succeeds cs
@@ -61,7 +62,8 @@ refusal_fails (c ∷ cs) refusal none is =
     (λ (passes : c.fails ≡ false). refusal_fails cs refusal parts.1 (sym (cond-false c.fails (Some c.refusal) (first_failing cs) passes) ∙ is))
     (cases_Bool c.fails)
 
--- a command that succeeds has passed its checks, and has its own answer and its own machine
+-- if no check of a command refuses with RMI_SUCCESS and the command succeeds, all checks pass, and the outcome is the
+-- command's answer and machine
 success_at : (P : Type 0) (f : Option FailedCondition) (command : Command) (m : Machine) → none_succeeds command.checks ≡ true → first_failing command.checks ≡ f → (decided f command m).0.word ≡ Success
     → (Passed command.checks → decided f command m ≡ (command.answer, command.machine) → P) → P
 success_at P (Some refusal) command m none is success then_do = absurd (both_ways (is_success refusal.answer.word) (refusal_fails command.checks refusal none is) (ap is_success success))
@@ -74,7 +76,8 @@ succeeded P call m none success then_do = success_at P (first_failing (command_o
 
 -- ---- what comes back
 
--- a granule that is blanked becomes DELEGATED and zero, and each other granule keeps its attributes
+-- after the contents of granule `t` are written and granule `g` is wiped, `g` is DELEGATED and zero, and each other
+-- granule keeps its attributes
 blanked : (m : Machine) (g t rd : ℕ) (page : List ℕ) (address : ℕ) → IsSound m → g < length m.granules → g ≡ number_of m address
     → (granule_at (with_blank (with_page m t page) g Delegated) (number_of m address) ≡ of_no_realm Delegated) × (page_in (with_blank (with_page m t page) g Delegated) (number_of m address) ≡ zero_page)
     × ((x : ℕ) → x ≢ number_of m address → granule_at (with_blank (with_page m t page) g Delegated) x ≡ granule_at m x)

@@ -103,7 +103,7 @@ module _ (m n : Machine) (proper : IsProper m) (rd ipa level : ℕ) (realm : Rmm
 
 -- ---- commands
 
--- if the entry that a command leaves in a table is not live, the entry at the end of the walk is not live
+-- the entry at the end of a walk is not live, if it equals an entry `left` that is not live
 left_at : (n : Machine) (found : RttWalk) (ipa : ℕ) (left : RmmRttEntry) → entry_in_page (page_in n found.table) (entry_index found.level ipa) ≡ left → is_live left ≡ false → is_live (entry_at n found ipa) ≡ false
 unfolding entry_at
 left_at n found ipa left is dead = ap is_live is ∙ dead
@@ -111,7 +111,8 @@ left_at n found ipa left is dead = ap is_live is ∙ dead
 left_dead : (realm : RmmRealm) (ipa : ℕ) → is_live (left_entry realm ipa) ≡ false
 left_dead realm ipa = cond_both (is_protected realm ipa) _ _ (λ (e : RmmRttEntry). is_live e ≡ false) (λ sure. refl) (λ never. refl)
 
--- what holds of a command's own answer and machine if its checks passed holds of the result of a call that succeeds
+-- if a call succeeds, `P` holds of its result, provided that `P` holds of the command's answer and machine once all
+-- checks pass
 finished : (P : SmcResult × Machine → Type 0) (call : Call) (m n : Machine) (answer : SmcResult) → none_succeeds (command_of call m).checks ≡ true → performed call m ≡ (answer, n) → answer.word ≡ Success
     → (Passed (command_of call m).checks → P ((command_of call m).answer, (command_of call m).machine)) → P (answer, n)
 finished P call m n answer none is success then_do =

@@ -1,4 +1,4 @@
--- Proofs that the addresses of a page that DATA_CREATE or DATA_CREATE_UNKNOWN maps lead to that page.
+-- Proofs that the addresses at which DATA_CREATE or DATA_CREATE_UNKNOWN maps a page lead to that page.
 use Rattle.std.proofs.Common.{◌≡◌, ◌≢◌, ℕ, ◌/◌, ◌%◌, ◌^◌, ◌<◌, ◌≤◌, true, false, List, length, None, refl, sym, ap, subst, ◌∙◌, inr, arith}
 use Rattle.std.proofs.lemmas.Bool.{eqb-true}
 use Rattle.std.proofs.lemmas.List.{length-set}
@@ -65,7 +65,7 @@ module _ (m n : Machine) (proper : IsProper m) (settings : n.settings ≡ m.sett
       let entry = now x RmmRipas (λ f l. ripas_in f) (λ r was now. Unit {0}) m n proper settings count rd ipa 3 realm is within least others e page before leaf in
       (same ∙ there, ap (λ (j : ℕ). entry_in_page (page_in n found.table) j) index ∙ entry)
 
--- A DELEGATED granule becomes a page of a realm, to which an entry of level 3 leads.
+-- A DELEGATED granule becomes a data page of a realm, to which an entry of level 3 leads.
 module _ (m n : Machine) (proper : IsProper m) (settings : n.settings ≡ m.settings) (count : length n.granules ≡ length m.granules) (rd page ipa : ℕ)
     (is : (granule_at m (number_of m rd)).state ≡ Rd (realm_at m rd)) (protected : is_protected (realm_at m rd) ipa ≡ true) (free : state_at m page ≡ Delegated)
     (vacant : is_unassigned (entry_at m (walk m (realm_at m rd) ipa 3) ipa) ≡ true) (three : (walk m (realm_at m rd) ipa 3).level ≡ 3) (begins : ipa % 4096 ≡ 0)

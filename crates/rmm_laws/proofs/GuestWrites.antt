@@ -41,7 +41,7 @@ use Rattle.rmm_laws.proofs.Writes.{number-same}
 
 -- ---- two addresses that lead to one page
 
--- two addresses that are in the same entry, and in the same page of that entry, are in the same page
+-- two addresses of one entry are in the same IPA granule, if their offsets in the entry are in the same page
 one_page : (l : ℕ) → l ≤ 3 → (x y : ℕ) → x / entry_size l ≡ y / entry_size l → x % entry_size l / 4096 ≡ y % entry_size l / 4096 → x / 4096 ≡ y / 4096
 unfolding entry_size
 one_page l few =
@@ -57,7 +57,7 @@ module _ (m : Machine) (proper : IsProper m) (rd other : ℕ) (realm its : RmmRe
       some_same (ap (λ (r : RmmGranule). r.owner)
       (sym (leads_to_data m proper rd realm is x protected a there) ∙ ap (granule_at m) same ∙ leads_to_data m proper other its also y protected_too b there_too))
 
-  -- two protected addresses that lead to the same granule are in the same page
+  -- two protected addresses that lead to the same granule are in the same IPA granule
   pub same_page : x / 4096 ≡ y / 4096
   same_page =
       let p : RttWalk = walk m realm x 3 in
@@ -158,8 +158,8 @@ module _ (m : Machine) (proper : IsProper m) (rd other ipa value x : ℕ) (size 
   unfolding after_step
   written_beside g outcome = ap (content_of n) same_place ∙ same_by (location_at m its x) refl
 
--- a write at a protected address reaches another page than the one to which a protected address of another page or
--- realm leads
+-- a write at a protected address does not reach the granule to which `x` leads, if `x` is protected and of another page
+-- or realm
 pub lower_apart : (m : Machine) (proper : IsProper m) (rd other ipa value x : ℕ) (size : AccessSize) (realm its : RmmRealm) (is : (granule_at m rd).state ≡ Rd realm) (also : (granule_at m other).state ≡ Rd its)
     (protected : is_protected realm ipa ≡ true) (protected_too : is_protected its x ≡ true) (apart : (other ≢ rd) ⊎ (x / 4096 ≢ ipa / 4096))
     → (b : Location) → location_at m its x ≡ Some b → (h : ℕ) → access m realm ipa true size (low_bytes size value) ≡ Ok h → number_of m b.address ≢ h

@@ -1,4 +1,4 @@
--- Proofs that steps of guests, entries, exits and interrupts of RECs, and RMI_PSCI_COMPLETE keep the invariant
+-- Proofs that RMI_REC_ENTER, RMI_PSCI_COMPLETE, interrupts and the queueing of guest steps keep the invariant
 -- `IsProper` on roles and owners of granules.
 use Rattle.std.proofs.Common.{◌≡◌, ◌≢◌, ℕ, zero, suc, ◌+◌, ◌-◌, ◌*◌, ◌/◌, ◌%◌, ◌^◌, ◌<◌, ◌==◌, inl, inr, ◌&&◌, Bool, true, false, length, Option, Some, None, Result, Ok, Err, refl, sym, ap, subst, ◌∙◌, ⊎_elim, arith, ◌⊎◌}
 use Rattle.std.specs.Prelude.{IfSome, not, is_none, nat_le, nat_lt, if◌then◌else◌}
@@ -146,7 +146,7 @@ module _ (o : Machine) (w : ℕ) where
 
   -- ---- accesses
 
-  -- a call on a realm may touch the realm's DATA granules and UNDELEGATED granules
+  -- a DATA granule of realm `w`, or an UNDELEGATED granule, satisfies `IsMine` for a call on `w`
   plain_mine : (m : Machine) (rd h : ℕ) → rd ≡ w → (granule_at m h ≡ of_realm rd Data) ⊎ ((granule_at m h).state ≡ Undelegated) → IsMine true m (Some w) h
   plain_mine m rd h named (inl is) = inl (inr (ap (λ (r : RmmGranule). r.owner) is ∙ ap (λ (x : ℕ). Some x) named))
   plain_mine m rd h named (inr free) = inr (inl free)
@@ -215,7 +215,7 @@ module _ (o : Machine) (w : ℕ) where
   going_passed g m (IsExit exit last) going = cond_both _ m _ (IsGoing o w g) (λ sure. going) (λ never. going_past g m going)
   going_passed g m Spins going = going_past g m going
 
-  -- `IsGoing` holds after a step that is performed for the realm of the REC's owner
+  -- `IsGoing` still holds after a step of the REC's guest that is performed for the realm of RD `w`
   going_step_by : (g flags : ℕ) (m : Machine) (owner : Option ℕ) (there : Option RmmRealm) → owner ≡ Some w → realm_by m owner ≡ there → IsGoing o w g m → IsGoing o w g (after_step_in m there g flags)
   going_step_by g flags m (Some rd) (Some realm) named is going =
       going_passed g _ (step_outcome m realm g flags (first_step m g)) (going_step g rd m realm (some_same named) (realm_of-is (granule_at m rd).state realm is) (first_step m g) (step_outcome m realm g flags (first_step m g)) going)
@@ -244,7 +244,8 @@ module _ (o : Machine) (w : ℕ) where
       going_word o w g _ 0 context (going_word o w g _ 31 entry_point (going_rec o w g m _ going) (omega arith) (inl (omega arith))) (omega arith) (inl (omega arith))
   going_target g m rec _ begins going = going
 
-  -- after the attributes of a REC are written, `IsGoing` holds of each REC of the same realm
+  -- if `IsGoing` holds of one REC, it holds of each REC of the same realm after the attributes of the first one are
+  -- written
   still_rec : (g h : ℕ) (m : Machine) (rec old : RmmRec) → IsGoing o w g m → (granule_at m h).state ≡ IsRec old → (granule_at m h).owner ≡ Some w → IsMine true o (Some w) h → IsGoing o w h (with_rec m g rec)
   still_rec g h m rec old going is owned mine =
       ⊎_elim
@@ -289,7 +290,7 @@ module _ (o : Machine) (w : ℕ) where
 pub rd_of_rec_is : (m : Machine) (g : ℕ) (rec : RmmRec) → IsProper m → (granule_at m g).state ≡ IsRec rec → (rd : ℕ) × ((granule_at m g).owner ≡ Some rd) × (is_rd (granule_at m rd).state ≡ true)
 rd_of_rec_is m g rec proper is = owner_is m (granule_at m g).owner (rd_of m g proper.ordered (IsRec rec) is refl)
 
--- what is touched by a call on realm `w` is touched by a call on the realm of the REC at an address, if `w` owns that
+-- if realm `w` owns the REC at an address, changes that `Touches` allows for `w` are allowed for a call that names the
 -- REC
 rec_there : (m n : Machine) (address w : ℕ) → not (is_aligned address) ≡ false → not (is_inside m address) ≡ false → is_none (rec_of (state_at m address)) ≡ false
     → (granule_at m (number_of m address)).owner ≡ Some w → Touches true m n (Some w) → Touches true m n (realm_of_rec m address)
@@ -329,7 +330,8 @@ module _ (rec address : ℕ) (m : Machine) (proper : IsProper m) (ok : Passed (r
   pub entered_lasts : Lasts m (rec_enter rec address m).machine
   entered_lasts = entry_going.lasts
 
-  -- each realm has the state and the RIM that it had, or is the realm of the REC, was ACTIVE and is SYSTEM_OFF
+  -- after RMI_REC_ENTER, each realm has its old state and RIM, or is the REC's realm, was ACTIVE, is SYSTEM_OFF, and
+  -- has its old RIM
   pub entered_states : (rd : ℕ) (realm : RmmRealm) → (granule_at (rec_enter rec address m).machine rd).state ≡ Rd realm
       → IsAsBefore m rd realm ⊎ ((realm.state ≡ IsSystemOff) × ((granule_at m (number_of m rec)).owner ≡ Some rd) × IsRealmIn m rd Active × HasRim m rd realm.rim)
   unfolding rec_enter enter_checks
@@ -411,7 +413,7 @@ module _ (calling target status : ℕ) (m : Machine) (proper : IsProper m) (ok :
 
 -- ---- machines during a run
 
--- from a machine during a REC's run, the REC's entry, steps and exit lead to machines of that run
+-- machine `m` is in a run of the REC in granule `g`, and so is the machine after the REC's entry, a step or the exit
 module _ (m : Machine) (g : ℕ) (run : IsProperRun m g) where
   abbrev of_run : (rd : ℕ) × ((granule_at m g).owner ≡ Some rd) × (is_rd (granule_at m rd).state ≡ true)
   of_run = rd_of_rec_is m g run.1 run.0 run.2
@@ -431,15 +433,15 @@ module _ (m : Machine) (g : ℕ) (run : IsProperRun m g) where
   pub exit_proper : (exit : RecExit) (last : LastExit) → IsProperRun (after_exit m g exit last) g
   exit_proper exit last = still_runs (after_exit m g exit last) (going_exit m of_run.0 g m exit last run_first)
 
-  -- what holds of each machine after writes for a REC holds after the REC's entry
+  -- if `P` holds of each later machine that satisfies `IsGoing`, then `P` holds after the entry of the REC
   pub entry_then : (P : Machine → Type 0) → ((w : ℕ) (n : Machine) → IsGoing m w g n → P n) → (address flags : ℕ) → P (after_entry m g address flags)
   entry_then P goes address flags = goes of_run.0 (after_entry m g address flags) (going_entry m of_run.0 g address flags m run_first)
 
-  -- what holds of each machine after writes for a REC holds after a step of the REC's guest
+  -- if `P` holds of each later machine that satisfies `IsGoing`, then `P` holds after a step of the REC's guest
   pub step_then : (P : Machine → Type 0) → ((w : ℕ) (n : Machine) → IsGoing m w g n → P n) → (flags : ℕ) → P (after_first_step m g flags)
   step_then P goes flags = goes of_run.0 (after_first_step m g flags) (going_first_step m of_run.0 g flags m run_first)
 
-  -- what holds of each machine after writes for a REC holds after the REC's exit
+  -- if `P` holds of each later machine that satisfies `IsGoing`, then `P` holds after the exit of the REC
   pub exit_then : (P : Machine → Type 0) → ((w : ℕ) (n : Machine) → IsGoing m w g n → P n) → (exit : RecExit) (last : LastExit) → P (after_exit m g exit last)
   exit_then P goes exit last = goes of_run.0 (after_exit m g exit last) (going_exit m of_run.0 g m exit last run_first)
 
@@ -455,7 +457,7 @@ module _ (m : Machine) (address : ℕ) (proper : IsProper m) (is : is_rec_named 
   named : IsGoing m of_named.0 (number_of m address) m
   named = going_first (number_of m address) of_named.0 m (rec_at m address) proper named_is of_named.1
 
--- what holds of a machine, and of each machine after writes for a REC, holds after an interrupt
+-- if `P` holds of a machine, and of each later machine that satisfies `IsGoing`, then `P` holds after an interrupt
 pub interrupted_then : (P : Machine → Type 0) (m : Machine) (address : ℕ) → IsProper m → P m → ((w g : ℕ) (n : Machine) → IsGoing m w g n → P n) → P (interrupted m address).1
 unfolding interrupted
 interrupted_then P m address proper same goes =
@@ -468,7 +470,7 @@ interrupted_then P m address proper same goes =
 pub interrupt_kept : (m : Machine) (address : ℕ) → IsProper m → IsProper (interrupted m address).1
 interrupt_kept m address proper = interrupted_then IsProper m address proper proper (λ w g n going. record { linked = going.proper; ordered = going.ordered })
 
--- what holds of a machine, and of each machine after writes for a REC, holds after a step is queued
+-- if `P` holds of a machine, and of each later machine that satisfies `IsGoing`, then `P` holds after a step is queued
 pub given_then : (P : Machine → Type 0) (m : Machine) (address : ℕ) (words : StepWords) → IsProper m → P m → ((w g : ℕ) (n : Machine) → IsGoing m w g n → P n) → P (queued m address words).1
 given_then P m address words proper same goes =
     cond_both (is_rec_named m address) _ _ (λ (p : Queued × Machine). P p.1)

@@ -1,5 +1,5 @@
--- Proofs that each kind of single write, under that kind's conditions, leaves each table entry in a state that is
--- allowed in its half of the address space.
+-- Proofs that a single write keeps each table entry in a state that is allowed in its half of the address space. An
+-- entry that is written has to be allowed at its index, and RDs have to keep their address spaces.
 use Rattle.std.proofs.Common.{◌≡◌, ◌≢◌, ℕ, ◌+◌, ◌-◌, ◌*◌, ◌/◌, ◌%◌, ◌^◌, ◌<◌, ◌≤◌, ◌⊎◌, Bool, true, false, List, length, Some, None, refl, sym, ap, subst, ◌∙◌, ⊎_elim, arith}
 use Rattle.std.proofs.lemmas.List.{length-set}
 use Rattle.std.proofs.lemmas.Bool.{cases_eq, both_ways}
@@ -49,7 +49,7 @@ kind_half realm ipa UnassignedNs is = is
 kind_half realm ipa (AssignedNs desc) is = is
 kind_half realm ipa (Table address) is = is
 
--- entries of one kind are of the same half
+-- if an entry is allowed in the half of an address, so is each entry with the same `kind_of`
 pub half_alike : (realm : RmmRealm) (ipa : ℕ) (a b : RmmRttEntry) → kind_of a ≡ kind_of b → IsOfHalf realm ipa a → IsOfHalf realm ipa b
 half_alike realm ipa a b same is = kind_half realm ipa b (subst (IsOfHalf realm ipa) same (half_kind realm ipa a is))
 
@@ -86,7 +86,7 @@ below_same m n settings count (Unassigned ripas) = refl
 below_same m n settings count UnassignedNs = refl
 below_same m n settings count (AssignedNs desc) = refl
 
--- `n` has no table and no RD that `m` has not: its tables are the same, and its realms have the same address spaces and
+-- each table of `n` is the same in `m`, and each RD of `n` is in `m` the RD of a realm with the same address space and
 -- starting tables
 pub record HasNoMore (m n : Machine) : Type 0 where
   pub settings : n.settings ≡ m.settings
@@ -138,8 +138,8 @@ module _ (m n : Machine) (step : HasNoMore m n) (level place : ℕ → ℕ) (hal
 
 -- ---- the page of a table
 
--- an entry fits index `i` of a table: it is allowed in its half and satisfies `IsPlaced`, and a table below has the
--- next level and place
+-- entry `e` at index `i` of a table is allowed in its half, satisfies `IsPlaced`, and leads only to a table one level
+-- down that covers the same addresses
 abbrev pub Fits : Machine → (ℕ → ℕ) → (ℕ → ℕ) → ℕ → ℕ → RmmRttEntry → Type 0
 Fits m level place table i e =
     ((rd ipa : ℕ) (realm : RmmRealm) → (granule_at m rd).state ≡ Rd realm → granule_at m table ≡ of_realm rd Rtt → ipa / entry_size (level table) ≡ place table * 512 + i → IsOfHalf realm ipa e)
@@ -197,8 +197,9 @@ has_space Rtt = true
 has_space (Rd realm) = true
 has_space _ = false
 
--- `HasNoMore` holds of machines that differ only at granule `g`. In `n`, `g` is an unchanged table, or an RD with the
--- same address space and starting tables as in `m`, or neither.
+-- `HasNoMore` holds if machines differ only at granule `g`, and `g` in `n` is an unchanged table, an RD of the same
+-- space, or no table and no RD. An RD is of the same space if its address space and its starting tables are those in
+-- `m`.
 differs : (m n : Machine) (g : ℕ) → n.settings ≡ m.settings → length n.granules ≡ length m.granules → ((h : ℕ) → h ≢ g → (granule_at n h ≡ granule_at m h) × (page_in n h ≡ page_in m h))
     → ((granule_at n g).state ≡ Rtt → (granule_at n g ≡ granule_at m g) × (page_in n g ≡ page_in m g))
     → ((realm : RmmRealm) → (granule_at n g).state ≡ Rd realm → (old : RmmRealm) × ((granule_at m g).state ≡ Rd old) × SameSpace realm old) → HasNoMore m n
@@ -304,7 +305,7 @@ no_below m UnassignedNs never = refl
 no_below m (AssignedNs desc) never = refl
 no_below m (Table address) never = absurd (cc)
 
--- an entry of the same kind as an entry that is no TABLE leads to no table
+-- an entry leads to no table if it has the same `kind_of` as an entry that is no TABLE
 pub none_below : (m : Machine) (a b : RmmRttEntry) → kind_of a ≡ kind_of b → is_table b ≡ false → table_below m a ≡ None
 none_below m a b same never = no_below m a (sym (table_kind a) ∙ ap is_table same ∙ table_kind b ∙ never)
 
@@ -323,7 +324,7 @@ module _ (m : Machine) (t i word : ℕ) (inside : t < length m.pages) (whole : l
   unfolding entry_in_page
   entry_beside j lt other = ap (λ (p : List ℕ). entry_of (word_of_page p j)) now ∙ ap entry_of (word_of_page-page_with_word_other (page_in m t) i word whole index j other lt)
 
--- writing an entry that fits its index of a table keeps `HasHalves`
+-- writing an entry that satisfies `Fits` at its index of a table keeps `HasHalves`
 pub entry_halved : (m : Machine) (t i : ℕ) (e : RmmRttEntry) → t < length m.pages → length (page_in m t) ≡ 4096 → i < 512 → (granule_at m t).state ≡ Rtt → (halves : HasHalves m)
     → Fits m halves.level halves.place t i (entry_of (entry_word e)) → HasHalves (with_word m t i (entry_word e))
 entry_halved m t i e inside whole index table halves fits =

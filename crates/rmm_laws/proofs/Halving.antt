@@ -42,7 +42,7 @@ child_kind UnassignedNs level k = refl
 child_kind (AssignedNs desc) level k = refl
 child_kind (Table address) level k = refl
 
--- the children of an entry are of its kind
+-- each child of an entry has the same `kind_of` as the entry
 children_kind : (e : RmmRttEntry) (level j : ℕ) → j < 512 → kind_of (entry_in_page (children_page e level) j) ≡ kind_of e
 unfolding entry_in_page
 children_kind e level j lt = ap (λ (w : ℕ). kind_of (entry_of w)) (children_word e level j lt) ∙ word_kind (child_entry e level j) ∙ child_kind e level j
@@ -167,7 +167,8 @@ module _ (m : Machine) (linked : IsLinked m) (halves : HasHalves m) (rd ipa leve
         (subst (λ (l : ℕ). IsPlaced m.settings l e) (sym (walk_seat m linked halves rd ipa realm is within level).depth) block)
         (λ x some before. same x some (subst (λ (p : List ℕ). IsOfHalf some x (entry_in_page p i)) page_there before))
 
-  -- the first entry of the table below takes the place of that table, whose entries are the children of this entry
+  -- a TABLE entry is replaced by the first entry of the table below it, and that table's entries are the children of
+  -- the new entry
   module _ (g to : ℕ) (named : table_below m (entry_at m (walk m realm ipa level) ipa) ≡ Some g) (few : (walk m realm ipa level).level ≤ 2) (leaf : is_table (entry_in_page (page_in m g) 0) ≡ false)
       (parts : has_parts (page_in m g) (entry_in_page (page_in m g) 0) to 512 0 ≡ true)
       (block : IsPlaced m.settings (walk m realm ipa level).level (entry_in_page (page_in m g) 0)) where
@@ -227,7 +228,7 @@ module _ (m : Machine) (linked : IsLinked m) (halves : HasHalves m) (rd ipa leve
     at_other : (h : ℕ) → h ≢ g → (deep h ≡ halves.level h) × (seat h ≡ halves.place h)
     at_other h ne = (cond-false (h == g) _ _ (ne_eqb h g ne), cond-false (h == g) _ _ (ne_eqb h g ne))
 
-    -- no table of the machine before is the granule of the new table
+    -- a granule that was a table before is not the granule of the new table
     old_table : (h : ℕ) → (granule_at m h).state ≡ Rtt → h ≢ g
     old_table h table same =
         let states : (granule_at m h).state ≡ (granule_at m (number_of m rtt)).state = ap (λ (k : ℕ). (granule_at m k).state) same in

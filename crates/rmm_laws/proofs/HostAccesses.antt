@@ -1,5 +1,5 @@
--- Proofs that guest accesses at unprotected addresses reach host pages alone, and that a host access changes at most
--- one granule.
+-- Proofs that guest accesses at unprotected addresses reach only pages of the host, and that a host access changes at
+-- most one granule.
 use Rattle.std.proofs.Common.{◌≡◌, ◌≢◌, ℕ, Some, ◌+◌, ◌*◌, ◌/◌, ◌%◌, Bool, true, false, not, Result, Ok, Err, refl, sym, ap, ◌∙◌}
 use Rattle.std.specs.Prelude.{if◌then◌else◌}
 use Rattle.std.proofs.lemmas.Bool.{both_ways, cond_both}

@@ -54,7 +54,7 @@ use Rattle.rmm_laws.proofs.Writes.{granule_at-same, granule_at-other, page_in-sa
 abbrev IsData : RmmGranuleState → Type 0
 IsData s = s ≡ Data
 
--- a page of data is as it was, or its granule is DELEGATED
+-- each data page is as it was, or its granule is DELEGATED
 abbrev pub KeepsData : Machine → Machine → Type 0
 KeepsData m n = (g : ℕ) → (granule_at m g).state ≡ Data → IsSameAt m n g ⊎ ((granule_at n g).state ≡ Delegated)
 
@@ -199,7 +199,7 @@ set_data rd rec base top m proper ok =
 
 -- ---- memory
 
--- a DELEGATED granule that becomes a page has the bytes written to it, also after the page of a table is written
+-- a DELEGATED granule that is given attributes and bytes still has these bytes after the page of a table is written
 pub page_content : (m : Machine) (t g : ℕ) (kept : RmmGranule) (content page : List ℕ) → IsProper m → (granule_at m t).state ≡ Rtt → (granule_at m g).state ≡ Delegated
     → page_in (with_page (with_page (with_granule m g kept) g content) t page) g ≡ content
 page_content m t g kept content page proper table free =

@@ -132,7 +132,8 @@ quiet _ m is = absurd (cc)
 stays : (m n : Machine) (call : Option Call) → RecsStay m n → KeepsRecs m call n
 stays m n call stay g rec is = inl (stay g rec is)
 
--- a REC that is created is of the realm of the RD
+-- after an RMI_REC_CREATE that passes its checks, each REC was a REC of the same owner before, or is the new REC of the
+-- given realm
 created : (rd rec params : ℕ) (m : Machine) → Passed (rec_create rd rec params m).checks → KeepsRecs m (Some (RecCreate rd rec params)) (rec_create rd rec params m).machine
 unfolding rec_create
 created rd rec params m ok g new is =

@@ -24,7 +24,7 @@ use Rattle.rmm_laws.proofs.Touching.{Touches, IsFree, IsMine, free_spare}
 
 -- ---- tables of a realm
 
--- tables of the realm of an RD have the pages that they had
+-- each table of the realm with the given RD has the same contents in both machines
 abbrev pub KeepsTablesOf : Machine → Machine → ℕ → Type 0
 KeepsTablesOf m n rd = (g : ℕ) → IsTableOf m rd g → page_in n g ≡ page_in m g
 
@@ -37,7 +37,7 @@ not_ours m (Some r) rd g apart rds is (inl here) =
 not_ours m (Some r) rd g apart rds is (inr owned) = apart (sym owned ∙ ap (λ (c : RmmGranule). c.owner) is)
 not_ours m None rd g apart rds is ours = ours
 
--- a call on another realm or on no realm leaves the pages of a realm's tables as they were
+-- a call on another realm or on no realm leaves the contents of a realm's tables as they were
 pub tables_apart : (host : Bool) (m n : Machine) (named : Option ℕ) (rd : ℕ) → Touches host m n named → (named ≡ Some rd → ⊥) → ((r : ℕ) → named ≡ Some r → is_rd (granule_at m r).state ≡ true) → KeepsTablesOf m n rd
 tables_apart host m n named rd touches apart rds g is =
     ⊎_elim
@@ -50,7 +50,8 @@ tables_apart host m n named rd touches apart rds g is =
 
 -- ---- what is read
 
--- the value that an address of a realm reads: `F` of the entry at which its walk ends and of that entry's level
+-- the value that is read at an address of a realm: `F` of the entry at which the address's walk ends, and of that
+-- entry's level
 abbrev pub read_at : (A : Type 0) → (RmmRttEntry → ℕ → A) → Machine → RmmRealm → ℕ → A
 read_at A F m realm x = F (entry_at m (walk m realm x 3) x) (walk m realm x 3).level
 
@@ -58,17 +59,18 @@ read_at A F m realm x = F (entry_at m (walk m realm x 3) x) (walk m realm x 3).l
 abbrev pub IsReadAs : (A : Type 0) → (RmmRttEntry → ℕ → A) → (A → A → Type 0) → RmmRttEntry → RmmRttEntry → ℕ → Type 0
 IsReadAs A F G old new l = (F new l ≡ F old l) ⊎ G (F old l) (F new l)
 
--- an address reads the same in two machines
+-- the same value is read at an address in two machines
 abbrev pub IsRead : (A : Type 0) → (RmmRttEntry → ℕ → A) → Machine → Machine → RmmRealm → RmmRealm → ℕ → Type 0
 IsRead A F m n before after x = read_at A F n after x ≡ read_at A F m before x
 
 module _ (m n : Machine) (proper : IsProper m) (settings : n.settings ≡ m.settings) (count : length n.granules ≡ length m.granules) (rd x : ℕ) (realm : RmmRealm) where
-  -- both walks go on alike at a place whose entry is the same in both machines
+  -- a place whose entry is the same in both machines satisfies `IsOn`, if its table is `Good` and `Q p p` holds
   pub on_same : (Good : ℕ → Type 0) (Q : RttWalk → RttWalk → Type 0) (p : RttWalk) → entry_at n p x ≡ entry_at m p x → ((table : ℕ) → table_below m (entry_at m p x) ≡ Some table → Good table) → Q p p
       → IsOn m n proper.linked proper.ordered.halves rd x realm Good Q p
   on_same Good Q p entry good end = record { leads = below_same m n settings count (entry_at n p x) ∙ ap (λ (e : RmmRttEntry). table_below m e) entry; good = good; end = end }
 
-  -- a protected address of a realm reads the same in both machines if the realm's tables have the same pages in both
+  -- the value read at a protected address of a realm is the same in both machines, if the realm's tables have the same
+  -- contents in both
   module _ (A : Type 0) (F : RmmRttEntry → ℕ → A) where
     abbrev SameRead : RttWalk → RttWalk → Type 0
     SameRead p q = F (entry_at n q x) q.level ≡ F (entry_at m p x) p.level

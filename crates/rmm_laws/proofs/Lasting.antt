@@ -12,7 +12,7 @@ use Rattle.rmm_laws.specs.State.{fixed, IsLasting}
 use Rattle.rmm_laws.proofs.States.{same_realm}
 use Rattle.rmm_laws.proofs.Writes.{granule_at-same, granule_at-other, taken_inside}
 
--- each realm is there still
+-- each realm still exists, with the same fixed attributes
 abbrev pub Lasts : Machine → Machine → Type 0
 Lasts m n = (g : ℕ) (realm : RmmRealm) → (granule_at m g).state ≡ Rd realm → IsLasting n g realm
 

@@ -48,13 +48,14 @@ use Rattle.rmm_laws.proofs.TableReads.{removed_read}
 use Rattle.rmm_laws.proofs.Walks.{entry_index-few}
 use Rattle.rmm_laws.proofs.Writes.{page_in-other}
 
--- an address of a realm leads where it led, or to where a call takes it
+-- a protected address of a realm has the same location in both machines, or the call may change the old location to the
+-- new one
 abbrev pub Leads : Call → Machine → Machine → ℕ → ℕ → RmmRealm → RmmRealm → Type 0
 Leads call m n rd x before after =
     (granule_at n rd).state ≡ Rd after → after.start_level ≡ before.start_level → after.first_table ≡ before.first_table → is_protected before x ≡ true
     → (location_at n after x ≡ location_at m before x) ⊎ IsLocationGiven m (Some call) rd x (location_at m before x) (location_at n after x)
 
--- the location to which an entry of a level leads an address
+-- the location of address `x`, if its walk ends at the given entry of the given level
 abbrev pub leading : ℕ → RmmRttEntry → ℕ → Option Location
 leading x e l = location_of e (x % entry_size l)
 
@@ -86,7 +87,8 @@ dead_none (AssignedNs desc) offset dead = absurd (cc)
 left_none : (realm : RmmRealm) (ipa offset : ℕ) → location_of (left_entry realm ipa) offset ≡ None
 left_none realm ipa offset = cond_both (is_protected realm ipa) (Unassigned Destroyed) UnassignedNs (λ (e : RmmRttEntry). location_of e offset ≡ None) (λ sure. refl) (λ never. refl)
 
--- an address in a page at level 3 leads to the same offset in the page's memory
+-- an ASSIGNED entry of level 3 that is encoded and decoded leads each address to the address's offset in the entry's
+-- page
 pub page_location : (ripas : RmmRipas) (address l x : ℕ) → l ≡ 3 → address % 4096 ≡ 0 → address < 2 ^ 48 → location_of (entry_of (entry_word (Assigned ripas address))) (x % entry_size l) ≡ location (address + x % 4096) 0
 unfolding entry_size
 page_location ripas address l x three begins fits =

@@ -1,5 +1,5 @@
--- Proofs that calls, stores, fills, steps and interrupts change the memory locations of protected addresses only as
--- `KeepsLocations` allows.
+-- Proofs that calls, stores, fills, interrupts and the queueing of guest steps change the memory locations of protected
+-- addresses only as `KeepsLocations` allows.
 use Rattle.std.proofs.Common.{◌≡◌, ℕ, true, length, Option, Some, None}
 use Rattle.rmi_abi.specs.declared.call.Call.{Call}
 use Rattle.rmi_abi.specs.declared.call.Call.TheVariants.{RttCreate, RttDestroy, RttFold, RttMapUnprotected, RttUnmapUnprotected, RttInitRipas, RttSetRipas, DataCreate, DataCreateUnknown, DataDestroy}
@@ -19,7 +19,7 @@ use Rattle.rmm_laws.proofs.Passed.{Passed}
 use Rattle.rmm_laws.proofs.LocationCalls.{Leads, leading, lead_map, lead_unmap, lead_data, lead_unknown, lead_destroy, lead_init, lead_set, lead_create, lead_fold, lead_table_destroy}
 use Rattle.rmm_laws.proofs.EachRead.{is_acting, target_of, ok_read, call_read, stored_read, filled_read, going_read, given_read, interrupted_read}
 
--- the location that a call gives an address
+-- a call may change the location of an address from one given value to another
 abbrev given_to : ℕ → Machine → Option Call → ℕ → Option Location → Option Location → Type 0
 given_to x m call rd old new = IsLocationGiven m call rd x old new
 

@@ -105,7 +105,7 @@ module _ (m : Machine) (proper : IsLinked m) (rd ipa : ℕ) (place : RttWalk) (p
     owner_is : (granule_at m t).owner ≡ Some rd
     owner_is = ap (λ (r : RmmGranule). r.owner) place_is.table
 
-    -- an entry uses the same by the table's owner and level as by the RD and the level of the walk's place
+    -- `entry_uses` is the same with the owner and the level of the table as with the RD and the level of the walk
     pub by_place : (n : Machine) (e : RmmRttEntry) (k : ℕ) → entry_uses n (granule_at m t).owner (proper.level t) e k ≡ entry_uses n (Some rd) place.level e k
     by_place n e k = ap (λ (o : Option ℕ). entry_uses n o (proper.level t) e k) owner_is ∙ ap (λ (l : ℕ). entry_uses n (Some rd) l e k) place_is.level
 
@@ -127,7 +127,7 @@ module _ (m : Machine) (proper : IsLinked m) (rd ipa : ℕ) (place : RttWalk) (p
     pub granule_beside : (h : ℕ) → h ≢ g → granule_at new_machine h ≡ granule_at m h
     granule_beside h ne = granule_at-other filled g h kept ne
 
-    -- the new granule uses what its state uses with the new content
+    -- in the new machine, granule `g` uses what `state_uses` gives for its new state and contents
     pub content_uses : (j k : ℕ) → uses new_machine level_after g j k ≡ state_uses m state (Some rd) (place.level + 1) content g j k
     unfolding uses
     content_uses j k =
@@ -217,7 +217,7 @@ module _ (m : Machine) (proper : IsLinked m) (rd ipa : ℕ) (place : RttWalk) (p
     owner_then : (granule_at freed here).owner ≡ Some rd
     owner_then = ap (λ (r : RmmGranule). r.owner) (same_table ∙ place_is.table)
 
-    -- an entry uses the same by the table's owner and level as by the RD and the level of the walk's place
+    -- `entry_uses` is the same with the owner and the level of the table as with the RD and the level of the walk
     place_uses : (n : Machine) (e : RmmRttEntry) (k : ℕ) → entry_uses n (granule_at freed here).owner (proper.level here) e k ≡ entry_uses n (Some rd) place.level e k
     place_uses n e k = ap (λ (o : Option ℕ). entry_uses n o (proper.level here) e k) owner_then ∙ ap (λ (l : ℕ). entry_uses n (Some rd) l e k) place_is.level
 

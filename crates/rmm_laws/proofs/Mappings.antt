@@ -90,7 +90,7 @@ module _ (m : Machine) (t : ℕ) (page : List ℕ) (proper : IsLinked m) (is : (
       ∙ sym (ap (λ (s : RmmGranuleState). state_uses m s owner level (page_in m t) t j k) is))
       (λ table. leads)
 
--- An entry replaces an entry that uses the same granules.
+-- Entry `i` of table `t` is replaced by an entry that uses the same granules.
 module _ (m : Machine) (t i : ℕ) (entry : RmmRttEntry) (proper : IsLinked m) (is : (granule_at m t).state ≡ Rtt) (index : i < 512) (fits : descriptor_of entry < 2 ^ 48)
     (same : (owner : Option ℕ) (level k : ℕ) → entry_uses m owner level entry k ≡ entry_uses m owner level (entry_in_page (page_in m t) i) k) (leads : LeadsInside m entry) where
   abbrev page : List ℕ

@@ -31,7 +31,7 @@ use Rattle.rmm_laws.proofs.RecsGone.{beside_gone, gone_total, rd_apart}
 use Rattle.rmm_laws.proofs.Walks.{IsPlace, right, one_place, table_right, uses-entry, by_entry}
 use Rattle.rmm_laws.proofs.Writes.{granule_at-same, granule_at-other, page_in-other, named-same, taken_inside}
 
--- a table of a realm, with its own level, is a place of a walk in that realm
+-- a table of a realm, with the level that `linked` gives it, satisfies `IsPlace` for that realm
 at_level : (m : Machine) (linked : IsLinked m) (rd table : ℕ) → IsTableOf m rd table → IsPlace m linked rd 0 (record { table = table; level = linked.level table })
 at_level m linked rd table is = record { table = is; level = refl }
 
@@ -47,7 +47,7 @@ pub below_same : (m n : Machine) (entry : RmmRttEntry) → n.settings ≡ m.sett
 below_same m n (Table address) settings count = named-same m n settings count address
 below_same m n _ settings count = refl
 
--- making a table DELEGATED while its entry is left breaks `IsProper`
+-- making a table DELEGATED while an entry leads to it breaks `IsProper`
 pub entry_left : (m : Machine) (rd table i g : ℕ) → IsProper m → IsTableOf m rd table → i < 512 → table_below m (entry_in_page (page_in m table) i) ≡ Some g → IsProper (with_blank m g Delegated) → ⊥
 entry_left m rd table i g proper is lt leads after =
     let n : Machine = with_blank m g Delegated in
@@ -76,7 +76,8 @@ page_of m linked rd table i part address g ripas is lt few entry named =
 same_number : (base address other g h p q : ℕ) → address ≡ base + g * 4096 → other ≡ base + h * 4096 → address + p * 4096 ≡ other + q * 4096 → g + p ≡ h + q
 same_number base address other g h p q one two same = omega arith
 
--- two pages of ASSIGNED entries at the same memory address are the same page of the same entry
+-- if page `p` of one ASSIGNED entry and page `q` of a second have the same memory address, both are the same page of
+-- the same entry
 pub named_twice : (m : Machine) (proper : IsProper m) (rd s x i p y j q address other : ℕ) (a b : RmmRipas) → IsTableOf m rd x → IsTableOf m s y → i < 512 → j < 512 → entry_in_page (page_in m x) i ≡ Assigned a address
     → entry_in_page (page_in m y) j ≡ Assigned b other → p < page_count (proper.linked.level x) → q < page_count (proper.linked.level y) → address + p * 4096 ≡ other + q * 4096 → (x ≡ y) × (i ≡ j) × (p ≡ q)
 named_twice m proper rd s x i p y j q address other a b one two lt also first second few_p few_q same =

@@ -4,8 +4,8 @@ use Rattle.std.proofs.lemmas.Bool.{cases_eq, cases_lt}
 use Rattle.std.proofs.lemmas.Nat.{div-mul-add, mod-mul-add, div-add-mod', div_below, mod_below}
 use Rattle.rmm_laws.specs.Role.{Used, IsUsed, HasNoUser, HasOneRole}
 
--- `Same` relates the places of two lists of uses. Each use of one list is in the other at a related place. A place of
--- the first list is related to at most one place of the second.
+-- `F` and `G` have the same uses, at users, indices and parts that `Same` relates. A place is a user, an index and a
+-- part. `Same` relates a place in `F` to at most one place in `G`.
 pub record IsMoved (F G : ℕ → ℕ → ℕ → Option Used) (Same : ℕ → ℕ → ℕ → ℕ → ℕ → ℕ → Type 0) : Type 0 where
   pub forth : (x i k : ℕ) (u : Used) → F x i k ≡ Some u → (y : ℕ) × (j : ℕ) × (l : ℕ) × Same x i k y j l × (G y j l ≡ Some u)
   pub back : (y j l : ℕ) (u : Used) → G y j l ≡ Some u → (x : ℕ) × (i : ℕ) × (k : ℕ) × Same x i k y j l × (F x i k ≡ Some u)
@@ -42,7 +42,7 @@ module _ (F G : ℕ → ℕ → ℕ → Option Used) (S : ℕ → Used) (Same : 
 
 -- ---- a block that becomes the pages of a table, and the other way round
 
--- Entry i of table t uses C pages in one list of uses; in the other, the 512 entries of table g use c each.
+-- In `B`, entry `i` of table `t` uses `C` pages; in `P`, each of the 512 entries of table `g` uses `c` of these pages.
 pub record IsUnfolded (B P : ℕ → ℕ → ℕ → Option Used) (t i g C c : ℕ) (memory : ℕ → Used) : Type 0 where
   pub some : 0 < c
   pub whole : C ≡ 512 * c
@@ -55,11 +55,12 @@ pub record IsUnfolded (B P : ℕ → ℕ → ℕ → Option Used) (t i g C c : �
   pub beside : (x j k : ℕ) → x ≢ g → (x ≢ t) ⊎ (j ≢ i) → P x j k ≡ B x j k
 
 module _ (B P : ℕ → ℕ → ℕ → Option Used) (t i g C c : ℕ) (memory : ℕ → Used) (u : IsUnfolded B P t i g C c memory) where
-  -- a page's place in the block and its place in the table
+  -- page `k` of the block is page `l` of entry `j` of the table
   abbrev IsPart : ℕ → ℕ → ℕ → ℕ → ℕ → ℕ → Type 0
   IsPart x h k y j l = (x ≡ t) × (h ≡ i) × (y ≡ g) × (k ≡ j * c + l) × (l < c)
 
-  -- a place that is neither the block's nor the table's, and is the same in both lists
+  -- the user, the index and the part are the same in `B` and `P`, and belong to neither table `g` nor entry `i` of
+  -- table `t`
   abbrev IsElsewhere : ℕ → ℕ → ℕ → ℕ → ℕ → ℕ → Type 0
   IsElsewhere x h k y j l = (y ≡ x) × (j ≡ h) × (l ≡ k) × (x ≢ g) × ((x ≢ t) ⊎ (h ≢ i))
 
@@ -102,7 +103,7 @@ module _ (B P : ℕ → ℕ → ℕ → Option Used) (t i g C c : ℕ) (memory :
       (λ (past : 512 ≤ j). absurd (none_some (u.parts_end j l (inl past)) is))
       (cases_lt j 512)
 
-  -- a place is that of entry `i` of table `t`, or it is of another granule or another entry
+  -- either `x` is `t` and `h` is `i`, or one of the two differs
   elsewhere : (x h : ℕ) → ((x ≡ t) × (h ≡ i)) ⊎ ((x ≢ t) ⊎ (h ≢ i))
   elsewhere x h =
       ⊎_elim

@@ -89,7 +89,7 @@ module _ (p q : Machine) (linked : IsLinked p) (halves : HasHalves p) (rd : ℕ)
       (cases_lt g realm.first_table) in
       (cond-false (is_new g) _ _ out, cond-false (is_new g) _ _ out)
 
-  -- no table of the machine before is a starting table of the new realm
+  -- a granule that was a table before is no starting table of the new realm
   old_table : (g : ℕ) → (granule_at p g).state ≡ Rtt → NoStart realm g
   old_table g is i lt same =
       let free : (granule_at p g).state ≡ Delegated = ap (λ (x : ℕ). (granule_at p x).state) same ∙ step.free i lt in

@@ -1,5 +1,5 @@
--- Proofs that a guest access to a protected address whose RIPAS is not RAM, or that leads to no memory, gets an SEA or
--- causes an exit, and writes nothing.
+-- Proofs that a guest access to a protected address without memory gets an SEA or causes an exit, and writes nothing.
+-- An address is without memory if its RIPAS is not RAM, or if its walk ends at an entry that is not live.
 use Rattle.std.proofs.Common.{◌≡◌, ℕ, ◌+◌, ◌^◌, ◌⊎◌, Bool, true, false, Err, refl, ap, ◌∙◌, ⊎_elim}
 use Rattle.std.specs.Prelude.{not, if◌then◌else◌}
 use Rattle.std.proofs.lemmas.Bool.{cond-false, cond-true, lt-ltb}

@@ -25,8 +25,8 @@ uses-table_in m level t j k is lt = uses-table m level t j k is ∙ cond-true _ 
 pub uses-table_out : (m : Machine) (level : ℕ → ℕ) (t j k : ℕ) → (granule_at m t).state ≡ Rtt → 512 ≤ j → uses m level t j k ≡ None
 uses-table_out m level t j k is past = uses-table m level t j k is ∙ cond-false _ _ _ (le-ltb j 512 past)
 
--- A granule is DELEGATED in one machine. In the other, entry i of a table uses it, and it uses nothing itself. All
--- other granules and entries are the same.
+-- Granule `g` is DELEGATED in `m`; in `n`, entry `i` of table `t` uses `g`, and `g` uses nothing. The entry uses
+-- nothing in `m`. All other granules and entries are the same.
 pub record IsOneMore (m n : Machine) (before after : ℕ → ℕ) (t i g : ℕ) : Type 0 where
   pub settings : n.settings ≡ m.settings
   pub count : length n.granules ≡ length m.granules
@@ -44,7 +44,7 @@ pub record IsOneMore (m n : Machine) (before after : ℕ → ℕ) (t i g : ℕ) 
   pub entries : (j : ℕ) → j < 512 → j ≢ i → entry_in_page (page_in n t) j ≡ entry_in_page (page_in m t) j
 
 module _ (m n : Machine) (before after : ℕ → ℕ) (t i g : ℕ) (step : IsOneMore m n before after t i g) where
-  -- a table of the first machine is not the granule
+  -- a table of the first machine is another granule than `g`
   pub other_table : (h : ℕ) → (granule_at m h).state ≡ Rtt → h ≢ g
   other_table h is same =
       let f = step.free in

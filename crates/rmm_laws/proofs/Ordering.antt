@@ -1,5 +1,5 @@
--- Proofs that commands, stores and fills keep the owner of each granule as its state requires, and the counts of RECs
--- correct.
+-- Proofs that commands, stores and fills leave each granule with the owner that its state requires, and keep the counts
+-- of RECs correct.
 use Rattle.std.proofs.Common.{◌≡◌, ◌≢◌, ℕ, ◌+◌, ◌*◌, ◌-◌, ◌/◌, ◌%◌, ◌^◌, ◌<◌, ◌≤◌, ◌==◌, true, false, not, ◌&&◌, List, length, Option, Some, unwrap_or, refl, sym, ap, subst, ◌∙◌, ⊎_elim, arith}
 use Rattle.std.specs.Prelude.{nat_le, is_some}
 use Rattle.std.proofs.lemmas.Bool.{and_parts, and_from, both_ways, cases_lt, le-leb, cond_both, eqb-true, leb-true, ltb-true, ltb-false, not-true}
@@ -55,16 +55,16 @@ use Rattle.rmm_laws.proofs.Writes.{granule_at-other, taken_inside}
 
 -- ---- writes of commands
 
--- changing a granule that is no RD and no REC to another such granule keeps `IsOrdered`, if it is then orderly and
--- `HasHalves` still holds
+-- changing a granule that is no RD and no REC to another such granule keeps `IsOrdered`, if the new one satisfies
+-- `IsOrderly` and `HasHalves` still holds
 changed : (m : Machine) (g : ℕ) (kept : RmmGranule) (page : List ℕ) → IsSound m → IsOrdered m → g < length m.granules → is_counter (granule_at m g).state ≡ false → is_counter kept.state ≡ false
     → IsOrderly m kept.state kept.owner page → HasHalves (with_page (with_granule m g kept) g page) → IsOrdered (with_page (with_granule m g kept) g page)
 changed m g kept page sound ordered inside before after fine halves =
     let pages = sound.pages in
     ordered_both m g kept page inside (omega arith) ordered (λ sure. absurd (no_rd (granule_at m g).state before sure)) (plain_alike (granule_at m g) kept before after) fine halves
 
--- making a DELEGATED granule an orderly granule of a realm, no RD and no REC, and then writing a table's page keeps
--- `IsOrdered`, if `HasHalves` holds after both writes
+-- Giving a DELEGATED granule to a realm, and then writing a table's page, keeps `IsOrdered`, if `HasHalves` holds after
+-- each write. The granule is then orderly, and is neither an RD nor a REC.
 made : (m : Machine) (g rd t : ℕ) (state : RmmGranuleState) (content page : List ℕ) → IsSound m → IsOrdered m → g < length m.granules → (granule_at m g).state ≡ Delegated → is_counter state ≡ false
     → IsOrderly m state (Some rd) content → (granule_at m t).state ≡ Rtt → HasHalves (with_page (with_granule m g (of_realm rd state)) g content)
     → HasHalves (with_page (with_page (with_granule m g (of_realm rd state)) g content) t page) → IsOrdered (with_page (with_page (with_granule m g (of_realm rd state)) g content) t page)
@@ -145,7 +145,7 @@ module _ (m : Machine) (proper : IsProper m) (rd ipa level : ℕ) (is : (granule
       freed m g found.table page proper.linked.sound proper.ordered (let t = table_is in taken_inside m g (λ free. cc)) (ap is_counter table_is)
       (place_table m proper.linked (number_of m rd) ipa level (realm_at m rd) is within least) halves
 
--- writing the entry that a destroyed table leaves keeps `HasHalves`
+-- writing the entry that RMI_RTT_DESTROY leaves at the end of a walk keeps `HasHalves`
 left_halves : (m : Machine) (linked : IsLinked m) → HasHalves m → (rd ipa level : ℕ) (realm : RmmRealm) → (granule_at m rd).state ≡ Rd realm → ipa < 2 ^ realm.s2sz → realm.start_level ≤ level
     → HasHalves (with_entry m (walk m realm ipa level) ipa (left_entry realm ipa))
 left_halves m linked halves rd ipa level realm is within least =

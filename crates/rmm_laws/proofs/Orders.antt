@@ -1,5 +1,6 @@
--- Proofs that each kind of single write, under that kind's conditions, keeps the owner of each granule as its state
--- requires, and the counts of RECs correct.
+-- Proofs that a single write leaves each granule with the owner that its state requires, and keeps the counts of RECs
+-- correct. The granule that is written has to be orderly afterwards, and to satisfy `CountAlike` if its attributes
+-- change.
 use Rattle.std.proofs.Common.{◌≡◌, ◌≢◌, ℕ, ◌+◌, ◌<◌, ◌≤◌, ◌⊎◌, inl, inr, ◌&&◌, Bool, true, false, cond, List, [], ◌∷◌, length, set, get_or, Option, Some, None, refl, sym, ap, subst, ◌∙◌, ⊎_elim, arith}
 use Rattle.std.specs.Prelude.{is_some, suc}
 use Rattle.std.specs.List.{count_by}
@@ -52,7 +53,8 @@ module _ (m n : Machine) (settings : n.settings ≡ m.settings) (count : length 
   orderly_still Data owner page keeps is = owner_still owner keeps is
   orderly_still Rtt owner page keeps is = owner_still owner keeps is
 
-  -- a granule with the same attributes and page in both machines stays orderly if its owner is still an RD
+  -- a granule with the same attributes and contents in both machines still satisfies `IsOrderly` if its owner is still
+  -- an RD
   pub orderly_same : (h : ℕ) → granule_at n h ≡ granule_at m h → page_in n h ≡ page_in m h → KeepsOwner m n (granule_at m h).owner → IsOrderlyAt m h → IsOrderlyAt n h
   orderly_same h same page keeps is =
       subst (λ (r : RmmGranule). IsOrderly n r.state r.owner (page_in n h)) (sym same)
@@ -68,7 +70,8 @@ module _ (m n : Machine) (settings : n.settings ≡ m.settings) (count : length 
       (λ (other : rd ≢ g). ap (λ (r : RmmGranule). is_rd r.state) (same rd other) ∙ is)
       (cases_eq rd g)
 
-  -- all granules stay orderly if only one granule changes, and it is then orderly and does not cease to be an RD
+  -- if only one granule changes, satisfies `IsOrderly` afterwards, and does not cease to be an RD, all granules still
+  -- satisfy `IsOrderly`
   pub orderly_but : (g : ℕ) → ((h : ℕ) → h ≢ g → (granule_at n h ≡ granule_at m h) × (page_in n h ≡ page_in m h)) → (is_rd (granule_at m g).state ≡ true → is_rd (granule_at n g).state ≡ true)
       → IsOrderlyAt n g → ((h : ℕ) → IsOrderlyAt m h) → (h : ℕ) → IsOrderlyAt n h
   orderly_but g same there here before h =
@@ -124,7 +127,8 @@ some_counted _ n is = absurd (cc)
 same_sum : (now before one : ℕ) → now + one ≡ before + one → now ≡ before
 same_sum now before one is = omega arith
 
--- a change of one granule changes a realm's count of RECs by that granule alone
+-- writing a granule changes a realm's count of RECs by at most one: minus one if the granule was counted, plus one if
+-- it is counted now
 pub total-set : (m : Machine) (g : ℕ) (kept : RmmGranule) (rd : ℕ) → g < length m.granules
     → count_by (is_rec_in rd) (with_granule m g kept).granules + cond (is_rec_in rd (granule_at m g)) 1 0 ≡ count_by (is_rec_in rd) m.granules + cond (is_rec_in rd kept) 1 0
 total-set m g kept rd inside = sum_by-set (λ (r : RmmGranule). cond (is_rec_in rd r) 1 0) m.granules g kept (of_no_realm Undelegated) inside
@@ -184,7 +188,8 @@ page_either m g page =
     inr (get_or_past (set m.pages g page) g [] (subst (λ (n : ℕ). n ≤ g) (sym (length-set m.pages g page)) past) ∙ sym (get_or_past m.pages g [] past)))
     (cases_lt g (length m.pages))
 
--- writing a granule's page keeps `IsOrdered`, if the granule is orderly with the new page and `HasHalves` still holds
+-- writing a granule's page keeps `IsOrdered`, if the granule satisfies `IsOrderly` with the new page and `HasHalves`
+-- still holds
 pub ordered_page : (m : Machine) (g : ℕ) (page : List ℕ) → IsOrdered m → IsOrderly m (granule_at m g).state (granule_at m g).owner page → HasHalves (with_page m g page)
     → IsOrdered (with_page m g page)
 ordered_page m g page ordered fine halves =
@@ -199,7 +204,7 @@ ordered_page m g page ordered fine halves =
       halves = halves;
     }
 
--- giving a granule other attributes keeps `IsOrdered`, if it is orderly, counts alike and does not cease to be an RD,
+-- giving a granule attributes that satisfy `IsOrderly` and `CountAlike` keeps `IsOrdered`, if no RD ceases to be one
 -- and `HasHalves` still holds
 pub ordered_granule : (m : Machine) (g : ℕ) (kept : RmmGranule) → g < length m.granules → IsOrdered m → (is_rd (granule_at m g).state ≡ true → is_rd kept.state ≡ true) → CountAlike (granule_at m g) kept
     → IsOrderly m kept.state kept.owner (page_in m g) → HasHalves (with_granule m g kept) → IsOrdered (with_granule m g kept)
@@ -216,8 +221,8 @@ ordered_granule m g kept inside ordered rds alike fine halves =
       halves = halves;
     }
 
--- giving a granule other attributes and another page keeps `IsOrdered`, if it is then orderly, counts alike and does
--- not cease to be an RD, and `HasHalves` still holds
+-- giving a granule a page and attributes that satisfy `IsOrderly` and `CountAlike` keeps `IsOrdered`, if no RD ceases
+-- to be one and `HasHalves` still holds
 pub ordered_both : (m : Machine) (g : ℕ) (kept : RmmGranule) (page : List ℕ) → g < length m.granules → g < length m.pages → IsOrdered m → (is_rd (granule_at m g).state ≡ true → is_rd kept.state ≡ true)
     → CountAlike (granule_at m g) kept → IsOrderly m kept.state kept.owner page → HasHalves (with_page (with_granule m g kept) g page) → IsOrdered (with_page (with_granule m g kept) g page)
 ordered_both m g kept page inside has_page ordered rds alike fine halves =
@@ -266,7 +271,7 @@ ordered_table m t page is ordered halves =
     let before = subst (λ (s : RmmGranuleState). IsOrderly m s (granule_at m t).owner (page_in m t)) is (ordered.each t) in
     ordered_page m t page ordered (subst (λ (s : RmmGranuleState). IsOrderly m s (granule_at m t).owner page) (sym is) before) halves
 
--- a granule is memory: a page of a realm, or one of the host
+-- a state is DATA, for a page of a realm, or UNDELEGATED, for a page of the host
 abbrev pub is_memory_state : RmmGranuleState → Bool
 is_memory_state Data = true
 is_memory_state Undelegated = true
@@ -286,7 +291,7 @@ pub ordered_memory : (m : Machine) (g : ℕ) (page : List ℕ) → is_memory_sta
 ordered_memory m g page is ordered = ordered_page m g page ordered (memory_fine m (granule_at m g).state (granule_at m g).owner (page_in m g) page is (ordered.each g))
     (plain_page m g page (memory_no_space (granule_at m g).state is) ordered.halves)
 
--- a granule of this state belongs to a realm
+-- a granule in the given state is owned by a realm
 abbrev pub has_owner : RmmGranuleState → Bool
 has_owner (IsRec rec) = true
 has_owner RecAux = true

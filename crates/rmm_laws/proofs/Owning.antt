@@ -1,5 +1,5 @@
--- Proofs that only RDs, tables and RECs use other granules: starting tables, tables and pages below entries, and
--- auxiliary granules.
+-- Proofs that RDs use starting tables, tables use what their entries lead to, RECs use auxiliary granules, and other
+-- granules use nothing.
 use Rattle.std.proofs.Common.{◌≡◌, ◌∙◌, ℕ, ◌+◌, ◌<◌, ◌⊎◌, inl, inr, ◌==◌, ◌&&◌, Bool, true, false, List, Option, Some, None, option_map, refl, sym, ap}
 use Rattle.std.specs.Prelude.{nat_lt, if◌then◌else◌}
 use Rattle.std.proofs.lemmas.Bool.{and_parts, ltb-true}
@@ -39,8 +39,8 @@ entry_user m owner level k (Unassigned ripas) u is = absurd (cc)
 entry_user m owner level k UnassignedNs u is = absurd (cc)
 entry_user m owner level k (AssignedNs desc) u is = absurd (cc)
 
--- A granule of this state uses another granule. An RD uses its starting tables, a table what is below its entries, and
--- a REC its auxiliary granules.
+-- A granule in the given state may use the given granule at the given index. An RD uses its starting tables, a table
+-- what is below its entries, and a REC its auxiliary granules.
 abbrev pub IsUserOf : RmmGranuleState → Option ℕ → ℕ → ℕ → ℕ → Used → Type 0
 IsUserOf (Rd realm) owner level x i u = (i < realm.table_count) × (u ≡ used Rtt (Some x) realm.start_level (realm.first_table + i))
 IsUserOf Rtt owner level x i u = IsBelow owner level u
@@ -74,7 +74,7 @@ table_entry m owner level k (Unassigned ripas) u is state = absurd (cc)
 table_entry m owner level k UnassignedNs u is state = absurd (cc)
 table_entry m owner level k (AssignedNs desc) u is state = absurd (cc)
 
--- an entry of a table that uses a table leads to it
+-- if a table uses a table at index `i`, the entry at `i` leads to the used table
 pub table_user : (m : Machine) (x i k : ℕ) (level : ℕ → ℕ) (u : Used) → (granule_at m x).state ≡ Rtt → uses m level x i k ≡ Some u → u.attributes.state ≡ Rtt
     → (i < 512) × (table_below m (entry_in_page (page_in m x) i) ≡ Some u.number)
 unfolding uses

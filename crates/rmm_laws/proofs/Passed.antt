@@ -1,5 +1,5 @@
--- Proofs that all checks of a command have passed if none fails, and that a command keeps a property if it keeps it
--- when all checks pass.
+-- Proofs that a command always keeps a property if it does so whenever all its checks pass, and lemmas on what passed
+-- checks imply.
 use Rattle.std.proofs.Common.{◌≡◌, ℕ, ◌&&◌, ◌++◌, List, [], ◌∷◌, Bool, true, false, Option, Some, None, refl, sym, ap, ◌∙◌, ⊎_elim, unwrap_or}
 use Rattle.std.specs.Prelude.{is_none, is_some, not}
 use Rattle.std.proofs.lemmas.Bool.{cases_Bool, and_from, cond-true, cond-false}
@@ -15,7 +15,7 @@ use Rattle.rmm_model.specs.Realm.{no_realm}
 use Rattle.rmm_model.specs.Rec.{no_rec}
 use Rattle.rmm_laws.specs.Apart.{rd_named, realm_of_rec}
 
--- no check fails
+-- no check of a list fails
 abbrev pub Passed : List Check → Type 0
 Passed [] = Unit {0}
 Passed (c ∷ cs) = (c.fails ≡ false) × Passed cs
@@ -28,12 +28,12 @@ passed (c ∷ cs) none =
     (λ no. (no, passed cs (sym (cond-false c.fails (Some c.refusal) (first_failing cs) no) ∙ none)))
     (cases_Bool c.fails)
 
--- if the checks of two lists together have passed, those of the first list have
+-- if all checks of two lists have passed, all checks of the first list have passed
 pub passed_first : (cs ds : List Check) → Passed (cs ++ ds) → Passed cs
 passed_first [] ds ok = tt
 passed_first (c ∷ cs) ds ok = (ok.0, passed_first cs ds ok.1)
 
--- if the checks of two lists together have passed, those of the second list have
+-- if all checks of two lists have passed, all checks of the second list have passed
 pub passed_second : (cs ds : List Check) → Passed (cs ++ ds) → Passed ds
 passed_second [] ds ok = ok
 passed_second (c ∷ cs) ds ok = passed_second cs ds ok.1
@@ -43,7 +43,7 @@ kept_at : (P : Machine → Type 0) (command : Command) (m : Machine) (o : Option
 kept_at P command m (Some refusal) is before after = before
 kept_at P command m None is before after = after (passed command.checks is)
 
--- what holds before a command holds after it, if it holds of the machine that the command makes once all checks pass
+-- a command keeps a property `P`, if `P` holds of the machine that the command makes once all checks pass
 pub kept : (P : Machine → Type 0) (command : Command) (m : Machine) → P m → (Passed command.checks → P command.machine) → P (outcome command m).1
 kept P command m before after = kept_at P command m (first_failing command.checks) refl before after
 

@@ -1,4 +1,4 @@
--- A proof that the first step of a REC is performed for the realm that owns the REC.
+-- A proof that the first queued step of a REC's guest is performed for the realm that owns the REC.
 use Rattle.std.proofs.Common.{◌≡◌, ◌≢◌, ℕ, Option, Some, ap, ◌∙◌}
 use Rattle.std.proofs.lemmas.Bool.{cond-false, ne_eqb}
 use Rattle.rmm_model.specs.declared.granule.RmmGranuleState.{RmmGranuleState}
@@ -10,7 +10,7 @@ use Rattle.rmm_model.specs.Machine.{Machine, granule_at}
 use Rattle.rmm_model.specs.Command.RecEnter.{owner_realm, realm_by, step_outcome_in, after_step_in, first_step_outcome, after_first_step}
 use Rattle.rmm_laws.specs.Guest.{IsStepFor}
 
--- the first step of a REC is performed for the realm that owns it
+-- if steps are queued for a REC's guest, the first of them is performed for the realm that owns the REC
 pub performed_for : (m : Machine) (rd g flags : ℕ) (realm : RmmRealm) → (granule_at m g).owner ≡ Some rd → (granule_at m rd).state ≡ Rd realm → (rec_in m g).step_count ≢ 0 → IsStepFor m realm g flags
 unfolding first_step_outcome after_first_step
 performed_for m rd g flags realm owned is some =

@@ -1,5 +1,5 @@
--- Proofs about mappings with a new RIPAS, pages at level 3, and children of mappings: each is at an allowed level, and
--- its memory is aligned to its size.
+-- Proofs that a page mapped at level 3 is at a valid level and aligned, and that mappings stay so when their RIPAS
+-- changes or they are unfolded.
 use Rattle.std.proofs.Common.{◌≡◌, ℕ, zero, suc, ◌+◌, ◌*◌, ◌/◌, ◌%◌, ◌^◌, ◌<◌, ◌≤◌, false, refl, sym, ap, subst, ◌∙◌, arith}
 use Rattle.std.proofs.lemmas.Bool.{both_ways}
 use Rattle.rmi_abi.specs.declared.settings.RmmSettings.{RmmSettings}

@@ -1,5 +1,5 @@
--- A proof that each call keeps the invariant `IsProper`: each granule has the role and the owner that its state
--- requires.
+-- A proof that each call keeps the invariant `IsProper`, by which each granule has the role and the owner that its
+-- state requires.
 use Rattle.rmi_abi.specs.declared.call.Call.{Call}
 use Rattle.rmi_abi.specs.declared.call.Call.TheVariants.{Version, GranuleDelegate, GranuleUndelegate, DataCreateUnknown, DataDestroy, RealmActivate, RealmCreate, RealmDestroy, RecCreate, RecDestroy, RecEnter, PsciComplete, RttCreate, RttDestroy, RttMapUnprotected, RttReadEntry, RttUnmapUnprotected, Features, RttFold, RecAuxCount, DataCreate, RttInitRipas, RttSetRipas}
 use Rattle.rmm_model.specs.Call.{command_of}

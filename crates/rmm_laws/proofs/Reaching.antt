@@ -104,7 +104,7 @@ module _ (m : Machine) (realm : RmmRealm) (x : ℕ) where
 -- ---- each table serves
 
 module _ (m : Machine) (linked : IsLinked m) (rd : ℕ) (realm : RmmRealm) (is : (granule_at m rd).state ≡ Rd realm) where
-  -- a table serves the addresses from `first` on, and its level is `levels` further down than the starting level
+  -- table `g` serves the addresses from some `first` on, and is some `levels` further down than the starting tables
   pub record IsServer (g : ℕ) : Type 0 where
     pub levels : ℕ
     pub first : ℕ

@@ -62,7 +62,7 @@ unassigned_leaf _ is = absurd (cc)
 -- `F` gives the value that is read at an address, from the entry and its level; `G` relates an old value in a realm to
 -- an allowed new value
 module _ (x : ℕ) (A : Type 0) (F : RmmRttEntry → ℕ → A) (G : ℕ → A → A → Type 0) where
-  -- a protected address of a realm reads the same in both machines, or a new value that `G` allows
+  -- the value that is read at a protected address of a realm is the same in both machines, or one that `G` allows
   abbrev pub ReadsSo : Machine → Machine → ℕ → RmmRealm → RmmRealm → Type 0
   ReadsSo m n rd before after =
       (granule_at n rd).state ≡ Rd after → after.start_level ≡ before.start_level → after.first_table ≡ before.first_table → is_protected before x ≡ true
@@ -116,7 +116,8 @@ module _ (x : ℕ) (A : Type 0) (F : RmmRttEntry → ℕ → A) (G : ℕ → A �
           (one_changed m n proper settings count rd ipa level realm is within x A F (G rd) (entry_of (entry_word e)) now beside before (word_table e leaf) given)
           others realm refl refl inside).0
 
-    -- The first entries from `ipa` on that can be changed, up to `top` and the end of the table, get another RIPAS.
+    -- From `ipa` on, entries get RIPAS `ripas`, up to an entry that cannot be changed, up to `top`, or up to the
+    -- table's end.
     module _ (changeable : Changeable) (ripas : RmmRipas) (top : ℕ) (begins : ipa % entry_size (walk m realm ipa level).level ≡ 0)
         (page : page_in n (walk m realm ipa level).table ≡ page_in (with_ripas_from m (walk m realm ipa level).table (entry_index (walk m realm ipa level).level ipa) ripas (change_count m changeable (walk m realm ipa level) ipa top)) (walk m realm ipa level).table)
         (given : (e : RmmRttEntry) → IsBetween ipa top x → can_change changeable e ≡ true → IsReadAs A F (G rd) e (entry_with_ripas ripas e) (walk m realm ipa level).level) where

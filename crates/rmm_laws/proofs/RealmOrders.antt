@@ -49,7 +49,7 @@ module _ (m : Machine) (proper : IsProper m) (rd : ℕ) (realm : RmmRealm) (fit 
   rd_now : granule_at new rd ≡ of_no_realm (Rd realm)
   rd_now = granule_at-same tables rd (of_no_realm (Rd realm)) inside_then
 
-  -- an RD of the machine before is neither the new RD nor a new starting table
+  -- an RD that existed before is neither the new RD nor a new starting table
   rd_kept : (x : ℕ) → is_rd (granule_at m x).state ≡ true → (x ≢ rd) × NoStart realm x
   rd_kept x sure = (
     λ same. (let never : is_rd (granule_at m x).state ≡ false = ap (λ (y : ℕ). is_rd (granule_at m y).state) same ∙ ap is_rd rd_free in absurd (both_ways (is_rd (granule_at m x).state) never sure)),
@@ -184,7 +184,7 @@ module _ (m : Machine) (proper : IsProper m) (rd : ℕ) (realm : RmmRealm) (is :
   same_realm : (a b : RmmRealm) → Rd a ≡ Rd b → a ≡ b
   same_realm a b same = let both : Some a ≡ Some b = ap realm_of same in cc
 
-  -- a table of the realm that a granule uses is a starting table, if all tables of the realm at smaller levels are
+  -- a used table of the realm is a starting table, if each table of the realm at a smaller level is a starting table
   start_by : (fuel h x i k : ℕ) (s : RmmGranuleState) → ((y : ℕ) → level y < fuel → (granule_at m y).state ≡ Rtt → (granule_at m y).owner ≡ Some rd → IsStart realm y) → level h < suc fuel → (granule_at m h).state ≡ Rtt
       → (granule_at m h).owner ≡ Some rd → (granule_at m x).state ≡ s → uses m level x i k ≡ Some (used_at m level h) → IsUserOf s (granule_at m x).owner (level x) x i (used_at m level h) → IsStart realm h
   start_by fuel h x i k (Rd other) starts low table owned state gives user =
@@ -206,7 +206,7 @@ module _ (m : Machine) (proper : IsProper m) (rd : ℕ) (realm : RmmRealm) (is :
       absurd (cc)
   start_by fuel h x i k _ starts low table owned state gives user = absurd user
 
-  -- each table of the realm is a starting table
+  -- before a successful RMI_REALM_DESTROY, each table of the realm is a starting table
   starts : (fuel h : ℕ) → level h < fuel → (granule_at m h).state ≡ Rtt → (granule_at m h).owner ≡ Some rd → IsStart realm h
   unfolding uses
   starts zero h low table owned = absurd (omega arith)
@@ -224,7 +224,7 @@ module _ (m : Machine) (proper : IsProper m) (rd : ℕ) (realm : RmmRealm) (is :
       let none = start_uses_none x (starts (suc (level x)) x (omega arith) table owned) i k in
       cc
 
-  -- no granule of the realm that is not a table is used
+  -- a granule of the realm that is no table is not used
   no_user : (h x i k : ℕ) (s : RmmGranuleState) → (granule_at m h).owner ≡ Some rd → ((granule_at m h).state ≡ Rtt → ⊥) → (granule_at m x).state ≡ s → uses m level x i k ≡ Some (used_at m level h)
       → IsUserOf s (granule_at m x).owner (level x) x i (used_at m level h) → ⊥
   no_user h x i k (Rd other) owned not_table state gives user = not_table (ap (λ (u : Used). u.attributes.state) user.1)
@@ -233,7 +233,7 @@ module _ (m : Machine) (proper : IsProper m) (rd : ℕ) (realm : RmmRealm) (is :
       both_ways (is_rec_in rd (granule_at m x)) (no_rec_left x) (rec_in-true rd (granule_at m x) rec state (sym (ap (λ (r : RmmGranule). r.owner) user) ∙ owned))
   no_user h x i k _ owned not_table state gives user = user
 
-  -- a used granule of the realm is a table
+  -- before a successful RMI_REALM_DESTROY, a granule of the realm whose state requires a user is a table
   used_not : (h : ℕ) → (granule_at m h).owner ≡ Some rd → ((granule_at m h).state ≡ Rtt → ⊥) → has_user (granule_at m h).state ≡ true → ⊥
   unfolding uses
   used_not h owned not_table used_is =
@@ -358,7 +358,7 @@ module _ (m : Machine) (proper : IsProper m) (rd : ℕ) (realm : RmmRealm) (is :
   pub gone_like : (gone.settings ≡ m.settings) × (length gone.granules ≡ length m.granules)
   gone_like = (sym was.settings, sym was.count)
 
-  -- a granule that was DELEGATED is so still
+  -- a granule that was DELEGATED before RMI_REALM_DESTROY is DELEGATED once the realm's granules are wiped
   pub gone_spare : (h : ℕ) → (granule_at m h).state ≡ Delegated → (granule_at gone h).state ≡ Delegated
   gone_spare h free =
       ⊎_elim

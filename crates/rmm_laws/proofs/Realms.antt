@@ -73,8 +73,8 @@ start_or_none realm g =
     (cases_lt g (realm.first_table + realm.table_count)))
     (cases_lt g realm.first_table)
 
--- The granules of an RD and its starting tables are DELEGATED in one machine. In the other they are the realm's, and
--- the tables use nothing. All other granules are the same.
+-- In `p` the granules of an RD and its starting tables are DELEGATED; in `q` they are the realm's, and the tables use
+-- nothing. All other granules are the same.
 pub record IsRealm (p q : Machine) (before after : ℕ → ℕ) (rd : ℕ) (realm : RmmRealm) : Type 0 where
   pub settings : q.settings ≡ p.settings
   pub count : length q.granules ≡ length p.granules
@@ -161,7 +161,7 @@ module _ (p q : Machine) (before after : ℕ → ℕ) (rd : ℕ) (realm : RmmRea
     number_after = λ g. refl;
   }
 
-  -- each table of the machine with the realm is a starting table of that realm, or neither its RD nor such a table
+  -- a table in `q` is a starting table of the realm, or it is another granule than the RD and all starting tables
   table_cases : (g : ℕ) → (granule_at q g).state ≡ Rtt → IsStart realm g ⊎ ((g ≢ rd) × NoStart realm g)
   table_cases g is =
       ⊎_elim
@@ -305,7 +305,7 @@ all_delegated m first (suc count) (suc k) all lt =
     let next : first + 1 + k ≡ first + suc k = omega arith in
     subst (λ (x : ℕ). (granule_at m x).state ≡ Delegated) next (all_delegated m (first + 1) count k (and_parts _ _ all).1 (omega arith))
 
--- a number is at most its quotient by `d`, rounded up, times `d`
+-- `n` divided by `d` and rounded up, times `d`, is at least `n`
 ceiling : (n d : ℕ) → 0 < d → n ≤ (n + (d - 1)) / d * d
 ceiling n d some =
     let whole = div-add-mod' (n + (d - 1)) d in

@@ -43,8 +43,8 @@ use Rattle.rmm_laws.proofs.Writes.{is_user, granule_at-same, granule_at-other, p
 
 -- ---- a REC with its auxiliary granules
 
--- The granules of a REC and its auxiliary granules are DELEGATED in one machine. In the other they are a REC and its
--- auxiliary granules, and all other granules are the same.
+-- In `p` the granules of a REC and its auxiliary granules are DELEGATED; in `q` they are the REC and its auxiliary
+-- granules. All other granules are the same.
 pub record IsRecMade (p q : Machine) (owner : Option ℕ) (g : ℕ) : Type 0 where
   pub settings : q.settings ≡ p.settings
   pub count : length q.granules ≡ length p.granules
@@ -63,7 +63,8 @@ module _ (p q : Machine) (level : ℕ → ℕ) (owner : Option ℕ) (g : ℕ) (s
   abbrev is_new : ℕ → ℕ → Bool
   is_new i k = (nat_lt i q.settings.aux && k == 0) && is_some (granule_named q (aux_of (page_in q g) i))
 
-  -- a new place of a use belongs to an auxiliary granule that the REC's page names
+  -- if `is_new` holds of index `i` and part `k`, then `k` is 0, and the REC's page names an auxiliary granule at index
+  -- `i`
   new_place : (i k : ℕ) → is_new i k ≡ true → (i < q.settings.aux) × (k ≡ 0) × (name i ≡ Some (unwrap_or (name i) 0))
   new_place i k sure =
       let parts = and_parts (nat_lt i q.settings.aux && k == 0) (is_some (name i)) sure in
@@ -152,7 +153,7 @@ module _ (p q : Machine) (level : ℕ → ℕ) (owner : Option ℕ) (g : ℕ) (s
     number_after = λ h. refl;
   }
 
-  -- a table is as it was
+  -- a granule that is a table in `p` or in `q` is the same in both
   table_same : (t : ℕ) → ((granule_at q t).state ≡ Rtt) ⊎ ((granule_at p t).state ≡ Rtt) → (granule_at q t ≡ granule_at p t) × (page_in q t ≡ page_in p t)
   table_same t is =
       step.beside t
@@ -458,7 +459,7 @@ module _ (m : Machine) (proper : IsLinked m) (owner rec : ℕ) (realm : RmmRealm
       (λ i h lt is it. no_free (subst P (ap (λ (x : ℕ). (granule_at m x).state) (some_same (sym is ∙ aux_named i lt)) ∙ free i lt) it)))
       (λ x other. (granule_at-other all owner x (of_no_realm (Rd next)) other, refl))
 
-  -- the REC's granule has the attributes and the page of the new REC
+  -- after RMI_REC_CREATE, the REC's granule has the attributes and the contents of a new REC
   pub created_rec : (next : RmmRealm)
       → (granule_at (with_granule (with_aux (with_created_rec m owner (number_of m rec) page) (number_of m rec) (of_realm owner RecAux) m.settings.aux) owner (of_no_realm (Rd next))) (number_of m rec)
       ≡ of_realm owner (IsRec (new_rec (is_runnable_in page) (mpidr_in page))))
@@ -478,7 +479,7 @@ module _ (m : Machine) (proper : IsLinked m) (owner rec : ℕ) (realm : RmmRealm
       (λ i h lt is. inr (ap (λ (x : ℕ). (granule_at m x).state) (some_same (sym is ∙ aux_named i lt)) ∙ free i lt)))
       (inl (inl refl))
 
--- The checks of RMI_REC_CREATE have passed, and give facts about its operands.
+-- All checks of an RMI_REC_CREATE have passed, on a machine that satisfies `IsProper`.
 module _ (rd rec params : ℕ) (m : Machine) (proper : IsProper m) (ok : Passed (rec_create rd rec params m).checks) where
   abbrev params_page : List ℕ
   params_page = page_in m (number_of m params)

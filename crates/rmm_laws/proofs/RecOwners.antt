@@ -11,7 +11,7 @@ use Rattle.rmm_model.specs.Command.PsciComplete.{with_rec}
 use Rattle.rmm_laws.specs.Owner.{IsRecOf}
 use Rattle.rmm_laws.proofs.Writes.{granule_at-same, granule_at-other, taken_inside}
 
--- each REC was a REC of the same owner
+-- each REC of the second machine was a REC of the same owner in the first
 abbrev pub RecsStay : Machine → Machine → Type 0
 RecsStay m n = (g : ℕ) (rec : RmmRec) → (granule_at n g).state ≡ IsRec rec → IsRecOf m g (granule_at n g).owner
 

@@ -33,7 +33,7 @@ use Rattle.rmm_laws.proofs.SameTables.{KeepsTables, tables_all, tables_granule, 
 use Rattle.rmm_laws.proofs.Touching.{Touches, IsMine, untouched, mine_before, touch_granule, touch_page}
 use Rattle.rmm_laws.proofs.Writes.{is_user, granule_at-same, granule_at-other, page_in-other, taken_inside}
 
--- memory uses nothing
+-- a granule whose state is DATA or UNDELEGATED uses no granule
 pub memory_plain : (s : RmmGranuleState) → is_memory_state s ≡ true → is_user s ≡ false
 memory_plain Data is = refl
 memory_plain Undelegated is = refl
@@ -85,7 +85,7 @@ keep_rec_page m g rec page proper is whole same =
     ∙ sym (ap (λ (s : RmmGranuleState). state_uses m s owner level (page_in m g) g i part) is))
     (λ table. absurd (cc))
 
--- memory is no table
+-- a granule whose state is DATA or UNDELEGATED is no table
 no_memory : (s : RmmGranuleState) → is_memory_state s ≡ true → s ≡ Rtt → ⊥
 no_memory s memory table = let never : is_memory_state s ≡ false = ap is_memory_state table in cc
 
@@ -101,7 +101,9 @@ host_beside o m x kept h free plain same =
 abbrev pub IsSecureHost : Machine → ℕ → Type 0
 IsSecureHost m h = ((granule_at m h).state ≡ Undelegated) × (is_secure m (m.settings.base + h * 4096) ≡ true)
 
--- A granule is a REC of the realm of an RD, after writes that touched granules of that realm or of none.
+-- Granule `g` is a REC of realm `w` in machine `m`, after writes since `o` that touched only granules of that realm or
+-- of no realm. The writes keep the invariants `IsLinked` and `IsOrdered`, the VMIDs, and the tables. Each realm has its
+-- old state and RIM, or is realm `w`, SYSTEM_OFF with its old RIM.
 pub record IsGoing (o : Machine) (w : ℕ) (g : ℕ) (m : Machine) : Type 0 where
   pub proper : IsLinked m
   pub ordered : IsOrdered m

@@ -100,14 +100,14 @@ module _ (m : Machine) (g aux : ℕ) (proper : IsLinked m) (old : RmmRec) (is_ol
   destroyed : IsLinked gone
   destroyed = rec_gone gone m proper owner g was_made gone_sound
 
-  -- the REC is DELEGATED and zero afterwards
+  -- once the REC and its auxiliary granules are wiped, the REC's granule is DELEGATED and zero
   rec_gone_is : (granule_at gone g ≡ of_no_realm Delegated) × (page_in gone g ≡ zero_page)
   rec_gone_is =
       let pages = clean.sound.pages in
       let within = g_there in
       (granule_at-same cleared g (of_no_realm Delegated) g_there, page_in-same (with_granule cleared g (of_no_realm Delegated)) g zero_page (omega arith))
 
-  -- each auxiliary granule of the REC is DELEGATED and zero afterwards
+  -- once the REC and its auxiliary granules are wiped, each auxiliary granule is DELEGATED and zero
   aux_gone : (i h : ℕ) → i < aux → called i ≡ Some h → (granule_at gone h ≡ of_no_realm Delegated) × (page_in gone h ≡ zero_page)
   aux_gone i h lt is =
       let apart : h ≢ g = λ same. not_self i lt (is ∙ ap (λ (x : ℕ). Some x) same) in (
@@ -159,14 +159,15 @@ module _ (m : Machine) (g aux : ℕ) (proper : IsLinked m) (old : RmmRec) (is_ol
       (first_named called h aux))
       (cases_eq h g))
 
-  -- each RD of the machine afterwards was the RD of the same realm before
+  -- each RD after the REC and its auxiliary granules are wiped was the RD of the same realm before
   pub rd_before : (x : ℕ) (realm : RmmRealm) → (granule_at gone x).state ≡ Rd realm → (granule_at m x).state ≡ Rd realm
   rd_before x realm is =
       let ne : x ≢ g = λ same. (let free : (granule_at gone x).state ≡ Delegated = ap (λ (y : ℕ). (granule_at gone y).state) same ∙ ap (λ (r : RmmGranule). r.state) rec_gone_is.0 in cc) in
       let none : (i : ℕ) → i < aux → called i ≢ Some x = λ i lt at. (let free : (granule_at gone x).state ≡ Delegated = ap (λ (r : RmmGranule). r.state) (aux_gone i x lt at).0 in cc) in
       sym (ap (λ (r : RmmGranule). r.state) (beside_gone x ne none).0) ∙ is
 
-  -- the count of RECs falls by one for the realm of the owner, and stays the same for each other realm
+  -- wiping the REC lowers the count of RECs by one for the realm of its owner, and leaves the counts of other realms
+  -- unchanged
   pub gone_total : (w x : ℕ) → (granule_at m g).owner ≡ Some w → count_by (is_rec_in x) gone.granules + cond (w == x) 1 0 ≡ count_by (is_rec_in x) m.granules
   gone_total w x owned =
       let still = (clean.other g (λ i lt. not_self i lt)).0 in
@@ -301,7 +302,7 @@ module _ (rec : ℕ) (m : Machine) (proper : IsProper m) (ok : Passed (rec_destr
       (λ i h lt is. mine_before false m less (Some w) h first (inl (inr (ap (λ (r : RmmGranule). r.owner) (aux_there less here aux less_linked (rec_at m rec) still_rec refl i h lt is) ∙ still_owned)))))
       (inl (inr of_rec.1))
 
-  -- each granule keeps its page and attributes, if its state is not that of an RD, a REC or an auxiliary granule
+  -- each granule keeps its contents and attributes, if its state is not that of an RD, a REC or an auxiliary granule
   after_some : (P : RmmGranuleState → Type 0) → ((r : RmmRealm) → P (Rd r) → ⊥) → ((r : RmmRec) → P (IsRec r) → ⊥) → (P RecAux → ⊥) → KeepsSome P m after
   after_some P no_rd no_rec no_aux =
       let aux : ℕ = m.settings.aux in

@@ -65,7 +65,7 @@ module _ (m : Machine) (proper : IsLinked m) (rd ipa level : ℕ) (place : RttWa
   fits : a < 2 ^ 48
   fits = address_few m a proper.sound begin.0
 
-  -- the addresses of the table's entries do not wrap round
+  -- the memory of each entry of the table begins below 2^48
   child_few : (j : ℕ) → j < 512 → a + j * entry_size (place.level + 1) < 2 ^ 48
   unfolding is_inside
   child_few j lt =

@@ -87,7 +87,7 @@ held_rec m k g rec held = held_granule m k g (record (granule_at k g) { state = 
 
 -- ---- calls
 
--- a call gives the host a granule
+-- a call is RMI_GRANULE_UNDELEGATE, which gives the host a granule
 abbrev is_release : Call → Bool
 is_release (GranuleUndelegate address) = true
 is_release _ = false

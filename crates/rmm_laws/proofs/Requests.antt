@@ -1,4 +1,5 @@
--- Proofs that calls, queued steps and interrupts change the RIPAS requests of RECs only as `KeepsRequests` allows.
+-- Proofs that calls, interrupts and the queueing of guest steps change the RIPAS requests of RECs only as
+-- `KeepsRequests` allows.
 use Rattle.std.proofs.Common.{◌≡◌, ◌≢◌, ℕ, zero, suc, ◌+◌, ◌*◌, ◌-◌, ◌%◌, ◌<◌, ◌≤◌, ◌==◌, ◌&&◌, ◌⊎◌, inl, inr, Bool, true, false, length, List, Option, Some, None, Result, Ok, Err, unwrap_or, refl, sym, ap, subst, ◌∙◌, ⊎_elim, arith}
 use Rattle.std.specs.Prelude.{not, nat_lt, if◌then◌else◌}
 use Rattle.std.proofs.lemmas.Bool.{cases_eq, eqb-true, cond_both}
@@ -89,7 +90,7 @@ rec_back k x g kept rec is =
     (λ (other : g ≢ x). inr (sym (ap (λ (r : RmmGranule). r.state) (granule_at-other k x g kept other)) ∙ is))
     (cases_eq g x)
 
--- each REC has the same RIPAS request as before, except the REC that is left out, if any
+-- each REC has the same RIPAS request as before, except the REC in granule `but`, if any
 abbrev Beside : Machine → Option ℕ → Machine → Type 0
 Beside m but n = (g : ℕ) (rec : RmmRec) → (granule_at n g).state ≡ IsRec rec → (but ≡ Some g) ⊎ (rec.ripas ≡ (rec_in m g).ripas)
 
@@ -114,7 +115,7 @@ beside_same m k but x kept other is_rec same beside g rec is =
     (λ (before : (granule_at k g).state ≡ IsRec rec). beside g rec before)
     (rec_back k x g kept rec is)
 
--- writing the REC that is left out keeps `Beside`
+-- writing the REC that `Beside` leaves out keeps `Beside`
 beside_but : (m k : Machine) (x : ℕ) (rec : RmmRec) → Beside m (Some x) k → Beside m (Some x) (with_rec k x rec)
 beside_but m k x rec beside g new is =
     ⊎_elim
@@ -214,7 +215,7 @@ quiet _ m is = absurd (cc)
 
 -- ---- calls on RECs
 
--- RMI_REC_CREATE keeps each RIPAS request; the new REC has no request, as its granule had none before
+-- RMI_REC_CREATE keeps the RIPAS request of each REC; the new REC has no request, like a granule without a REC
 created : (rd rec params : ℕ) (m : Machine) → Passed (rec_create rd rec params m).checks → Beside m None (rec_create rd rec params m).machine
 unfolding rec_create
 created rd rec params m ok =

@@ -48,7 +48,8 @@ use Rattle.rmm_laws.proofs.StateCalls.{new_if}
 use Rattle.rmm_laws.proofs.Tops.{same_end}
 use Rattle.rmm_laws.proofs.Writes.{page_in-same, page_in-other, taken_inside}
 
--- a protected address of a realm has in another machine the RIPAS that it had, or the call gives it another
+-- a protected address of a realm has the same RIPAS in both machines, or the call may change the old RIPAS to the new
+-- one
 abbrev pub Keeps : Call → Machine → Machine → ℕ → ℕ → RmmRealm → RmmRealm → Type 0
 Keeps call m n rd x before after =
     (granule_at n rd).state ≡ Rd after → after.start_level ≡ before.start_level → after.first_table ≡ before.first_table → is_protected before x ≡ true
@@ -85,7 +86,8 @@ module _ (call : Call) (m n : Machine) (proper : IsProper m) (settings : n.setti
         let entry = now x RmmRipas (λ f l. ripas_in f) (λ r was now. Unit {0}) m n proper settings count rd ipa level realm is within least others e page before leaf in
         ap (λ (q : RttWalk). ripas_in (entry_at n q x)) (same ∙ there) ∙ ap (λ (j : ℕ). ripas_in (entry_in_page (page_in n found.table) j)) index ∙ ap ripas_in entry ∙ word_ripas e
 
-  -- The first entries from `ipa` on that can be changed, up to `top` and the end of the table, get another RIPAS.
+  -- From `ipa` on, entries get RIPAS `ripas`, up to an entry that cannot be changed, up to `top`, or up to the table's
+  -- end.
   module _ (changeable : Changeable) (ripas : RmmRipas) (top : ℕ) (begins : ipa % entry_size (walk m realm ipa level).level ≡ 0)
       (page : page_in n (walk m realm ipa level).table ≡ page_in (with_ripas_from m (walk m realm ipa level).table (entry_index (walk m realm ipa level).level ipa) ripas (change_count m changeable (walk m realm ipa level) ipa top)) (walk m realm ipa level).table)
       (given : (x : ℕ) (e : RmmRttEntry) → IsBetween ipa top x → can_change changeable e ≡ true → IsRipasGiven m (Some call) rd x (ripas_in e) ripas) where

@@ -1,5 +1,5 @@
--- Proofs that calls, stores, fills, steps and interrupts change the RIPAS of protected addresses only as `KeepsRipas`
--- allows.
+-- Proofs that calls, stores, fills, interrupts and the queueing of guest steps change the RIPAS of protected addresses
+-- only as `KeepsRipas` allows.
 use Rattle.std.proofs.Common.{◌≡◌, ℕ, ◌+◌, ◌-◌, ◌/◌, ◌%◌, ◌^◌, ◌<◌, ◌≤◌, ◌⊎◌, inl, inr, true, false, length, Option, Some, None, unwrap_or, refl, sym, subst, ◌∙◌, arith}
 use Rattle.std.specs.Prelude.{nat_le}
 use Rattle.std.proofs.lemmas.Bool.{cond_both, and_parts, eqb-true, leb-true, ltb-true, ltb-false}
@@ -112,7 +112,7 @@ own_table_destroy rd ipa level m proper ok count x after = λ then start first p
 
 -- ---- each call
 
--- the RIPAS that a call gives an address
+-- a call may change the RIPAS of an address from one given value to another
 abbrev giving : ℕ → Machine → Option Call → ℕ → RmmRipas → RmmRipas → Type 0
 giving x m call rd old new = IsRipasGiven m call rd x old new
 
@@ -133,7 +133,7 @@ own_ripas x _ m acts proper ok count after = absurd (cc)
 pub call_ripas : (o : Option Call) (r : Registers) (m : Machine) → IsProper m → KeepsRipas m o (rmi_at o r m).1
 call_ripas o r m proper = λ rd x before after is then protected. call_read x RmmRipas (λ e l. ripas_in e) (giving x) (own_ripas x) o r m proper rd before after is then protected
 
--- a page that is destroyed leaves RIPAS that is not RAM
+-- after a successful RMI_DATA_DESTROY, no address of the destroyed page has RIPAS RAM
 pub taken_ripas : (m : Machine) (rd ipa x : ℕ) → IsProper m → (performed (DataDestroy rd ipa) m).0.word ≡ Success → IsBetween ipa (ipa + 4096) x
     → is_ram (ripas_at (performed (DataDestroy rd ipa) m).1 (realm_at m rd) x) ≡ false
 unfolding data_destroy

@@ -1,5 +1,5 @@
--- Proofs that the bytes at protected addresses stay the same at a REC's entry, at its exit, and at steps that do not
--- write.
+-- Proofs that the bytes at protected addresses stay the same at a REC's entry, at its exit, and at guest steps that do
+-- not write.
 use Rattle.std.proofs.Common.{◌≡◌, ◌≢◌, ℕ, ◌+◌, ◌*◌, ◌%◌, ◌==◌, Bool, true, false, Option, Some, None, refl, sym, ap, ◌∙◌}
 use Rattle.std.proofs.lemmas.Bool.{cond_both}
 use Rattle.std.specs.Prelude.{if◌then◌else◌}

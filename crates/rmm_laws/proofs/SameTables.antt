@@ -14,7 +14,7 @@ use Rattle.rmm_laws.specs.Apart.{IsSameAt}
 use Rattle.rmm_laws.proofs.Wiping.{IsWiped, first_named}
 use Rattle.rmm_laws.proofs.Writes.{granule_at-other, page_in-other}
 
--- each granule of some state is as it was
+-- each granule whose state satisfies `P` is as it was
 abbrev pub KeepsSome : (RmmGranuleState → Type 0) → Machine → Machine → Type 0
 KeepsSome P m n = (g : ℕ) → P (granule_at m g).state → IsSameAt m n g
 
@@ -40,7 +40,7 @@ module _ (P : RmmGranuleState → Type 0) where
   pub some_page : (m k : Machine) (x : ℕ) (page : List ℕ) → (P (granule_at k x).state → ⊥) → KeepsSome P m k → KeepsSome P m (with_page k x page)
   some_page m k x page plain before = some_but m k (with_page k x page) x plain before (λ g other. (refl, page_in-other k x g page other))
 
-  -- a change of one granule whose state did not satisfy `P` at first keeps `KeepsSome`
+  -- a change of a granule whose state in `m` does not satisfy `P` keeps `KeepsSome`
   pub some_old : (m k n : Machine) (x : ℕ) → (P (granule_at m x).state → ⊥) → KeepsSome P m k → ((g : ℕ) → g ≢ x → IsSameAt k n g) → KeepsSome P m n
   some_old m k n x plain kept same g is =
       let old = kept g is in
@@ -50,7 +50,7 @@ module _ (P : RmmGranuleState → Type 0) where
   pub some_both : (m k : Machine) (x : ℕ) (kept : RmmGranule) (page : List ℕ) → (P (granule_at m x).state → ⊥) → KeepsSome P m k → KeepsSome P m (with_page (with_granule k x kept) x page)
   some_both m k x kept page plain before = some_old m k (with_page (with_granule k x kept) x page) x plain before (λ g other. (granule_at-other k x g kept other, page_in-other (with_granule k x kept) x g page other))
 
-  -- wiping granules whose states did not satisfy `P` at first keeps `KeepsSome`
+  -- wiping auxiliary granules whose states in `o` do not satisfy `P` keeps `KeepsSome`
   pub some_wiped : (o m : Machine) (g : ℕ) (kept : RmmGranule) (served : (n : ℕ) → IfSome (realm_of kept.state) (IsServed n)) (k : ℕ) (n : Machine) → KeepsSome P o m → IsWiped m g kept served k n
       → ((i h : ℕ) → i < k → granule_named m (aux_of (page_in m g) i) ≡ Some h → P (granule_at o h).state → ⊥) → KeepsSome P o n
   some_wiped o m g kept served k n before wiped plain x is =

@@ -48,7 +48,8 @@ child_table m linked table i child is lt leads =
 -- ---- walks
 
 module _ (m : Machine) (linked : IsLinked m) (halves : HasHalves m) (rd ipa : ℕ) (realm : RmmRealm) where
-  -- a place of a walk whose table has the level of the place, and the index by IPA that covers the address
+  -- `at` is a place of the walk of `ipa`; `halves` gives the table there the level of `at`, and the index of the table
+  -- that covers `ipa`
   pub record IsSeat (at : RttWalk) : Type 0 where
     pub is : IsPlace m linked rd ipa at
     pub depth : halves.level at.table ≡ at.level
@@ -143,8 +144,8 @@ module _ (m : Machine) (linked : IsLinked m) (halves : HasHalves m) (rd ipa : �
           let wide = halves.is.wide rd realm is in
           side found.level found_few realm.s2sz ipa x (omega arith) (sym same) within
 
-      -- an entry that is allowed at each address covered at the end of a walk is allowed there for each realm that owns
-      -- the table
+      -- if `e` is allowed at all addresses that the last entry of a walk covers, `e` satisfies condition `half` of
+      -- `IsHalved` at that entry
       pub at_seat : (e : RmmRttEntry) → ((x : ℕ) → x / entry_size (walk m realm ipa level).level ≡ ipa / entry_size (walk m realm ipa level).level → IsOfHalf realm x e)
           → (other x : ℕ) (some : RmmRealm) → (granule_at m other).state ≡ Rd some → granule_at m (walk m realm ipa level).table ≡ of_realm other Rtt
           → x / entry_size (halves.level (walk m realm ipa level).table) ≡ halves.place (walk m realm ipa level).table * 512 + entry_index (walk m realm ipa level).level ipa → IsOfHalf some x e

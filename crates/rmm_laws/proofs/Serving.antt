@@ -17,7 +17,7 @@ use Rattle.rmm_laws.proofs.Entries.{named_inside}
 use Rattle.rmm_laws.proofs.Mappings.{served}
 use Rattle.rmm_laws.proofs.Walks.{IsPlace, next, start_is, start_inside, entry_index-few}
 
--- an entry that leads to no table of the machine is no TABLE
+-- an entry that satisfies `LeadsInside` and leads to no table is no TABLE
 pub no_table_entry : (m : Machine) (entry : RmmRttEntry) → LeadsInside m entry → table_below m entry ≡ None → is_table entry ≡ false
 no_table_entry m (Table address) leads none = let some = named_inside m address leads.0 in absurd (cc)
 no_table_entry m (Assigned ripas address) leads none = refl
@@ -27,7 +27,7 @@ no_table_entry m (AssignedNs desc) leads none = refl
 
 -- ---- addresses
 
--- the address from which a table of a level serves, if it serves an address
+-- the beginning of the range that a table of a level serves, if the table serves the given address
 abbrev pub base_of : ℕ → ℕ → ℕ
 base_of level ipa = ipa / entry_size level / 512 * (512 * entry_size level)
 
@@ -57,7 +57,7 @@ base_next (suc (suc (suc l))) ipa few = absurd (omega arith)
 -- ---- walks
 
 module _ (m : Machine) (linked : IsLinked m) (rd ipa : ℕ) (realm : RmmRealm) where
-  -- a place of a walk whose table serves the range with the walk's address
+  -- `place` is a place of the walk of `ipa`, and the table there serves the range of addresses with `ipa` in it
   pub record IsServing (place : RttWalk) : Type 0 where
     pub is : IsPlace m linked rd ipa place
     pub levels : ℕ

@@ -71,7 +71,7 @@ of_entries l few =
     (λ base x k j begins covers low high. (omega arith, omega arith))
     l few
 
--- entries from `base` on that fit whole below `top` end at `top` or before it
+-- `k` entries from `base` on end at or below `top`, if `k` is at most the distance to `top` divided by the entry size
 ends_below : (l : ℕ) → l ≤ 3 → (base top k : ℕ) → base < top → k ≤ (top - base) / entry_size l → base + k * entry_size l ≤ top
 unfolding entry_size
 ends_below l few =
@@ -177,7 +177,7 @@ module _ (m n : Machine) (proper : IsProper m) (settings : n.settings ≡ m.sett
   same_walk : (x : ℕ) → is_protected realm x ≡ true → walk n realm x 3 ≡ walk m realm x 3
   same_walk x protected = (changed m n proper settings count r base 3 realm is within x RmmRipas (λ e l. ripas_in e) (λ was now. Unit {0}) (each x) (λ h here other. others h other) realm refl refl (protected_within realm x protected)).0
 
-  -- A protected address in the range whose RIPAS is changed.
+  -- `x` is a protected address in the range of addresses whose RIPAS is changed.
   module _ (x : ℕ) (between : IsBetween base (base + change_count m changeable (walk m realm base 3) base top * entry_size (walk m realm base 3).level) x) (protected : is_protected realm x ≡ true) where
     abbrev j : ℕ
     j = entry_index (walk m realm base 3).level x
@@ -287,8 +287,8 @@ init_after rd base top m proper ok =
       stop_most m n proper refl count r base top realm is within changeable Ram begins can fits refl others,
     )
 
--- a successful RMI_RTT_SET_RIPAS gives protected addresses from `base` up to X1 the requested RIPAS, and leaves all
--- others as they were; X1 is at most `top` and the request's top
+-- A successful RMI_RTT_SET_RIPAS sets the RIPAS of protected addresses from `base` up to X1 as requested, and of no
+-- other protected address. X1 is at most `top`, and at most the top of the request.
 pub range_after : (m : Machine) (rd rec base top : ℕ) → IsProper m → (performed (RttSetRipas rd rec base top) m).0.word ≡ Success
     → IsRipasSet m (performed (RttSetRipas rd rec base top) m).1 (realm_at m rd) (rec_at m rec).ripas.ripas base (performed (RttSetRipas rd rec base top) m).0.x1 × ((performed (RttSetRipas rd rec base top) m).0.x1 ≤ top)
     × ((performed (RttSetRipas rd rec base top) m).0.x1 ≤ (rec_at m rec).ripas.top)
@@ -300,8 +300,8 @@ range_after m rd rec base top proper success =
     (RttSetRipas rd rec base top) m refl success
     (λ ok now. subst (λ (p : SmcResult × Machine). IsRipasSet m p.1 (realm_at m rd) (rec_at m rec).ripas.ripas base p.0.x1 × (p.0.x1 ≤ top) × (p.0.x1 ≤ (rec_at m rec).ripas.top)) (sym now) (set_after rd rec base top m proper ok))
 
--- a successful RMI_RTT_INIT_RIPAS gives protected addresses from `base` up to X1 RIPAS RAM, and leaves all others as
--- they were; X1 is at most `top`
+-- A successful RMI_RTT_INIT_RIPAS sets the RIPAS of protected addresses from `base` up to X1 to RAM, and of no other
+-- protected address. X1 is at most `top`.
 pub range_inited : (m : Machine) (rd base top : ℕ) → IsProper m → (performed (RttInitRipas rd base top) m).0.word ≡ Success
     → IsRipasSet m (performed (RttInitRipas rd base top) m).1 (realm_at m rd) Ram base (performed (RttInitRipas rd base top) m).0.x1 × ((performed (RttInitRipas rd base top) m).0.x1 ≤ top)
 unfolding rtt_init_ripas range_checks

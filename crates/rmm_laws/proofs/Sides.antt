@@ -13,7 +13,7 @@ power_few j k few =
     (λ (other : j ≢ k). (let less = pow_below j k (omega arith) in omega arith))
     (cases_eq j k)
 
--- a power of 2 that is at least another is a multiple of it
+-- of two powers of 2, the larger is a multiple of the smaller
 multiple_of : (k e : ℕ) → 2 ^ k ≤ 2 ^ e → (d : ℕ) × (2 ^ e ≡ 2 ^ d * 2 ^ k)
 multiple_of k e few =
     ⊎_elim
@@ -63,14 +63,15 @@ sizes_fall (suc (suc zero)) (suc zero) few = omega arith
 sizes_fall (suc (suc (suc zero))) zero few = omega arith
 sizes_fall l d few = absurd (omega arith)
 
--- an entry that covers an address begins at its number times its size, not after the address
+-- if entry `n` of a level covers an address, then `n` times the entry size is at most the address, and is an address in
+-- entry `n`
 pub entry_start : (l : ℕ) → l ≤ 3 → (n ipa : ℕ) → ipa / entry_size l ≡ n → (n * entry_size l ≤ ipa) × (n * entry_size l / entry_size l ≡ n)
 unfolding entry_size
 entry_start l few =
     level_cases (λ (k : ℕ). (n ipa : ℕ) → ipa / entry_size k ≡ n → (n * entry_size k ≤ ipa) × (n * entry_size k / entry_size k ≡ n))
     (λ n ipa is. (omega arith, omega arith)) (λ n ipa is. (omega arith, omega arith)) (λ n ipa is. (omega arith, omega arith)) (λ n ipa is. (omega arith, omega arith)) l few
 
--- the table that serves an address has the number of the entry above it that covers the address
+-- the number of the entry that covers an address, divided by 512, is that of the covering entry one level up
 pub above : (l ipa : ℕ) → l ≤ 2 → ipa / entry_size (l + 1) / 512 ≡ ipa / entry_size l
 unfolding entry_size
 above zero ipa few = omega arith

@@ -1,5 +1,5 @@
--- Proofs that a successful call reads its input page from the host, and that a new REC has the attributes and the page
--- that its parameters ask for.
+-- Proofs that a successful call reads its input page from the host, and that a new REC has the attributes and the
+-- contents that its parameters ask for.
 use Rattle.std.proofs.Common.{◌≡◌, ℕ, true, false, not, refl, sym, subst, ◌∙◌}
 use Rattle.std.proofs.lemmas.Bool.{and_parts, eqb-true, not-true}
 use Rattle.rmi_abi.specs.declared.call.Call.{Call}
@@ -32,7 +32,7 @@ host_page m address sound aligned within host =
       secure_page m address sound inside ∙ not-true (is_secure m address) parts.1,
     )
 
--- a call that succeeds reads a page of the host
+-- if a call with an input page succeeds, that page is a page of the host outside the secure world
 pub read_from_host : (m : Machine) (call : Call) → IsProper m → (performed call m).0.word ≡ Success → IsFromHost m call
 unfolding data_create source_checks target_checks realm_create params_checks rec_create aux_checks number_checks
 read_from_host m (DataCreate rd page ipa source flags) proper success =

@@ -1,5 +1,5 @@
--- Proofs that calls, queued steps and interrupts change the states and RIMs of realms only as `KeepsStates` and
--- `KeepsRims` allow.
+-- Proofs that calls, interrupts and the queueing of guest steps change the states and RIMs of realms only as
+-- `KeepsStates` and `KeepsRims` allow.
 use Rattle.std.proofs.Common.{◌≡◌, ℕ, zero, suc, ◌+◌, ◌==◌, ◌&&◌, ◌⊎◌, inl, inr, Bool, true, false, not, List, Option, Some, None, refl, sym, ap, subst, ◌∙◌, ⊎_elim}
 use Rattle.std.specs.Prelude.{nat_lt}
 use Rattle.std.proofs.lemmas.Bool.{cond_both}

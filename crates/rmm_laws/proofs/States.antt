@@ -25,7 +25,7 @@ write_back k x g kept realm is =
     (λ (other : g ≢ x). inr (sym (ap (λ (r : RmmGranule). r.state) (granule_at-other k x g kept other)) ∙ is))
     (cases_eq g x)
 
--- a realm was there, in the same state and with the same RIM
+-- the granule was the RD of a realm with the given realm's state and RIM
 abbrev pub IsAsBefore : Machine → ℕ → RmmRealm → Type 0
 IsAsBefore m g realm = (old : RmmRealm) × ((granule_at m g).state ≡ Rd old) × (old.state ≡ realm.state) × (old.rim ≡ realm.rim)
 

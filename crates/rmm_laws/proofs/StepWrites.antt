@@ -1,4 +1,5 @@
--- A proof that a guest step that writes leaves the bytes at protected addresses of other pages and realms unchanged.
+-- A proof that a guest step that writes keeps the bytes at all protected addresses, except those of the page that it
+-- writes.
 use Rattle.std.proofs.Common.{◌≡◌, ◌≢◌, ℕ, ◌/◌, ◌==◌, ◌⊎◌, true, false, List, length, Option, Some, None, Ok, refl, sym, ap, subst, ◌∙◌, ⊎_elim}
 use Rattle.std.proofs.lemmas.Bool.{cases_Bool, cases_eq, cond-true, eq-eqb}
 use Rattle.rmm_model.specs.declared.access.AccessSize.{AccessSize}

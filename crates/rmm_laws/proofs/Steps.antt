@@ -56,7 +56,8 @@ deeper_start (suc zero) few p i = omega arith
 deeper_start (suc (suc zero)) few p i = omega arith
 deeper_start (suc (suc (suc l))) few p i = absurd (omega arith)
 
--- the address `i` entries after the beginning of table `p` of a level begins an entry of that table, and has index `i`
+-- at level `l`, if a table's range begins at `first`, the address `i` entries later is in the range and begins the
+-- entry with index `i`
 abbrev IsAddress : ℕ → Type 0
 IsAddress l = (p i first : ℕ) → i < 512 → first ≡ p * (512 * entry_size l)
     → ((first + i * entry_size l) / entry_size l ≡ p * 512 + i) × ((first + i * entry_size l) / entry_size l % 512 ≡ i) × ((first + i * entry_size l) % entry_size l ≡ 0)
@@ -162,7 +163,7 @@ or_right : (a b : Bool) → a ≡ false → (a || b) ≡ true → b ≡ true
 or_right true b never some = absurd (cc)
 or_right false b never some = some
 
--- if the test for a live starting table succeeds, one of the starting tables has a live entry
+-- if `has_live_table` holds of some adjacent tables, one of the tables has a live entry
 live_start : (m : Machine) (first count : ℕ) → has_live_table m first count ≡ true → (k : ℕ) × (k < count) × (has_live (page_in m (first + k)) ≡ true)
 unfolding has_live_table
 live_start m first zero some = absurd (cc)
@@ -202,7 +203,7 @@ module _ (m : Machine) (proper : IsProper m) (rd : ℕ) (named : rd_named m rd �
   is : (granule_at m (number_of m rd)).state ≡ Rd (realm_at m rd)
   is = realm_of-some (state_at m rd) (rd_tests m rd named).2
 
-  -- The teardown's next step at entry `i` of a table of the realm, by the address at which the entry begins.
+  -- Entry `i` of a table of the realm begins at the address `ipa`, which is the operand of its teardown calls.
   module _ (table i : ℕ) (there : IsTableOf m (number_of m rd) table) (index : i < 512) (server : IsServer m proper.linked (number_of m rd) realm is table) where
     abbrev l : ℕ
     l = realm.start_level + server.levels
@@ -248,7 +249,7 @@ module _ (m : Machine) (proper : IsProper m) (rd : ℕ) (named : rd_named m rd �
         page_step m rd ipa a ripas proper named (page_size deepest) (lt-ltb ipa (2 ^ (realm.s2sz - 1)) kind) (subst (λ (n : ℕ). (walk m realm ipa n).level ≡ n) deepest reaches)
         (subst (λ (n : ℕ). entry_at m (walk m realm ipa n) ipa ≡ Assigned ripas a) deepest (entry_is ∙ at))
 
-    -- The steps of a teardown when some spare granule is DELEGATED.
+    -- `spare` is the address of a DELEGATED granule, which can become a table in the realm's teardown.
     module _ (spare : ℕ) (spare_aligned : spare % 4096 ≡ 0) (spare_inside : is_inside m spare ≡ true) (spare_free : (granule_at m (number_of m spare)).state ≡ Delegated) where
       unfold_step : (ripas : RmmRipas) (a : ℕ) → l < 3 → ipa < 2 ^ realm.s2sz → entry_in_page (page_in m table) i ≡ Assigned ripas a → HasNextStep m rd spare
       unfold_step ripas a upper within at =
@@ -272,7 +273,7 @@ module _ (m : Machine) (proper : IsProper m) (rd : ℕ) (named : rd_named m rd �
                 (subst (λ (n : ℕ). table_below m (entry_at m (walk m realm ipa n) ipa) ≡ Some child) (sym back) (ap (table_below m) entry_is ∙ leads)) dead,
           )
 
-      -- the realm has a next step if the entry is live, and if a live table below it gives a next step
+      -- a live entry gives the realm a next step, on the premise that a live entry in a table below gives one
       step_by : (e : RmmRttEntry) → entry_in_page (page_in m table) i ≡ e → is_live e ≡ true → IsOfHalf realm ipa e → LeadsInside m e
           → ((child : ℕ) → table_below m (entry_in_page (page_in m table) i) ≡ Some child → has_live (page_in m child) ≡ true → HasNextStep m rd spare) → HasNextStep m rd spare
       step_by (Unassigned ripas) at live kind leads rest = absurd (cc)
@@ -307,7 +308,7 @@ module _ (m : Machine) (proper : IsProper m) (rd : ℕ) (named : rd_named m rd �
       let first : ℕ = server.1 + i * entry_size (realm.start_level + server.0) in
       (first, leaf_step table i there index s ripas a (sym server.3 ∙ deepest) at (subst (IsOfHalf realm first) at (of_half table i there index s)))
 
-  -- a realm with a REC that does not run has a removal: RMI_REC_DESTROY succeeds
+  -- if some REC of the realm does not run, the realm satisfies `HasRemoval`, by RMI_REC_DESTROY
   rec_removal : (g : ℕ) (rec : RmmRec) → granule_at m g ≡ of_realm (number_of m rd) (IsRec rec) → is_running rec.state ≡ false → HasRemoval m rd
   rec_removal g rec there ready =
       let a : ℕ = m.settings.base + g * 4096 in
@@ -360,7 +361,7 @@ module _ (m : Machine) (proper : IsProper m) (rd : ℕ) (named : rd_named m rd �
     pub next_step : (table i : ℕ) → IsTableOf m (number_of m rd) table → i < 512 → is_live (entry_in_page (page_in m table) i) ≡ true → HasNextStep m rd spare
     next_step table i there index live = next_from 4 table i (omega arith) there index live
 
-    -- a realm without RECs has a next step, or it can be destroyed
+    -- a realm without RECs satisfies `HasNextStep` or `HasRemoval`
     without_recs : ((g : ℕ) → is_rec_in (number_of m rd) (granule_at m g) ≡ false) → HasNextStep m rd spare ⊎ HasRemoval m rd
     without_recs none =
         ⊎_elim
@@ -371,7 +372,7 @@ module _ (m : Machine) (proper : IsProper m) (rd : ℕ) (named : rd_named m rd �
         (λ (dead : has_live_table m realm.first_table realm.table_count ≡ false). inr (RealmDestroy rd, refl, realm_step m rd proper named none dead))
         (cases_Bool (has_live_table m realm.first_table realm.table_count))
 
-    -- a realm none of whose RECs runs has a next step or a removal
+    -- a realm none of whose RECs runs satisfies `HasNextStep` or `HasRemoval`
     pub step_or_end : ((g : ℕ) (rec : RmmRec) → granule_at m g ≡ of_realm (number_of m rd) (IsRec rec) → is_running rec.state ≡ false) → HasNextStep m rd spare ⊎ HasRemoval m rd
     step_or_end ready =
         ⊎_elim

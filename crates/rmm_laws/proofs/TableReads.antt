@@ -43,7 +43,8 @@ child_below m page e level j is leaf =
 
 -- ---- RMI_RTT_CREATE
 
--- After RMI_RTT_CREATE an address reads as before, if the child that covers it reads as the replaced entry did.
+-- RMI_RTT_CREATE keeps the value read at an address, if `F` gives the same for the child that covers the address as for
+-- the replaced entry.
 module _ (rd rtt ipa level : ℕ) (m : Machine) (proper : IsProper m) (ok : Passed (rtt_create rd rtt ipa level m).checks) (count : length (rtt_create rd rtt ipa level m).machine.granules ≡ length m.granules)
     (x : ℕ) (A : Type 0) (F : RmmRttEntry → ℕ → A)
     (alike : F (entry_of (entry_word (child_entry (entry_at m (walk m (realm_at m rd) ipa (level - 1)) ipa) level (entry_index level x)))) level ≡ F (entry_at m (walk m (realm_at m rd) ipa (level - 1)) ipa) (level - 1)) where
@@ -132,8 +133,8 @@ first_few : (page : List ℕ) → descriptor_of (entry_in_page page 0) < 2 ^ 48
 unfolding entry_in_page
 first_few page = descriptor-few (word_of_page page 0)
 
--- After RMI_RTT_FOLD an address reads as before, if the child that covers it reads as the first entry does one level
--- up.
+-- RMI_RTT_FOLD keeps the value read at an address, if `F` gives the same for the child that covers the address as for
+-- the folded entry. The folded entry is the table's first entry, one level up.
 module _ (rd ipa level : ℕ) (m : Machine) (proper : IsProper m) (ok : Passed (rtt_fold rd ipa level m).checks) (count : length (rtt_fold rd ipa level m).machine.granules ≡ length m.granules)
     (x : ℕ) (A : Type 0) (F : RmmRttEntry → ℕ → A)
     (alike : F (entry_of (entry_word (child_entry (entry_in_page (page_in m (unwrap_or (table_below m (entry_at m (walk m (realm_at m rd) ipa (level - 1)) ipa)) 0)) 0) level (entry_index level x)))) level

@@ -52,7 +52,7 @@ pub none_failing : (cs : List Check) → Passed cs → first_failing cs ≡ None
 none_failing [] ok = refl
 none_failing (c ∷ cs) ok = cond-false c.fails (Some c.refusal) (first_failing cs) ok.0 ∙ none_failing cs ok.1
 
--- the word of a call whose checks pass is that of its own answer
+-- if all checks of a call pass, its result word is the word of its command's answer
 pub own_word : (call : Call) (m : Machine) → Passed (command_of call m).checks → (performed call m).0.word ≡ (command_of call m).answer.word
 unfolding performed
 own_word call m ok = ap (λ f. (decided f (command_of call m) m).0.word) (none_failing (command_of call m).checks ok)
@@ -211,7 +211,7 @@ granule_step m address aligned inside free =
     own_word (GranuleUndelegate address) m
     (no_more (address % 4096 == 0) (eq-eqb (address % 4096) 0 aligned), (no_more (is_inside m address) inside, (no_more (is_delegated (state_at m address)) (ap is_delegated free), tt)))
 
--- after an RMI_GRANULE_UNDELEGATE that succeeds, its granule is UNDELEGATED and zero
+-- after an RMI_GRANULE_UNDELEGATE that succeeds, the granule at its address is UNDELEGATED and zero
 pub undelegated : (m : Machine) (address : ℕ) → IsProper m → (performed (GranuleUndelegate address) m).0.word ≡ Success
     → (granule_at (performed (GranuleUndelegate address) m).1 (number_of m address) ≡ of_no_realm Undelegated) × (page_in (performed (GranuleUndelegate address) m).1 (number_of m address) ≡ zero_page)
 unfolding granule_undelegate
@@ -224,7 +224,7 @@ undelegated m address proper success =
     subst (λ (p : SmcResult × Machine). (granule_at p.1 g ≡ of_no_realm Undelegated) × (page_in p.1 g ≡ zero_page)) (sym now)
     (granule_at-same m g (of_no_realm Undelegated) inside, page_in-same (with_granule m g (of_no_realm Undelegated)) g zero_page (omega arith)))
 
--- after an RMI_GRANULE_DELEGATE that succeeds, its granule is DELEGATED and zero
+-- after an RMI_GRANULE_DELEGATE that succeeds, the granule at its address is DELEGATED and zero
 pub delegated : (m : Machine) (address : ℕ) → IsProper m → (performed (GranuleDelegate address) m).0.word ≡ Success
     → (granule_at (performed (GranuleDelegate address) m).1 (number_of m address) ≡ of_no_realm Delegated) × (page_in (performed (GranuleDelegate address) m).1 (number_of m address) ≡ zero_page)
 unfolding granule_delegate

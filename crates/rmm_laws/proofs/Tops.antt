@@ -1,5 +1,5 @@
--- Proofs that no live entry is between a walk's address and its top, which is at the next live entry or at the table's
--- end.
+-- Proofs that a walk's top is at the next live entry or at the table's end, and that no live entry is between the
+-- walk's address and the top.
 use Rattle.std.proofs.Common.{◌≡◌, ◌≢◌, ℕ, zero, suc, ◌+◌, ◌-◌, ◌*◌, ◌/◌, ◌%◌, ◌^◌, ◌<◌, ◌≤◌, ◌⊎◌, inl, inr, ◌==◌, true, false, List, Option, Some, None, refl, sym, ap, subst, ◌∙◌, ⊎_elim, arith}
 use Rattle.std.specs.Option.{option_map_or}
 use Rattle.std.proofs.lemmas.Bool.{both_ways, cases_Bool, cases_eq, cases_lt, cond_both, cond-true, cond-false, eq-eqb, ne_eqb}
@@ -54,8 +54,8 @@ first_live-live page (suc count) i =
 
 -- ---- addresses in one table
 
--- An address from `ipa` on and before the entry at index `live` is in the same table. Its index is at least that of
--- `ipa`, and below `live`. The index 512 is the table's end.
+-- An address from `ipa` on and before the entry at index `live` is covered by the same table as `ipa`. The address's
+-- index is at least that of `ipa`, and below `live`. The index 512 is the table's end.
 before_live : (l : ℕ) → l ≤ 3 → (ipa x live : ℕ) → ipa ≤ x → x < (ipa / entry_size l + (live - entry_index l ipa)) * entry_size l → live ≤ 512 → entry_index l ipa ≤ live
     → (entry_index l ipa ≤ entry_index l x) × (entry_index l x < live) × (x / entry_size l / 512 ≡ ipa / entry_size l / 512)
 unfolding entry_size entry_index
@@ -69,7 +69,7 @@ before_live l few =
     (λ ipa x live from to most least. (omega arith, omega arith, omega arith))
     l few
 
--- addresses of one table are of one entry of each level above it
+-- two addresses that one table covers are in the same entry at each level above the level of the table
 above_same : (p l x ipa : ℕ) → p < l → l ≤ 3 → x / entry_size l / 512 ≡ ipa / entry_size l / 512 → x / entry_size p ≡ ipa / entry_size p
 unfolding entry_size
 above_same zero (suc zero) x ipa below few same = omega arith
@@ -93,7 +93,8 @@ module _ (m : Machine) (ipa x : ℕ) where
   abbrev child : RttWalk → ℕ → RttWalk
   child place table = record { table = table; level = place.level + 1 }
 
-  -- a walk from a place ends at that place's level or further down, if walks from the table below do
+  -- a walk from a place ends at the level of the place or deeper, if a walk from each table below ends at the level of
+  -- that table or deeper
   down_at : (levels : ℕ) (place : RttWalk) (o : Option ℕ) → ((table : ℕ) → place.level + 1 ≤ (walk_from m ipa levels (child place table)).level)
       → place.level ≤ (option_map_or (λ (table : ℕ). walk_from m ipa levels (child place table)) o place).level
   down_at levels place (Some table) rest = let far = rest table in omega arith
@@ -104,8 +105,8 @@ module _ (m : Machine) (ipa x : ℕ) where
   down zero place = omega arith
   down (suc levels) place = down_at levels place (table_below m (entry_at m place ipa)) (λ table. down levels (child place table))
 
-  -- an address follows the walk of `ipa`, if its indices above the end agree, its entry there leads to no table, and
-  -- the same holds from the table below
+  -- If the walks of `x` and `ipa` from the table below a place end together, so do their walks from the place. The
+  -- indices of `x` and `ipa` above the end agree, and the entry of `x` at the end leads to no table.
   follows_at : (levels more : ℕ) (place : RttWalk) (o : Option ℕ) → table_below m (entry_at m place ipa) ≡ o
       → ((p : ℕ) → p < (option_map_or (λ (table : ℕ). walk_from m ipa levels (child place table)) o place).level → entry_index p x ≡ entry_index p ipa)
       → table_below m (entry_at m (option_map_or (λ (table : ℕ). walk_from m ipa levels (child place table)) o place) x) ≡ None
@@ -145,7 +146,7 @@ module _ (m : Machine) (found : RttWalk) (ipa : ℕ) (few : found.level ≤ 3) w
       let high = most.1 in
       (low, omega arith)
 
-  -- the entry of the address is live, or the top is further on
+  -- the entry of `ipa` is the next live entry, or the top is where the entry at index `live` begins
   top_is : (live ≡ i) ⊎ ((live ≢ i) × (top m found ipa ≡ (ipa / entry_size found.level + (live - i)) * entry_size found.level))
   unfolding top top_at
   top_is = ⊎_elim (λ (same : live ≡ i). inl same) (λ (other : live ≢ i). inr (other, cond-false (live == i) _ _ (ne_eqb live i other))) (cases_eq live i)
@@ -205,7 +206,7 @@ module _ (m : Machine) (linked : IsLinked m) (rd ipa level : ℕ) (realm : RmmRe
 
 -- ---- where tops are
 
--- moving `ipa` on by the entries between its index and the live index gives an address with the live index
+-- the entry that is `live - entry_index l ipa` entries after the entry of `ipa` has index `live`
 further_index : (l : ℕ) → l ≤ 3 → (ipa live : ℕ) → entry_index l ipa ≤ live → live < 512 → entry_index l ((ipa / entry_size l + (live - entry_index l ipa)) * entry_size l) ≡ live
 unfolding entry_size entry_index
 further_index l few =
@@ -254,7 +255,7 @@ further_before l few =
     level_cases (λ (k : ℕ). (ipa live : ℕ) → live < 512 → IsBefore k ipa ((ipa / entry_size k + (live - entry_index k ipa)) * entry_size k))
     (λ ipa live below. omega arith) (λ ipa live below. omega arith) (λ ipa live below. omega arith) (λ ipa live below. omega arith) l few
 
--- an address that is not after `ipa`, but in an entry that is not before that of `ipa`, has the same index as `ipa`
+-- an address at or before `ipa`, but not in an earlier entry, has the same index as `ipa`
 same_index : (l : ℕ) → l ≤ 3 → (ipa to : ℕ) → to ≤ ipa → ipa / entry_size l ≤ to / entry_size l → entry_index l ipa ≡ entry_index l to
 unfolding entry_size entry_index
 same_index l few =
@@ -317,7 +318,7 @@ module _ (m : Machine) (found : RttWalk) (ipa : ℕ) (few : found.level ≤ 3) w
       (cases_eq next_live 512)))
       (cases_eq next_live at)
 
--- if the entry of an address is not live, the top of the address is after it
+-- if the entry of an address is not live, each top that satisfies `IsAtLive` is above the address
 pub after_dead : (m : Machine) (found : RttWalk) (ipa to : ℕ) → found.level ≤ 3 → is_live (entry_at m found ipa) ≡ false → IsAtLive m found ipa to → ipa < to
 unfolding entry_at
 after_dead m found ipa to few dead met =

@@ -41,7 +41,8 @@ module _ (o : Machine) (rd r : ℕ) where
   abbrev old_vmid : ℕ
   old_vmid = (realm_at o rd).vmid
 
-  -- the granules of the realm at the start are UNDELEGATED and zero after calls that succeed, and its VMID is free
+  -- some successful calls make the granules that the realm had at the start UNDELEGATED and zero, free its VMID, and
+  -- leave granules of other realms unchanged
   abbrev Down : Machine → Type 0
   Down m = (calls : List Call) × (after : Machine) × LeadsDown rd m calls after × ((g : ℕ) → IsOfRealm o (Some r) g → IsGivenBack after g)
       × ((g : ℕ) → (IsOfRealm m (Some r) g → ⊥) → (IsSpare m g → ⊥) → IsSameAt m after g) × (is_vmid_used after old_vmid ≡ false)
@@ -77,7 +78,8 @@ module _ (o : Machine) (rd r : ℕ) where
 
   -- ---- the granules are undelegated
 
-  -- the realm's granules below `p` are given back, and its granules from `p` on are DELEGATED; its VMID is free
+  -- the granules of the realm in `o` satisfy `IsGivenBack` below `p` and are DELEGATED from `p` on; the realm's VMID is
+  -- free
   record IsFreeing (p : ℕ) (m : Machine) : Type 0 where
     proper : IsProper m
     count : length m.granules ≡ length o.granules
@@ -161,7 +163,8 @@ module _ (o : Machine) (rd r : ℕ) where
 
   -- ---- the realm is taken down
 
-  -- the realm still exists and none of its RECs runs; each granule that it had is its own or DELEGATED
+  -- the realm still exists and none of its RECs runs; each granule of the realm in `o` still belongs to the realm, or
+  -- is DELEGATED
   record IsGoingDown (m : Machine) : Type 0 where
     kin : IsKin o m
     number : number_of m rd ≡ r
@@ -213,7 +216,7 @@ module _ (o : Machine) (rd r : ℕ) where
         vmid = subst (λ (v : ℕ). is_vmid_used n v ≡ false) going.vmid then_is.2;
       }))
 
-  -- with a DELEGATED granule, the teardown can be completed if the realm weighs less than `w`
+  -- if some granule is DELEGATED and the realm's weight is below `w`, the teardown can be completed
   abbrev Lighter : ℕ → Type 0
   Lighter w = (n : Machine) (spare : ℕ) → IsGoingDown n → (granule_at n spare).state ≡ Delegated → heavy r n < w → Down n
 
@@ -238,7 +241,8 @@ module _ (o : Machine) (rd r : ℕ) where
       freed_down w m (RttDestroy rd ipa level) (number_of m x1) (number_of m rd) rest going light (named_r m going) refl success going.number
       (of_back m (performed (RttDestroy rd ipa level) m).1 (number_of m rd) x1 Rtt refl (λ same. cc) back (table_kin m rd ipa level going.kin.0 success))
 
-  -- the teardown can be completed by unfolding a block and destroying its first page, which leaves a lighter realm
+  -- if `Lighter w` holds and the realm's weight is at most `w`, the teardown can be completed after unfolding a block
+  -- and destroying its first page
   block_down : (w : ℕ) (m : Machine) (rtt ipa level : ℕ) → Lighter w → IsGoingDown m → heavy r m < suc w → IsAssignedAt m rd ipa (level - 1) → (performed (RttCreate rd rtt ipa level) m).0.word ≡ Success → Down m
   block_down w m rtt ipa level rest going light block success =
       let n : Machine = (performed (RttCreate rd rtt ipa level) m).1 in
@@ -259,8 +263,8 @@ module _ (o : Machine) (rd r : ℕ) where
       one_call m (RttCreate rd rtt ipa level) going.kin.0 (by_named m (RttCreate rd rtt ipa level) (named_r m going)) (refl, block) success
       (one_call n (DataDestroy rd page.0) proper (by_named n (DataDestroy rd page.0) (named_r n next)) refl page.1 (rest k y (step_down n k y next freed.step) (ap (λ (c : RmmGranule). c.state) freed.free) (omega arith)))
 
-  -- with a DELEGATED granule, the teardown can be completed if the realm weighs at most `w` and there are fewer than
-  -- `ns` mappings of host memory
+  -- if some granule is DELEGATED, the realm's weight is at most `w`, and there are fewer than `ns` mappings of host
+  -- memory, the teardown can be completed
   abbrev Fewer : ℕ → ℕ → Type 0
   Fewer w ns = (n : Machine) (spare : ℕ) → IsGoingDown n → (granule_at n spare).state ≡ Delegated → heavy r n < suc w → mapped n < ns → Down n
 

@@ -10,7 +10,7 @@ use Rattle.rmm_model.specs.Machine.{Machine, granule_at, with_granule, with_page
 use Rattle.rmm_laws.specs.Apart.{IsOfRealm, IsSpare, IsSameAt}
 use Rattle.rmm_laws.proofs.Writes.{granule_at-other, page_in-other}
 
--- a granule of no realm: a DELEGATED one, or also a page of the host
+-- a granule is DELEGATED or, if the flag is true, UNDELEGATED, so it belongs to no realm
 abbrev pub IsFree : Bool → Machine → ℕ → Type 0
 IsFree true m g = IsSpare m g
 IsFree false m g = (granule_at m g).state ≡ Delegated
@@ -19,14 +19,14 @@ pub free_spare : (host : Bool) (m : Machine) (g : ℕ) → IsFree host m g → I
 free_spare true m g free = free
 free_spare false m g free = inr free
 
--- Each granule is as it was, or of the realm that a call is on, or of none. Settings stay, and so does the number of
--- granules.
+-- Each granule is as it was, belongs to the realm that a call is on, or belongs to no realm. Settings stay, and so does
+-- the number of granules.
 pub record Touches (host : Bool) (m n : Machine) (named : Option ℕ) : Type 0 where
   pub settings : n.settings ≡ m.settings
   pub count : length n.granules ≡ length m.granules
   pub each : (g : ℕ) → IsSameAt m n g ⊎ (IsOfRealm m named g ⊎ IsFree host m g)
 
--- a granule of the realm that a call is on, or of none
+-- a granule belongs to the realm that a call is on, or to no realm
 abbrev pub IsMine : Bool → Machine → Option ℕ → ℕ → Type 0
 IsMine host m named g = IsOfRealm m named g ⊎ IsFree host m g
 
@@ -69,8 +69,7 @@ touch_page host m k named x page before mine = touched host m k (with_page k x p
 pub touch_blank : (host : Bool) (m k : Machine) (named : Option ℕ) (x : ℕ) (state : RmmGranuleState) → Touches host m k named → IsMine host m named x → Touches host m (with_blank k x state) named
 touch_blank host m k named x state before mine = touch_page host m (with_granule k x (of_no_realm state)) named x _ (touch_granule host m k named x (of_no_realm state) before mine) mine
 
--- after writes that touch only what a call may touch, a granule that the call may touch is one that it could touch
--- before
+-- a granule that a call may touch after its writes is one that it could touch before, if the writes satisfy `Touches`
 pub mine_before : (host : Bool) (o m : Machine) (named : Option ℕ) (h : ℕ) → Touches host o m named → IsMine host m named h → IsMine host o named h
 mine_before host o m named h touches mine =
     ⊎_elim

@@ -1,4 +1,4 @@
--- Proofs that each call changes only granules of the realm that it names, and granules of no realm.
+-- Proofs that no call changes a granule of a realm other than the realm that the call names.
 use Rattle.std.proofs.Common.{◌≡◌, false, not, ℕ, zero, suc, ◌+◌, ◌-◌, ◌^◌, ◌<◌, ◌≤◌, inl, inr, Option, Some, None, unwrap_or, refl, sym, ap, subst, ◌∙◌, arith, true}
 use Rattle.std.specs.Prelude.{nat_le, nat_lt, is_none, is_some}
 use Rattle.std.proofs.lemmas.Bool.{and_parts, eqb-true, leb-true, ltb-true}

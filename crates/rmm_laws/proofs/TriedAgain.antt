@@ -1,5 +1,5 @@
--- A proof that a REC that is entered after an unanswered exit has the same registers and steps as at that exit, and no
--- results of steps.
+-- A proof that a REC entered after an unanswered exit has the registers and the queued guest steps that it had at that
+-- exit, and no results of guest steps.
 use Rattle.std.proofs.Common.{◌≡◌, ℕ, ◌+◌, ◌-◌, ◌<◌, inl, false, length, List, unwrap_or, refl, sym, ap, subst, ◌∙◌, arith}
 use Rattle.std.proofs.lemmas.Bool.{cond_both, cond-false}
 use Rattle.page_arena.specs.Word.{word_of_page}

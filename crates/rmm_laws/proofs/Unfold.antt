@@ -266,7 +266,7 @@ module _ (m : Machine) (rd ipa level : ℕ) (proper : IsProper m) (ok : Passed (
       let w = taken_inside m end_at.table (λ none. cc) in
       omega arith
 
-  -- once the new table is filled, each other page is as RMI_RTT_FOLD left it when it wrote the entry
+  -- once the new table is filled, each other page is as after the write of the entry by RMI_RTT_FOLD
   page_marked : (h : ℕ) → h ≢ g → page_in marked h ≡ page_in (with_entry m end_at ipa first) h
   page_marked h other = page_in-other (with_granule f g (of_realm rd_at Rtt)) g h (children_page first level) other ∙ f_page h other
 
@@ -333,7 +333,7 @@ folded_and_created m rd ipa level proper success =
       subst (λ (p : SmcResult × Machine). IsAlike m p.1) (sym result) (subst (IsAlike m) (sym (again_is m rd ipa level proper ok)) (same_again m rd ipa level proper ok)),
     ))
 
--- an entry that takes the place of a table can replace it
+-- an entry with which a successful RMI_RTT_FOLD replaces a table satisfies `CanReplaceTable`
 pub folded_only : (m : Machine) (rd ipa level : ℕ) → IsProper m → (performed (RttFold rd ipa level) m).0.word ≡ Success
     → CanReplaceTable m (entry_at (performed (RttFold rd ipa level) m).1 (walk m (realm_at m rd) ipa (level - 1)) ipa) level
 unfolding rtt_fold

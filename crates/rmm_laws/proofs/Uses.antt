@@ -1,4 +1,5 @@
--- Proofs that each granule keeps one role when uses of granules by others are added, removed or kept.
+-- Proofs that each granule keeps one role when granules begin or cease to use other granules, or use the same granules
+-- as before.
 use Rattle.std.proofs.Common.{◌≡◌, ◌≢◌, ℕ, ◌⊎◌, inl, inr, ⊎_elim, Bool, true, false, Option, Some, None, refl, sym, ap, ◌∙◌}
 use Rattle.std.proofs.lemmas.Bool.{cases_eq, cases_Bool, both_ways}
 use Rattle.rmm_laws.specs.Role.{Used, has_user, IsUsed, HasNoUser, HasOneRole}
@@ -6,7 +7,7 @@ use Rattle.rmm_laws.specs.Role.{Used, has_user, IsUsed, HasNoUser, HasOneRole}
 abbrev pub has_user_at : Used → Bool
 has_user_at u = has_user u.attributes.state
 
--- a granule is the same before and after, or its state is not one that others use, before and after
+-- a granule is as it was, or its state requires a user neither before nor after
 abbrev pub IsAlike : Used → Used → Type 0
 IsAlike u v = (v ≡ u) ⊎ ((has_user_at u ≡ false) × (has_user_at v ≡ false))
 
@@ -40,7 +41,8 @@ module _ (F G : ℕ → ℕ → ℕ → Option Used) (S T : ℕ → Used) (same 
 
 -- ---- uses that one granule has more
 
--- A granule uses more: what it uses at new places was not used before.
+-- In `G` one granule uses more granules than in `F`; the additional ones require no user in `S`, and one in `T`. The
+-- new uses are at indices and parts that had none in `F`. All other uses are the same.
 pub record IsMore (F G : ℕ → ℕ → ℕ → Option Used) (S T : ℕ → Used) : Type 0 where
   pub user : ℕ
   pub is_new : ℕ → ℕ → Bool
@@ -57,9 +59,11 @@ pub record IsMore (F G : ℕ → ℕ → ℕ → Option Used) (S T : ℕ → Use
   pub number_after : (g : ℕ) → (T g).number ≡ g
 
 module _ (F G : ℕ → ℕ → ℕ → Option Used) (S T : ℕ → Used) (more : IsMore F G S T) where
+  -- the use of granule `x` at index `i` and part `k` is a new one, in `G` and not in `F`
   abbrev IsNewPlace : ℕ → ℕ → ℕ → Type 0
   IsNewPlace x i k = (x ≡ more.user) × (more.is_new i k ≡ true)
 
+  -- the use of granule `x` at index `i` and part `k` is an old one, so `F` and `G` agree there
   abbrev IsOldPlace : ℕ → ℕ → ℕ → Type 0
   IsOldPlace x i k = (x ≢ more.user) ⊎ (more.is_new i k ≡ false)
 
@@ -70,19 +74,19 @@ module _ (F G : ℕ → ℕ → ℕ → Option Used) (S T : ℕ → Used) (more 
       (λ (other : x ≢ more.user). inr (inl other))
       (cases_eq x more.user)
 
-  -- a new place is not an old place
+  -- a use is not both new and old
   not_both : (i k : ℕ) → more.is_new i k ≡ true → IsOldPlace more.user i k → ⊥
   not_both i k sure (inl other) = other refl
   not_both i k sure (inr never) = both_ways (more.is_new i k) never sure
 
-  -- a use at a new place is the use of the new granule for this place
+  -- a new use in `G` is of the granule that `new` gives for its index and part
   at_new : (x i k : ℕ) (u : Used) → IsNewPlace x i k → G x i k ≡ Some u → u ≡ T (more.new i k)
   at_new x i k u (here, sure) gives =
       let there : G x i k ≡ Some (T (more.new i k)) = ap (λ (y : ℕ). G y i k) here ∙ more.after i k sure in
       let both : Some u ≡ Some (T (more.new i k)) = sym gives ∙ there in
       cc
 
-  -- no place that is used before is new
+  -- each use in `F` is old
   old_place : (x i k : ℕ) (u : Used) → F x i k ≡ Some u → IsOldPlace x i k
   old_place x i k u gives =
       ⊎_elim
@@ -90,11 +94,11 @@ module _ (F G : ℕ → ℕ → ℕ → Option Used) (S T : ℕ → Used) (more 
       (λ (old : IsOldPlace x i k). old)
       (place_cases x i k)
 
-  -- the granule that is used at a new place has the number of the new granule for this place
+  -- a granule with a new use in `G` has the number that `new` gives for the index and part of that use
   number_new : (x i k : ℕ) (u : Used) → IsNewPlace x i k → G x i k ≡ Some u → u.number ≡ more.new i k
   number_new x i k u new gives = ap (λ (v : Used). v.number) (at_new x i k u new gives) ∙ more.number_after (more.new i k)
 
-  -- a new granule was not used
+  -- a granule with a new use in `G` is not used in `F`, if the granule has one role in `F`
   unused_before : (i k x j l : ℕ) (u : Used) → more.is_new i k ≡ true → HasOneRole F S (more.new i k) → F x j l ≡ Some u → u.number ≢ more.new i k
   unused_before i k x j l u sure (inl r) gives = absurd (both_ways (has_user_at (S (more.new i k))) (more.free i k sure) r.role)
   unused_before i k x j l u sure (inr r) gives = r.none x j l u gives
@@ -114,7 +118,7 @@ module _ (F G : ℕ → ℕ → ℕ → Option Used) (S T : ℕ → Used) (more 
     role = ap (λ (h : ℕ). has_user_at (T h)) at ∙ more.made i k sure;
   })
 
-  -- the places of a granule that is not new are those before
+  -- each use in `G` of a granule without new uses is also in `F`
   back : (g : ℕ) → ((i k : ℕ) → more.is_new i k ≡ true → g ≢ more.new i k) → (x i k : ℕ) (u : Used) → G x i k ≡ Some u → u.number ≡ g → F x i k ≡ Some u
   back g not_new x i k u gives number =
       ⊎_elim

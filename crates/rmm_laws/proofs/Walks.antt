@@ -53,7 +53,7 @@ module _ (m : Machine) (proper : IsLinked m) where
       (λ (r : HasNoUser (uses m level_of) (used_at m level_of) u.number). absurd (r.none x i k u gives refl))
       (proper.roles u.number)
 
-  -- a granule is used at one place
+  -- two uses of the same granule have the same user, index and part
   pub one_place : (x i k y j l : ℕ) (u v : Used) → uses m level_of x i k ≡ Some u → uses m level_of y j l ≡ Some v → u.number ≡ v.number → (x ≡ y) × (i ≡ j) × (k ≡ l)
   one_place x i k y j l u v one two same =
       ⊎_elim
@@ -74,7 +74,7 @@ module _ (m : Machine) (proper : IsLinked m) where
     abbrev at : ℕ → ℕ → RttWalk
     at table level = record { table = table; level = level }
 
-    -- a place of a walk: a table of the realm, with the level of that table
+    -- a place of a walk is a table of the realm, with the level that `level_of` gives for the table
     pub record IsPlace (place : RttWalk) : Type 0 where
       pub table : IsTableOf m rd place.table
       pub level : level_of place.table ≡ place.level
@@ -112,7 +112,7 @@ module _ (m : Machine) (proper : IsLinked m) where
         let there = table_right (Some rd) realm.start_level (realm.first_table + i) (right rd i 0 (used Rtt (Some rd) realm.start_level (realm.first_table + i)) gives) in
         record { table = there.0; level = there.1 }
 
-    -- a place at which a walk to level `to` ends: at that level, or above it at an entry that leads to no table
+    -- a walk to level `to` ends at `place`: at that level, or above it at an entry that leads to no table
     pub record IsEnd (to : ℕ) (place : RttWalk) : Type 0 where
       pub place_is : IsPlace place
       pub above : place.level ≤ to

@@ -1,5 +1,6 @@
--- The weight of a realm: two for each DATA granule and one for each other granule that it owns. Proofs of how teardown
--- calls change this weight and the number of host mappings, from which it follows that a teardown ends.
+-- Proofs of how teardown calls change two numbers that bound a teardown: the weight of the realm's granules, and the
+-- count of host mappings. A DATA granule of the realm weighs two, and each other granule that the realm owns weighs
+-- one.
 use Rattle.std.proofs.Common.{◌≡◌, ◌≢◌, ℕ, zero, suc, ◌+◌, ◌-◌, ◌*◌, ◌%◌, ◌^◌, ◌<◌, ◌≤◌, ◌⊎◌, inl, inr, Bool, true, false, List, length, set, get_or, Option, Some, None, refl, sym, ap, subst, ◌∙◌, ⊎_elim, arith}
 use Rattle.std.specs.Prelude.{nat_le, nat_lt}
 use Rattle.std.proofs.lemmas.Bool.{cases_eq, cases_lt, and_parts, both_ways, cond-true, eq-eqb, eqb-true, leb-true, ltb-true}
@@ -60,7 +61,7 @@ use Rattle.rmm_laws.proofs.Writes.{granule_at-same, granule_at-other, page_in-ot
 
 -- ---- sums
 
--- the sum of a function below a bound
+-- the sum of a function's values at the numbers below a bound
 total : (ℕ → ℕ) → ℕ → ℕ
 total f zero = 0
 total f (suc k) = total f k + f k
@@ -101,15 +102,15 @@ weight_by false s = 0
 weight_by true Data = 2
 weight_by true _ = 1
 
--- A granule of a realm weighs one, and a page of memory two. So a block that is unfolded, and of which a page is
--- destroyed, weighs one less than before.
+-- The weight of a granule: 2 if it is DATA of realm `r`, 1 if `r` owns it in another state, else 0. So a block that is
+-- unfolded, and of which a page is destroyed, weighs one less than before.
 abbrev pub weight : ℕ → RmmGranule → ℕ
 weight r a = weight_by (is_owner r a.owner) a.state
 
 owned_weight : (r : ℕ) (s : RmmGranuleState) → weight r (of_realm r s) ≡ weight_by true s
 owned_weight r s = ap (λ (b : Bool). weight_by b s) (eq-eqb r r refl)
 
--- the weight of a realm
+-- the weight of a realm, which is the sum of its granules' weights
 pub heavy : ℕ → Machine → ℕ
 heavy r m = total (λ g. weight r (granule_at m g)) (length m.granules)
 
@@ -162,7 +163,7 @@ rec_before r x g a b rec (inl (inr (inl freed))) is = (let states : Delegated �
 rec_before r x g a b rec (inl (inr (inr rd))) is = absurd (both_ways (is_rd b.state) (ap (λ (c : RmmGranule). is_rd c.state) is) rd.1)
 rec_before r x g a b rec (inr made) is = (let states : Rtt ≡ IsRec rec = ap (λ (c : RmmGranule). c.state) (sym made.2 ∙ is) in absurd (cc))
 
--- a granule is one of the realm, or DELEGATED
+-- a granule belongs to the realm, or is DELEGATED
 abbrev pub IsKept : Machine → ℕ → ℕ → Type 0
 IsKept m r g = IsOfRealm m (Some r) g ⊎ ((granule_at m g).state ≡ Delegated)
 
@@ -174,11 +175,11 @@ kept_then m n r x g (inl (inr (inl freed))) was = inr (ap (λ (c : RmmGranule). 
 kept_then m n r x g (inl (inr (inr rd))) was = inl (inl rd.0)
 kept_then m n r x g (inr made) was = inl (inr (ap (λ (c : RmmGranule). c.owner) made.2))
 
--- a proper machine with the same settings and as many granules
+-- the second machine is proper, with the settings and the number of granules of the first
 abbrev pub IsKin : Machine → Machine → Type 0
 IsKin m n = IsProper n × (n.settings ≡ m.settings) × (length n.granules ≡ length m.granules)
 
--- a step of a teardown, in which one granule may become a table
+-- a step of the teardown of realm `r` leads from `m` to `n`, and granule `x` may have become a table
 pub record IsStep (m n : Machine) (r x : ℕ) : Type 0 where
   pub kin : IsKin m n
   pub each : (g : ℕ) → IsNext r x g (granule_at m g) (granule_at n g)
@@ -201,7 +202,7 @@ back_step m n r address s plain back kin = record {
       (cases_eq g (number_of m address));
 }
 
--- a step of a teardown after which granule `x` of the realm is DELEGATED
+-- a step of the teardown of realm `r` leads from `m` to `n`, and makes granule `x` of the realm DELEGATED
 pub record IsFreed (m n : Machine) (r x : ℕ) : Type 0 where
   pub step : IsStep m n r x
   pub inside : x < length m.granules
@@ -268,7 +269,7 @@ owner_weight r (IsRec rec) = omega arith
 owner_weight r Data = omega arith
 owner_weight r _ = omega arith
 
--- the realm weighs less when a granule of it has come back
+-- a step of a teardown that satisfies `IsFreed` makes the realm's weight smaller
 pub freed_weight : (m n : Machine) (r x : ℕ) → IsFreed m n r x → heavy r n < heavy r m
 freed_weight m n r x freed =
     let sum = step_weight m n r x freed.step freed.inside in
@@ -359,7 +360,8 @@ unfolded_deep m proper rd rtt ipa level place end one_below most inside aligned 
     (λ (low : 2 ≤ place.level). omega arith)
     (cases_lt place.level 2)
 
--- a step of a teardown after which the spare granule is a table whose entries map the pages of a block
+-- a step of the teardown of realm `r` leads from `m` to `n`, where granule `x` is a table whose entries map the pages
+-- of a block
 pub record HasUnfolded (m n : Machine) (r x : ℕ) : Type 0 where
   pub step : IsStep m n r x
   pub inside : x < length m.granules
@@ -431,7 +433,8 @@ unfold_weight m n r x unfolded =
     let now : weight r (granule_at n x) ≡ 1 = ap (weight r) unfolded.table ∙ owned_weight r Rtt in
     omega arith
 
--- the table is of level 3: else two entries of it would map a page
+-- a table whose entries map 512 consecutive pages is of level 3, since at a higher level two entries would map the same
+-- page
 pub unfolded_level : (n : Machine) (proper : IsProper n) (r x first : ℕ) (ripas : RmmRipas) → IsTableOf n r x → ((j : ℕ) → j < 512 → entry_in_page (page_in n x) j ≡ Assigned ripas (first + j * 4096))
     → proper.linked.level x ≡ 3
 unfolded_level n proper r x first ripas table pages =
@@ -449,7 +452,7 @@ unfolded_level n proper r x first ripas table pages =
 
 -- ---- granules that are undelegated
 
--- a proper machine with the same settings and VMIDs, in which all granules but `x` are as they were
+-- `n` is a proper machine with the settings and VMIDs of `m`, and only granule `x` may differ
 pub record IsUndelegated (m n : Machine) (x : ℕ) : Type 0 where
   pub kin : IsKin m n
   pub vmids : n.vmids ≡ m.vmids
@@ -473,7 +476,7 @@ IsGivenBack m g = (granule_at m g ≡ of_no_realm Undelegated) × (page_in m g �
 
 -- ---- the end of a realm
 
--- a VMID that is marked as free is free
+-- the flag of a VMID is false once it is set to false, even if the list has no flag for the VMID
 vmid_free : (vmids : List Bool) (vmid : ℕ) → get_or (set vmids vmid false) vmid false ≡ false
 vmid_free vmids vmid =
     ⊎_elim
@@ -481,8 +484,8 @@ vmid_free vmids vmid =
     (λ (past : length vmids ≤ vmid). get_or_past (set vmids vmid false) vmid false (subst (λ (c : ℕ). c ≤ vmid) (sym (length-set vmids vmid false)) past))
     (cases_lt vmid (length vmids))
 
--- after an RMI_REALM_DESTROY that succeeds, the machine is proper, DELEGATED granules are so still, and the realm's
--- VMID is free
+-- after an RMI_REALM_DESTROY that succeeds, the machine is proper, DELEGATED granules are still DELEGATED, and the
+-- realm's VMID is free
 pub realm_then : (m : Machine) (rd : ℕ) → IsProper m → (performed (RealmDestroy rd) m).0.word ≡ Success
     → IsKin m (performed (RealmDestroy rd) m).1 × ((g : ℕ) → (granule_at m g).state ≡ Delegated → (granule_at (performed (RealmDestroy rd) m).1 g).state ≡ Delegated)
     × (is_vmid_used (performed (RealmDestroy rd) m).1 (realm_at m rd).vmid ≡ false)

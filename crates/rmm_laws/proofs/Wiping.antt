@@ -1,5 +1,5 @@
--- Proofs that wiping a REC's auxiliary granules one after another gives them new attributes and zero pages, and changes
--- no other granule.
+-- Proofs that wiping a REC's auxiliary granules one after another zeroes them and gives them new attributes, and
+-- changes no other granule.
 use Rattle.std.proofs.Common.{◌≡◌, ◌≢◌, ℕ, zero, suc, ◌<◌, ◌⊎◌, inl, inr, Bool, true, false, List, length, Option, Some, None, unwrap_or, refl, sym, ap, subst, ◌∙◌, ⊎_elim, arith}
 use Rattle.std.specs.Prelude.{is_some, if◌then◌else◌, IfSome}
 use Rattle.std.specs.List.{count_by}
@@ -59,11 +59,12 @@ first_named named h (suc count) =
 -- ---- granules that are wiped one after another
 
 module _ (m : Machine) (g : ℕ) (kept : RmmGranule) (served : (n : ℕ) → IfSome (realm_of kept.state) (IsServed n)) where
-  -- the granule that word k of the auxiliary granules names
+  -- the granule that the page of REC `g` names as the auxiliary granule with a given number
   abbrev named : ℕ → Option ℕ
   named k = granule_named m (aux_of (page_in m g) k)
 
-  -- the granules that the first `k` words name are zero and have the attributes `kept`, and all others are as they were
+  -- for each number below `k`, the granule that `named` gives is zero with the attributes `kept`; all other granules
+  -- are as they were
   pub record IsWiped (k : ℕ) (n : Machine) : Type 0 where
     pub settings : n.settings ≡ m.settings
     pub count : length n.granules ≡ length m.granules
@@ -117,7 +118,8 @@ module _ (m : Machine) (g : ℕ) (kept : RmmGranule) (served : (n : ℕ) → IfS
         (cases_eq i k);
   }
 
-  -- once the granules of earlier words are wiped, word `k` still names the same granule
+  -- once the auxiliary granules of the numbers below `k`, all other than `g`, are wiped, the page of `g` names the same
+  -- granule for number `k` as before
   name_still : (k : ℕ) → IsSound m → ((i : ℕ) → i < k → named i ≢ Some g) → IsWiped k (with_aux m g kept k) → aux_granule (with_aux m g kept k) g k ≡ named k
   name_still k sound apart before =
       let n : Machine = with_aux m g kept k in
@@ -162,7 +164,7 @@ module _ (m : Machine) (g : ℕ) (kept : RmmGranule) (served : (n : ℕ) → IfS
         subst (λ (o : Option ℕ). count_by (is_rec_in rd) (with_wiped_if n o kept).granules ≡ count_by (is_rec_in rd) n.granules) (sym same) (total_more k (named k) refl old before)
         ∙ all_total k (λ i lt. apart i (omega arith)) (λ i h lt. old i h (omega arith))
 
--- wiping granules that the call may touch keeps `Touches`
+-- wiping granules that a call may touch keeps `Touches`
 pub touch_wiped : (host : Bool) (o m : Machine) (named_realm : Option ℕ) (g : ℕ) (kept : RmmGranule) (served : (n : ℕ) → IfSome (realm_of kept.state) (IsServed n)) (k : ℕ) (n : Machine) → Touches host o m named_realm → IsWiped m g kept served k n
     → ((i h : ℕ) → i < k → granule_named m (aux_of (page_in m g) i) ≡ Some h → IsMine host o named_realm h) → Touches host o n named_realm
 touch_wiped host o m named_realm g kept served k n before wiped mine = record {

@@ -1,5 +1,5 @@
--- Proofs that a single write changes one granule or page alone, and keeps the invariant `IsSound` if the new granule or
--- page is valid.
+-- Proofs that a single write changes the attributes or the contents of one granule alone, and keeps the invariant
+-- `IsSound` if the new ones are valid.
 use Rattle.std.proofs.Common.{◌≡◌, ◌≢◌, ℕ, ◌+◌, ◌-◌, ◌*◌, ◌/◌, ◌<◌, ◌≤◌, ◌==◌, ◌&&◌, Bool, true, false, List, [], length, set, get_or, IfSome, Option, Some, None, cond, refl, sym, ap, subst, ◌∙◌, ⊎_elim, option_map, arith}
 use Rattle.std.specs.Prelude.{nat_le, nat_lt, if◌then◌else◌}
 use Rattle.std.proofs.lemmas.Bool.{cases_eq, cases_lt}
@@ -32,7 +32,7 @@ page_in-same m g page inside = get_or-set_same m.pages g page [] inside
 pub page_in-other : (m : Machine) (g other : ℕ) (page : List ℕ) → other ≢ g → page_in (with_page m g page) other ≡ page_in m other
 page_in-other m g other page ne = get_or-set_other m.pages g other page [] ne
 
--- a granule of another state than UNDELEGATED is one of the machine
+-- a granule whose state is not UNDELEGATED is in the machine
 pub taken_inside : (m : Machine) (g : ℕ) → (granule_at m g).state ≢ Undelegated → g < length m.granules
 taken_inside m g taken =
     ⊎_elim
@@ -80,7 +80,7 @@ module _ (m n : Machine) (settings : n.settings ≡ m.settings) (count : length 
   state_uses-same RecAux owner level page g i part = refl
   state_uses-same Data owner level page g i part = refl
 
-  -- a granule that is as it was uses what it did
+  -- a granule with the same attributes, contents and level uses the same granules
   pub uses-same : (before after : ℕ → ℕ) (g i part : ℕ) → granule_at n g ≡ granule_at m g → page_in n g ≡ page_in m g → after g ≡ before g → uses n after g i part ≡ uses m before g i part
   unfolding uses
   uses-same before after g i part same page level =

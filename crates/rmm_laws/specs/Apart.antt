@@ -64,7 +64,7 @@ IsOfRealm m None g = ⊥
 abbrev pub IsSpare : Machine → ℕ → Type 0
 IsSpare m g = ((granule_at m g).state ≡ Undelegated) ⊎ ((granule_at m g).state ≡ Delegated)
 
--- a granule has the same attributes and the same page in both machines
+-- a granule has the same attributes and the same contents in both machines
 abbrev pub IsSameAt : Machine → Machine → ℕ → Type 0
 IsSameAt m n g = (granule_at n g ≡ granule_at m g) × (page_in n g ≡ page_in m g)
 
@@ -72,7 +72,7 @@ IsSameAt m n g = (granule_at n g ≡ granule_at m g) × (page_in n g ≡ page_in
 abbrev pub KeepsSettings : Machine → Machine → Type 0
 KeepsSettings m n = (n.settings ≡ m.settings) × (n.vmids ≡ m.vmids)
 
--- the page of a granule is outside the secure world
+-- a granule is outside the secure world
 abbrev pub IsNormal : Machine → ℕ → Type 0
 IsNormal m g = is_secure m (m.settings.base + g * 4096) ≡ false
 
@@ -88,21 +88,21 @@ IsFromHost m (RealmCreate rd params) = IsHostPage m params
 IsFromHost m (RecCreate rd rec params) = IsHostPage m params
 IsFromHost m call = Unit {0}
 
--- A call may change a host page outside the secure world, in one of two ways. RMI_GRANULE_DELEGATE delegates the
--- granule, which begins at the call's address and is DELEGATED and zero afterwards. In RMI_REC_ENTER the guest and the
--- exit write host pages, and the granule keeps its attributes.
+-- A call may change the given granule, a host page outside the secure world, by delegating the granule or by entering a
+-- REC. RMI_GRANULE_DELEGATE delegates the granule, which begins at the call's address and is DELEGATED and zero
+-- afterwards. In RMI_REC_ENTER the guest and the exit write host pages, and the granule keeps its attributes.
 abbrev pub IsHostChanged : Machine → Machine → Option Call → ℕ → Type 0
 IsHostChanged m n (Some (GranuleDelegate address)) g =
     IsBegin m address × (g ≡ number_of m address) × IsNormal m g × (granule_at n g ≡ of_no_realm Delegated) × (page_in n g ≡ zero_page)
 IsHostChanged m n (Some (RecEnter rec run)) g = IsNormal m g × (granule_at n g ≡ granule_at m g)
 IsHostChanged m n call g = ⊥
 
--- A granule is the run page of the REC at an address, and is outside the secure world. An interrupt may change the
--- page, and the granule keeps its attributes.
+-- A granule is the run page of the REC at the given address, and is outside the secure world. An interrupt may change
+-- the page, and the granule keeps its attributes.
 abbrev pub IsRunPage : Machine → Machine → ℕ → ℕ → Type 0
 IsRunPage m n rec g = (g ≡ number_of m (rec_in m (number_of m rec)).run) × IsNormal m g × (granule_at n g ≡ granule_at m g)
 
--- a granule belongs to a realm other than the realm that a call names, or there is no call
+-- if there is a call, the granule belongs to a realm other than the realm that the call names
 abbrev pub IsOfAnother : Machine → Option Call → ℕ → Type 0
 IsOfAnother m (Some call) g = (IsOfRealm m (named_realm m call) g → ⊥) × (IsSpare m g → ⊥)
 IsOfAnother m None g = Unit {0}

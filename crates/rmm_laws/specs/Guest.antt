@@ -1,5 +1,5 @@
--- Conditions on RECs and their guests: new RECs, guest steps, values read from the host, and entries after an
--- unanswered exit.
+-- Conditions on new RECs, on guest steps, on values that guests read from the host, and on RECs that are entered after
+-- an unanswered exit.
 use Rattle.std.specs.Prelude.{◌≡◌, ℕ, ◌<◌, Bool, true, false}
 use Rattle.page_arena.specs.Word.{word_of_page}
 use Rattle.rmi_abi.specs.RecParams.{is_runnable_in, mpidr_in}
@@ -29,7 +29,7 @@ IsRecMadeOf m n rd rec params =
     let page = page_in m (number_of m params) in
     (granule_at n (number_of m rec) ≡ of_realm (number_of m rd) (Rec (new_rec (is_runnable_in page) (mpidr_in page)))) × (page_in n (number_of m rec) ≡ rec_page page)
 
--- the step writes memory
+-- a guest's step writes memory
 abbrev pub is_write : GuestStep → Bool
 is_write (Write ipa value size) = true
 is_write _ = false
@@ -38,13 +38,13 @@ is_write _ = false
 abbrev pub IsHostValue : Machine → AccessSize → ℕ → ℕ → Type 0
 IsHostValue m size ipa value = (h : ℕ) × (h < granule_count m) × ((granule_at m h).state ≡ Undelegated) × IsNormal m h × (value ≡ value_in (page_in m h) size ipa)
 
--- a REC's first step has the outcome and the effect of a step that is performed for the given realm
+-- the first queued step of a REC's guest has the outcome and the effect of a step that is performed for the given realm
 abbrev pub IsStepFor : Machine → RmmRealm → ℕ → ℕ → Type 0
 IsStepFor m realm g flags =
     let outcome = step_outcome m realm g flags (first_step m g) in
     (first_step_outcome m g flags ≡ outcome) × (after_first_step m g flags ≡ with_step_passed (after_step m realm g (first_step m g) outcome) g outcome)
 
--- a PSCI request is completed
+-- a PSCI request is complete and has a result
 abbrev pub is_completed : PsciRequest → Bool
 is_completed (Complete value) = true
 is_completed _ = false
@@ -58,8 +58,8 @@ IsUnanswered UnprotectedAbort psci flags = injects_sea flags ≡ false
 IsUnanswered Other psci flags = is_completed psci ≡ false
 IsUnanswered last psci flags = ⊥
 
--- A REC is entered as it last exited, with the same registers and steps, and with no results of steps. Words 0 to 191
--- of its page are unchanged.
+-- A REC is entered as it last exited, with the same registers and queued guest steps, and with no results of guest
+-- steps. Words 0 to 191 of its page are unchanged.
 abbrev pub IsAsLeft : Machine → Machine → ℕ → RmmRec → ℕ → Type 0
 IsAsLeft m n g rec address =
     ((granule_at n g).state ≡ Rec (running_at rec address)) × ((i : ℕ) → i < 192 → word_of_page (page_in n g) i ≡ word_of_page (page_in m g) i)

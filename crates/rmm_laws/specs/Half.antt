@@ -27,10 +27,10 @@ IsOfHalf realm ipa (Table address) = ipa < 2 ^ realm.s2sz
 abbrev pub IsPlaced : RmmSettings → ℕ → RmmRttEntry → Type 0
 IsPlaced s level e = is_mapping e ≡ true → (s.block_level ≤ level) × (descriptor_of e / 4096 * 4096 % entry_size level ≡ 0)
 
--- Each table entry has a state that is allowed in its half of the address space. `level` gives each table's level, and
--- `place` its index by IPA in that level. It counts from 0 for starting tables; any other table has the index of the
--- entry leading to it. Mapped memory is aligned, at a level of blocks or pages. A starting table's entry covers less
--- than the address space.
+-- `level` and `place` give each table's level and its index, and each entry's state is allowed in its half of the
+-- address space. The index is by IPA within the level. It counts from 0 for starting tables; any other table has the
+-- index of the entry leading to it. Mapped memory is aligned, at a level of blocks or pages. A starting table's entry
+-- covers less than the address space.
 pub record IsHalved (m : Machine) (level place : ℕ → ℕ) : Type 0 where
   pub wide : (rd : ℕ) (realm : RmmRealm) → (granule_at m rd).state ≡ Rd realm → entry_size realm.start_level < 2 ^ realm.s2sz
   pub start : (rd k : ℕ) (realm : RmmRealm) → (granule_at m rd).state ≡ Rd realm → k < realm.table_count

@@ -17,7 +17,8 @@ use Rattle.rmm_model.specs.Walk.{entry_at, walk}
 use Rattle.rmm_laws.specs.Ripas.{ripas_at, IsBetween}
 use Rattle.rmm_laws.specs.State.{IsRealmIn}
 
--- A memory location: an address, and the attributes with which it is mapped. Memory of a realm has none.
+-- A location of memory, given by an address and the attributes with which the address is mapped. Memory of a realm has
+-- no attributes.
 pub record Location : Type 0 where
   pub address : ℕ
   pub attributes : ℕ
@@ -45,7 +46,8 @@ IsLocationGiven m (Some (DataCreateUnknown of page at)) rd ipa old new =
 IsLocationGiven m (Some (DataDestroy of at)) rd ipa old new = (rd ≡ number_of m of) × IsBetween at (at + 4096) ipa × (new ≡ None)
 IsLocationGiven m call rd ipa old new = ⊥
 
--- In a realm that exists before and after a call, each protected IPA keeps its location, or the call gives or takes it.
+-- In a realm that exists before and after a call, each protected IPA keeps its location, or has one to which the call
+-- may change it.
 abbrev pub KeepsLocations : Machine → Option Call → Machine → Type 0
 KeepsLocations m call n =
     (rd ipa : ℕ) (before after : RmmRealm) → (granule_at m rd).state ≡ Rd before → (granule_at n rd).state ≡ Rd after → is_protected before ipa ≡ true

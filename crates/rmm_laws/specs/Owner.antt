@@ -28,9 +28,9 @@ abbrev pub IsOwner : Machine → Option ℕ → Type 0
 IsOwner m (Some rd) = is_rd (granule_at m rd).state ≡ true
 IsOwner m None = ⊥
 
--- A granule has the owner that its state requires. UNDELEGATED and DELEGATED granules and RDs have none, and each other
--- granule has an RD as its owner. A DELEGATED granule is zero. A REC names the addresses at which its auxiliary
--- granules begin.
+-- A granule has the owner and the contents that its state requires. UNDELEGATED and DELEGATED granules and RDs have no
+-- owner, and each other granule has an RD as its owner. A DELEGATED granule is zero. A REC names the addresses at which
+-- its auxiliary granules begin.
 abbrev pub IsOrderly : Machine → RmmGranuleState → Option ℕ → List ℕ → Type 0
 IsOrderly m Undelegated owner page = owner ≡ None
 IsOrderly m Delegated owner page = (owner ≡ None) × (page ≡ zero_page)
@@ -68,8 +68,8 @@ abbrev pub KeepsRecs : Machine → Option Call → Machine → Type 0
 KeepsRecs m call n =
     (g : ℕ) (rec : RmmRec) → (granule_at n g).state ≡ IsRec rec → IsRecOf m g (granule_at n g).owner ⊎ IsRecMade m call g (granule_at n g).owner
 
--- Each granule has the owner and the page that its state requires, and each RD counts the RECs of its realm. Each table
--- entry has a state that is allowed in its half of the address space.
+-- Each granule has the owner and the contents that its state requires, and each RD counts the RECs of its realm. Each
+-- table entry has a state that is allowed in its half of the address space.
 pub record IsOrdered (m : Machine) : Type 0 where
   pub each : (granule : ℕ) → IsOrderlyAt m granule
   pub recs : (rd : ℕ) (realm : RmmRealm) → (granule_at m rd).state ≡ Rd realm → realm.rec_count ≡ count_by (is_rec_in rd) m.granules

@@ -1,4 +1,5 @@
--- The conditions under which calls, host accesses, queued steps, interrupts and guest accesses are refused.
+-- The conditions under which calls, host accesses, interrupts, guest accesses and the queueing of guest steps are
+-- refused.
 use Rattle.std.specs.Prelude.{◌≡◌, ◌≢◌, ℕ, ◌-◌, ◌%◌, ◌^◌, ◌≤◌, ◌⊎◌, Bool, true, false, List, [], ◌∷◌, Option, Some}
 use Rattle.rmi_abi.specs.declared.call.Call.{Call}
 use Rattle.rmi_abi.specs.declared.call.Call.TheVariants.{RecEnter}
@@ -43,25 +44,25 @@ IsRecEnter m n _ = ⊥
 abbrev pub IsFault : Machine → ℕ → ℕ → Type 0
 IsFault m size address = (address % size ≢ 0) ⊎ ((is_inside m address ≡ false) ⊎ ((state_at m address ≢ Undelegated) ⊎ (is_secure m address ≡ true)))
 
--- a guest step cannot be queued at an address: no REC begins there, or the REC has 16 steps already
+-- a guest step cannot be queued at the given address: no REC begins there, or the REC has 16 steps already
 abbrev pub IsNotGiven : Machine → ℕ → Type 0
 IsNotGiven m address = (is_rec_named m address ≡ false) ⊎ (16 ≤ (rec_at m address).step_count)
 
--- no REC begins at an address, or the REC there does not run
+-- no REC begins at the given address, or the REC that begins there is not running
 abbrev pub IsNotRunning : Machine → ℕ → Type 0
 IsNotRunning m address = (is_rec_named m address ≡ false) ⊎ (is_running (rec_at m address).state ≡ false)
 
--- the answer says that a step was not queued: the REC has 16 steps already, or there is no REC
+-- the answer says that a guest step was not queued: the REC has 16 steps already, or there is no REC
 abbrev pub IsNotQueued : Queued → Type 0
 IsNotQueued answer = answer ≢ IsQueued
 
--- a step accesses memory
+-- a guest's step accesses memory
 abbrev pub IsAccess : GuestStep → Type 0
 IsAccess (Write ipa value size) = Unit {0}
 IsAccess (Read ipa size) = Unit {0}
 IsAccess (Fetch ipa) = Unit {0}
 IsAccess _ = ⊥
 
--- the outcome of a step is not `Done`
+-- the outcome of a guest's step is not `Done`
 abbrev pub IsNotDone : StepOutcome → Type 0
 IsNotDone outcome = outcome ≢ IsResult Done

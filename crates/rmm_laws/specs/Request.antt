@@ -14,11 +14,12 @@ use Rattle.rmm_model.specs.Step.{is_ripas_range, ripas_of}
 use Rattle.rmm_model.specs.Command.Operand.{rec_at}
 use Rattle.rmm_model.specs.Command.RecEnter.{owner_realm}
 
--- a request is the rest of another one: only its base may differ, and is no lower
+-- the first request is what is left of the second: the same but for its base, which is no lower
 abbrev pub IsRest : RipasRequest → RipasRequest → Type 0
 IsRest rest asked = (asked.base ≤ rest.base) × (rest ≡ record asked { base = rest.base })
 
--- RMI_RTT_SET_RIPAS begins at the base of a REC's request, which then has base `stop` and is otherwise unchanged.
+-- A REC's RIPAS request begins at `base` before RMI_RTT_SET_RIPAS, and at `stop` afterwards, and is otherwise
+-- unchanged.
 abbrev pub IsRestFrom : Machine → Machine → ℕ → ℕ → ℕ → Type 0
 IsRestFrom m n rec base stop = (base ≡ (rec_at m rec).ripas.base) × ((rec_in n (number_of m rec)).ripas ≡ record (rec_at m rec).ripas { base = stop })
 
@@ -33,7 +34,8 @@ IsRequested m call g asked = ⊥
 abbrev pub KeepsRequests : Machine → Option Call → Machine → Type 0
 KeepsRequests m call n = (g : ℕ) (rec : RmmRec) → (granule_at n g).state ≡ Rec rec → (rec.ripas ≡ (rec_in m g).ripas) ⊎ IsRequested m call g rec.ripas
 
--- the first step of a REC asks for the given change of RIPAS, within the protected half of its realm
+-- the first queued step of a REC's guest asks for the given change of RIPAS, within the protected half of the REC's
+-- realm
 abbrev pub IsAskedFor : Machine → ℕ → RipasRequest → Type 0
 IsAskedFor m g asked =
     (base : ℕ) × (top : ℕ) × (ripas : ℕ) × (more : ℕ) × (realm : RmmRealm) × (first_step m g ≡ SetRipas base top ripas more)

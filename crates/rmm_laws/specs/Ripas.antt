@@ -65,7 +65,7 @@ KeepsRipas m call n =
     (rd ipa : ℕ) (before after : RmmRealm) → (granule_at m rd).state ≡ Rd before → (granule_at n rd).state ≡ Rd after → is_protected before ipa ≡ true
     → (ripas_at n after ipa ≡ ripas_at m before ipa) ⊎ IsRipasGiven m call rd ipa (ripas_at m before ipa) (ripas_at n after ipa)
 
--- Each protected IPA at or above `base` and below `stop` has the given RIPAS afterwards. `stop` is above `base`. The
+-- In machine `n`, each protected IPA at or above `base` and below `stop` has RIPAS `ripas`. `stop` is above `base`. The
 -- entry of such an IPA changes in RIPAS only, so it leads to the same page. Outside the range, the entries of protected
 -- IPAs are unchanged. The walks of protected IPAs end where they did.
 pub record IsRipasSet (m n : Machine) (realm : RmmRealm) (ripas : RmmRipas) (base stop : ℕ) : Type 0 where

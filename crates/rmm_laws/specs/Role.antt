@@ -1,4 +1,4 @@
--- The role of each granule: its use, and the granule that uses it. RMM 1.0, Granule attributes, RTT entry, REC
+-- The role of each granule: how the granule is used, and by which granule. RMM 1.0, Granule attributes, RTT entry, REC
 -- attribute aux.
 use Rattle.std.specs.Prelude.{◌≡◌, ◌≢◌, ℕ, ◌+◌, ◌*◌, ◌/◌, ◌<◌, ◌≤◌, ◌⊎◌, ◌==◌, ◌&&◌, Bool, true, false, nat_lt, List, length, Option, Some, None, option_map, if◌then◌else◌}
 use Rattle.rmi_abi.specs.Settings.{IsPlatform}
@@ -15,7 +15,7 @@ use Rattle.rmm_model.specs.Walk.{granule_named}
 
 -- ---- granules in use
 
--- A granule in use: its number and attributes, and its level if it is a table.
+-- The number and the attributes of a granule that is used, and its level if it is a table.
 pub record Used : Type 0 where
   pub number : ℕ
   pub attributes : RmmGranule
@@ -24,7 +24,7 @@ pub record Used : Type 0 where
 abbrev pub used : RmmGranuleState → Option ℕ → ℕ → ℕ → Used
 used state owner level number = record { number = number; attributes = record { state = state; owner = owner }; level = level }
 
--- a granule in the given state is used by another granule
+-- a granule in the given state has to be used by another granule
 abbrev pub has_user : RmmGranuleState → Bool
 has_user Rtt = true
 has_user Data = true
@@ -45,8 +45,8 @@ used_at m level g = record { number = g; attributes = granule_at m g; level = le
 abbrev pub page_count : ℕ → ℕ
 page_count level = entry_size level / 4096
 
--- the granule that a table entry uses in part `part`: the table below a TABLE entry in part 0, or page `part` of
--- ASSIGNED memory
+-- part `part` of what a table entry uses: the table below a TABLE entry if `part` is 0, or the page at index `part` of
+-- an ASSIGNED entry's memory
 abbrev pub entry_uses : Machine → Option ℕ → ℕ → RmmRttEntry → ℕ → Option Used
 entry_uses m owner level (Table address) part = if part == 0 then option_map (used Rtt owner (level + 1)) (granule_named m address) else None
 entry_uses m owner level (Assigned ripas address) part =
@@ -70,7 +70,8 @@ uses m level g i part = state_uses m (granule_at m g).state (granule_at m g).own
 
 -- ---- roles
 
--- A granule is used exactly once, as its attributes say.
+-- This granule is used exactly once, and its state requires a user. The use has the number, the attributes and the
+-- level that `at` gives for the granule.
 pub record IsUsed (gives : ℕ → ℕ → ℕ → Option Used) (at : ℕ → Used) (granule : ℕ) : Type 0 where
   pub user : ℕ
   pub index : ℕ
@@ -89,8 +90,8 @@ HasOneRole gives at granule = IsUsed gives at granule ⊎ HasNoUser gives at gra
 
 -- ---- machines
 
--- A machine is well formed: its settings are those of a platform. It has at most 4,096 granules, a whole page for each,
--- and the starting tables of each realm.
+-- A machine has the settings of a platform, at most 4,096 granules with 4,096 bytes each, and the starting tables of
+-- each realm.
 pub record IsSound (m : Machine) : Type 0 where
   pub platform : IsPlatform m.settings
   pub few : length m.granules ≤ 4096
@@ -98,7 +99,7 @@ pub record IsSound (m : Machine) : Type 0 where
   pub whole : (granule : ℕ) → granule < length m.granules → length (page_in m granule) ≡ 4096
   pub tables : HasTables m.granules
 
--- a granule of the machine begins at an address
+-- a granule of the machine begins at the given address
 abbrev pub IsBegin : Machine → ℕ → Type 0
 IsBegin m address = (is_inside m address ≡ true) × (address ≡ m.settings.base + number_of m address * 4096)
 

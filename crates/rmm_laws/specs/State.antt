@@ -71,8 +71,8 @@ rim_with_range m realm base top =
     let found = walk m realm base 3 in
     rim_with_ripas realm.hash realm.rim (entry_size found.level) base (change_count m (init_changeable m.settings) found base top)
 
--- A call gives this RIM to the realm with the given RD. RMI_REALM_CREATE sets the RIM. RMI_DATA_CREATE,
--- RMI_RTT_INIT_RIPAS, and RMI_REC_CREATE of a REC that is measured, extend the RIM of a NEW realm.
+-- A call may change the RIM of the realm with the given RD to the given value. RMI_REALM_CREATE sets the RIM.
+-- RMI_DATA_CREATE, RMI_RTT_INIT_RIPAS, and RMI_REC_CREATE of a REC that is measured, extend the RIM of a NEW realm.
 abbrev pub IsMeasured : Machine → Option Call → ℕ → List ℕ → Type 0
 IsMeasured m (Some (RealmCreate of params)) rd rim = (rd ≡ number_of m of) × (is_rd (granule_at m rd).state ≡ false) × (rim ≡ (realm_for m (params_at m params)).rim)
 IsMeasured m (Some (DataCreate of page ipa source flags)) rd rim =

@@ -1,5 +1,5 @@
--- The calls of a realm's teardown, and the condition that a sequence of them destroys the realm. RMM 1.0, Realm
--- destruction.
+-- The calls of a realm's teardown, and the statement that some sequence of these calls destroys the realm. RMM 1.0,
+-- Realm destruction.
 use Rattle.std.specs.Prelude.{◌≡◌, ℕ, ◌-◌, false, List, [], ◌∷◌, Some}
 use Rattle.granule_addr.specs.Page.{zero_page}
 use Rattle.rmi_abi.specs.declared.call.Call.{Call}
@@ -19,7 +19,8 @@ use Rattle.rmm_laws.specs.Apart.{realm_of_rec, IsOfRealm, IsSameAt, IsSpare}
 abbrev pub IsAssignedAt : Machine → ℕ → ℕ → ℕ → Type 0
 IsAssignedAt m rd ipa level = (ripas : RmmRipas) × (address : ℕ) × (entry_at m (walk m (realm_at m rd) ipa level) ipa ≡ Assigned ripas address)
 
--- A call removes a page, a mapping or a table from the realm with this RD, or unfolds a block with the spare granule.
+-- A call removes a page, a mapping or a table from the realm with the given RD, or unfolds a block into the given spare
+-- granule.
 abbrev pub IsTeardown : Machine → ℕ → ℕ → Call → Type 0
 IsTeardown m rd spare (DataDestroy of ipa) = of ≡ rd
 IsTeardown m rd spare (RttUnmapUnprotected of ipa level) = of ≡ rd
@@ -43,8 +44,8 @@ HasRemoval m rd = (call : Call) × IsRemoval m rd call × ((performed call m).0.
 
 -- ---- whole teardowns
 
--- A call belongs to a realm's teardown: it removes a page, mapping, table or REC of the realm or the realm itself,
--- unfolds a block, or undelegates a granule.
+-- A call belongs to a realm's teardown: it removes a page, mapping, table or REC, or the realm, unfolds a block, or
+-- undelegates a granule.
 abbrev pub IsOfTeardown : Machine → ℕ → Call → Type 0
 IsOfTeardown m rd (DataDestroy of ipa) = of ≡ rd
 IsOfTeardown m rd (RttUnmapUnprotected of ipa level) = of ≡ rd

@@ -14,7 +14,7 @@ use Rattle.rmm_model.specs.Walk.{entry_at, table_below, walk}
 abbrev pub IsTableOf : Machine → ℕ → ℕ → Type 0
 IsTableOf m rd granule = granule_at m granule ≡ of_realm rd Rtt
 
--- the end of a walk at the given table, which is of the given level
+-- the result of a walk that ends in the given table, at the given level
 abbrev pub walked_to : ℕ → ℕ → RttWalk
 walked_to table level = record { table = table; level = level }
 
@@ -54,7 +54,8 @@ pub record IsAtLive (m : Machine) (found : RttWalk) (ipa to : ℕ) : Type 0 wher
   pub low : ipa / entry_size found.level ≤ to / entry_size found.level
   pub begins : (to ≡ ipa) ⊎ (to % entry_size found.level ≡ 0)
 
--- An address has no live entry at the end of its own walk, nor in the given walk's table.
+-- The walk of an address ends at an entry that is not live, and the address's entry in the given walk's table is not
+-- live either.
 abbrev pub IsPassed : Machine → RmmRealm → RttWalk → ℕ → Type 0
 IsPassed m realm found x = IsDeadAt m realm x × (is_live (entry_at m found x) ≡ false)
 
@@ -65,8 +66,7 @@ pub record IsNextTop (m : Machine) (realm : RmmRealm) (found : RttWalk) (ipa to 
   pub met : IsAtLive m found ipa to
   pub skipped : (x : ℕ) → ipa ≤ x → x < to → IsPassed m realm found x
 
--- A table of the realm begins at the address in an entry. Its level is one more than that of the table with the entry,
--- and at most 3.
+-- A table of realm `rd` begins at `address`, one level below `table`. The table at `address` has level 3 at most.
 pub record LeadsToTable (m : Machine) (level : ℕ → ℕ) (rd table address : ℕ) : Type 0 where
   pub granule : ℕ
   pub begins : address ≡ m.settings.base + granule * 4096

@@ -130,8 +130,8 @@ pub fn halves_are_apart()
         → IsPlaced m.settings (walk m realm ipa level).level (entry_at m (walk m realm ipa level) ipa) }
 {}
 
-/// Each table of a realm serves a range of addresses, 512 entries long. A walk of each address in the range reaches the
-/// table.
+/// Each table of a realm serves the range of addresses that its 512 entries cover. A walk of each address in the range
+/// reaches the table.
 pub fn tables_are_reached()
     ensures some { (m : Machine) (rd table : ℕ) (realm : RmmRealm) (proper : IsProper m) → (granule_at m rd).state ≡ Rd realm → IsTableOf m rd table
         → (levels : ℕ) × (first : ℕ) × Serves m realm levels table first × (proper.linked.level table ≡ realm.start_level + levels) }

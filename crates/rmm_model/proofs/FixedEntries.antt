@@ -1,5 +1,5 @@
--- Lemmas about the search for a table's first entry whose RIPAS a command cannot change: such an entry is found, and
--- any other is skipped.
+-- Lemmas about the search for a table's first entry whose RIPAS a command cannot change: the search passes over entries
+-- that can be changed, and ends at one that cannot.
 use Rattle.std.proofs.Common.{◌≡◌, ℕ, suc, ◌+◌, ◌-◌, ◌<◌, ◌≤◌, List, true, false, ap, ◌∙◌, arith}
 use Rattle.std.proofs.lemmas.Bool.{cond-true, cond-false}
 use Rattle.rmm_model.specs.declared.entry.Changeable.{Changeable}

@@ -1,4 +1,5 @@
--- Lemmas about the search for a table's first live entry: a live entry is found, and any other is skipped.
+-- Lemmas about the search for a table's first live entry: the search passes over entries that are not live, and ends at
+-- a live one.
 use Rattle.std.proofs.Common.{◌≡◌, ℕ, zero, suc, ◌+◌, ◌-◌, ◌*◌, ◌/◌, ◌%◌, ◌^◌, ◌<◌, List, true, false, refl, ap, sym, ◌∙◌, arith}
 use Rattle.std.proofs.lemmas.Bool.{cond-true, cond-false}
 use Rattle.page_arena.specs.Word.{word_of_page}
@@ -41,7 +42,8 @@ low_is_dead word low =
     let few : word / 2 ^ 56 < 4 = omega arith in
     low_kind_is_dead (word / 2 ^ 56) (word % 2 ^ 48) few
 
--- the search skips an entry whose word is below the words of all live entries
+-- if the word of entry `i` is below 4 * 2^56, the least word of a live entry, the search from entry `i` goes on with
+-- the next entry
 pub first_live_past : (page : List ℕ) (i j word : ℕ) → i + 1 ≡ j → i < 512 → word ≡ word_of_page page i → word < 4 * 2 ^ 56 → first_live page (512 - i) i ≡ first_live page (512 - j) j
 unfolding entry_in_page
 first_live_past page i j word next lt is low =

@@ -1,5 +1,5 @@
--- Lemmas about the test that a table's entries are the children of one entry: it fails at an entry that differs, and
--- goes on after any other.
+-- Lemmas about the test that a table's entries are the children of one entry: the test goes on after entry i if it is
+-- child i, and fails otherwise.
 use Rattle.std.proofs.Common.{◌≡◌, ◌≢◌, ℕ, suc, ◌+◌, ◌-◌, ◌<◌, ◌&&◌, List, Bool, true, false, nat_eq, ap, ◌∙◌, arith}
 use Rattle.std.proofs.lemmas.Bool.{eq-eqb, ne_eqb}
 use Rattle.page_arena.specs.Word.{word_of_page}

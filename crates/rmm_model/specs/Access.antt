@@ -18,7 +18,7 @@ syndrome Halfword = 0x400000
 syndrome Word = 0x800000
 syndrome Doubleword = 0xC00000
 
--- the low bytes of a value, as many as an access of the size has
+-- the low bytes of a value that an access of the given size reads or writes
 abbrev pub low_bytes : AccessSize → ℕ → ℕ
 low_bytes Byte value = value % 2 ^ 8
 low_bytes Halfword value = value % 2 ^ 16
@@ -35,7 +35,8 @@ two_bytes_in page offset = slice_index_or page offset 0 + slice_index_or page (o
 unfoldable pub four_bytes_in : List ℕ → ℕ → ℕ
 four_bytes_in page offset = two_bytes_in page offset + two_bytes_in page (offset + 2) * 2 ^ 16
 
--- the value that an access of the given size reads from a page, at an IPA's page offset rounded down to the size
+-- the value that an access of the given size reads from a page, at an IPA's page offset rounded down to a multiple of
+-- the size
 unfoldable pub value_in : List ℕ → AccessSize → ℕ → ℕ
 value_in page Byte ipa = slice_index_or page (ipa % 4096) 0
 value_in page Halfword ipa = two_bytes_in page (ipa % 4096 / 2 * 2)
@@ -56,7 +57,8 @@ with_two_bytes m granule offset value = with_byte (with_byte m granule offset va
 unfoldable pub with_four_bytes : Machine → ℕ → ℕ → ℕ → Machine
 with_four_bytes m granule offset value = with_two_bytes (with_two_bytes m granule offset value) granule (offset + 2) (value / 2 ^ 16)
 
--- the machine after a write of the given size to a granule, at an IPA's page offset rounded down to the size
+-- the machine after a write of the given size to a granule, at an IPA's page offset rounded down to a multiple of the
+-- size
 unfoldable pub with_value : Machine → ℕ → AccessSize → ℕ → ℕ → Machine
 with_value m granule Byte ipa value = with_byte m granule (ipa % 4096) value
 with_value m granule Halfword ipa value = with_two_bytes m granule (ipa % 4096 / 2 * 2) value

@@ -98,8 +98,9 @@ condition_number Status = 76
 abbrev pub is_among : List Condition → Condition → Bool
 is_among conditions condition = list_any (λ c. condition_number c == condition_number condition) conditions
 
--- The result words of the checks that are made and fail, given the conditions that have passed. A check is made if each
--- check that it comes after was made and passed.
+-- The result words of those checks in a list that are made and fail. A check is made if each condition before it has
+-- passed. The given conditions have passed, and so has the condition of each earlier check that was made and did not
+-- fail.
 unfoldable pub words_after : List Condition → List Check → List Word
 words_after passed [] = []
 words_after passed (c ∷ cs) =

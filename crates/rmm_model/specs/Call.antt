@@ -33,7 +33,7 @@ use Rattle.rmm_model.specs.Command.RttSetRipas.{rtt_set_ripas}
 use Rattle.rmm_model.specs.Command.RttUnmapUnprotected.{rtt_unmap_unprotected}
 use Rattle.rmm_model.specs.Command.Version.{version}
 
--- The command that a call gives the RMM, with its checks and its effect on a machine.
+-- The command that an RMI call gives the RMM: its checks, its answer, and its effect on the machine.
 abbrev pub command_of : Call → Machine → Command
 command_of (Version requested) m = version requested m
 command_of (Features index) m = features index m

@@ -32,7 +32,8 @@ error_rtt_top top level = record { word = ErrorRtt level; x1 = 0; x2 = top; x3 =
 
 -- ---- checks
 
--- A check: its name, the checks that it comes after, whether it fails, and the answer if it does.
+-- A check of an RMI command: the failure conditions that come before it, whether the check fails, and the refusal if it
+-- fails. The refusal has the condition that the check is for, and the answer.
 pub record Check : Type 0 where
   pub after : List Condition
   pub fails : Bool
@@ -48,7 +49,7 @@ first_failing (c ∷ cs) = cond c.fails (Some c.refusal) (first_failing cs)
 
 -- ---- commands
 
--- A command: its checks, and the answer and the resulting machine if no check fails.
+-- A command as a list of checks, with the answer and the resulting machine if no check fails.
 pub record Command : Type 0 where
   pub checks : List Check
   pub answer : SmcResult

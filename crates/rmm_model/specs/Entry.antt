@@ -28,7 +28,7 @@ descriptor_of UnassignedNs = 0
 abbrev pub repeated : ℕ → ℕ
 repeated byte = byte * 0x0101010101010101
 
--- the word of an entry without its descriptor: bits 63:56 have its kind and RIPAS
+-- the word that encodes an entry, without its descriptor: bits 63:56 have the entry's kind and RIPAS
 abbrev pub kind_word : RmmRttEntry → ℕ
 kind_word (Unassigned ripas) = repeated (ripas_code ripas)
 kind_word UnassignedNs = repeated 3
@@ -40,7 +40,7 @@ kind_word (Assigned ripas address) = (6 + ripas_code ripas) * 2 ^ 56
 unfoldable pub entry_word : RmmRttEntry → ℕ
 entry_word entry = kind_word entry + descriptor_of entry % 2 ^ 48
 
--- the entry of the kind with the given number, with the given descriptor if entries of the kind have one
+-- the entry of the kind that a number denotes; a live entry has the given descriptor
 abbrev pub entry_at_kind : ℕ → ℕ → RmmRttEntry
 entry_at_kind kind descriptor =
     if kind == 1 then Unassigned Ram else
@@ -98,7 +98,7 @@ abbrev pub is_destroyed : RmmRipas → Bool
 is_destroyed Destroyed = true
 is_destroyed _ = false
 
--- an entry is of a kind whose RIPAS a command changes
+-- a command changes the RIPAS of an entry, given the kinds of entries that the command changes
 abbrev pub can_change : Changeable → RmmRttEntry → Bool
 can_change changeable (Unassigned ripas) = changeable.destroyed || not (is_destroyed ripas)
 can_change changeable (Assigned ripas address) = changeable.assigned && (changeable.destroyed || not (is_destroyed ripas))
@@ -128,8 +128,8 @@ shown_ripas _ = 0
 
 -- ---- children
 
--- Child k of an entry, in a table of the given level. The children of a mapping lead to consecutive memory; those of
--- any other entry equal it.
+-- Child k of an entry: entry k of the table that RMI_RTT_CREATE puts below the entry. The table has the given level.
+-- The children of a mapping lead to consecutive memory. A child of any other entry equals the entry.
 abbrev pub child_entry : RmmRttEntry → ℕ → ℕ → RmmRttEntry
 child_entry (Assigned ripas address) level k = Assigned ripas (address + k * entry_size level)
 child_entry (AssignedNs descriptor) level k = AssignedNs (descriptor + k * entry_size level)
@@ -141,7 +141,7 @@ child_step (Assigned ripas address) level = entry_size level
 child_step (AssignedNs descriptor) level = entry_size level
 child_step entry level = 0
 
--- the byte that fills the page of an entry's children, if the entry is UNASSIGNED or UNASSIGNED_NS
+-- the byte that fills the table of an entry's children, if the entry is UNASSIGNED or UNASSIGNED_NS
 abbrev pub repeated_byte : RmmRttEntry → Option ℕ
 repeated_byte (Unassigned ripas) = Some (ripas_code ripas)
 repeated_byte UnassignedNs = Some 3

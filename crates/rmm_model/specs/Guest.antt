@@ -1,6 +1,7 @@
--- The simulated guest of a REC: at most 16 steps, and their results. Simulated guests are this RMM's own. The steps are
--- a ring in words 48 to 127 of the REC's page, five words each. The results since the last entry are in words 128 to
--- 191, two words each. Words 192 to 208 are gicv3_hcr and the list registers of the last entry.
+-- The simulated guest of a REC: at most 16 pending steps of its program, and the results of steps. Simulated guests are
+-- this RMM's own. The steps are a ring in words 48 to 127 of the REC's granule, five words each. The results since the
+-- last entry are in words 128 to 191, two words each. Words 192 to 208 are gicv3_hcr and the list registers of the last
+-- entry.
 use Rattle.std.specs.Prelude.{ℕ, ◌+◌, ◌-◌, ◌*◌, ◌%◌, ◌==◌, ◌&&◌, Bool, nat_lt, List, is_some, unwrap_or, if◌then◌else◌}
 use Rattle.page_arena.specs.Word.{word_of_page}
 use Rattle.rmm_model.specs.declared.rec.RmmRec.{RmmRec as Attributes}
@@ -38,7 +39,7 @@ step_of w =
     (if w.kind == 13 then Fetch w.a else
     (if w.kind == 14 then SystemRegister w.a w.b else Spin)))))))))))))
 
--- the words that encode the step at position `place` of the ring of steps in a REC's page
+-- the words that encode one step of a REC's guest, at position `place` of the ring of steps in the REC's granule
 unfoldable pub words_at : List ℕ → ℕ → StepWords
 words_at page place = record {
   kind = word_of_page page (48 + 5 * place);
@@ -101,7 +102,7 @@ with_result m g r =
 
 -- ---- steps from the host
 
--- there is a REC at an address
+-- there is a REC at the given address
 abbrev pub is_rec_named : Machine → ℕ → Bool
 is_rec_named m address = is_aligned address && is_inside m address && is_some (rec_of (state_at m address))
 
@@ -114,6 +115,7 @@ with_step m g w =
 abbrev pub queued_at : Machine → ℕ → StepWords → Queued × Machine
 queued_at m g w = if nat_lt (rec_in m g).step_count 16 then (IsQueued, with_step m g w) else (Full, m)
 
--- A step is queued for the guest of the REC at an address, unless there is no such REC or 16 steps are queued already.
+-- A step is queued for the guest of the REC at the given address, unless there is no such REC or 16 steps are queued
+-- already.
 abbrev pub queued : Machine → ℕ → StepWords → Queued × Machine
 queued m address w = if is_rec_named m address then queued_at m (number_of m address) w else (NoRec, m)

@@ -18,7 +18,7 @@ can_access m address = address % 8 == 0 && is_host_page m address
 abbrev pub loaded : Machine → ℕ → Option ℕ
 loaded m address = if can_access m address then Some (word_of_page (page_in m (number_of m address)) (address % 4096 / 8)) else None
 
--- the machine after the host stores a word at an address, if it may access the eight bytes there
+-- the machine after the host stores a word at an address, if the host may access the eight bytes there
 abbrev pub after_store : Machine → ℕ → ℕ → Machine
 after_store m address word = if can_access m address then with_word m (number_of m address) (address % 4096 / 8) word else m
 
@@ -30,6 +30,6 @@ can_fill m address = is_aligned address && is_host_page m address
 abbrev pub state_shown : Machine → ℕ → Option RmmGranuleState
 state_shown m address = if is_aligned address && is_inside m address then Some (state_at m address) else None
 
--- the machine after the host sets all bytes of a page to one value, if it may fill the page
+-- the machine after the host sets all bytes of a page to one value, if the host may fill the page
 abbrev pub after_fill : Machine → ℕ → ℕ → Machine
 after_fill m address value = if can_fill m address then with_page m (number_of m address) (page_of value) else m

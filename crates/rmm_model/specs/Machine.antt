@@ -1,4 +1,4 @@
--- The model's machine: its settings, granules, pages and VMIDs, and the granule that contains an address.
+-- The machine that the modelled RMM manages: settings, granules with their contents, and VMIDs.
 use Rattle.std.specs.Prelude.{ℕ, ◌-◌, ◌/◌, ◌%◌, ◌==◌, ◌&&◌, Bool, false, nat_le, nat_lt, List, length, slice_index_or, slice_set, IfSome}
 use Rattle.granule_addr.specs.Page.{zero_page}
 use Rattle.page_arena.specs.Page.{page_at}
@@ -11,7 +11,8 @@ use Rattle.rmm_model.specs.declared.realm.RmmRealm.{RmmRealm}
 use Rattle.rmm_model.specs.Granule.{of_no_realm, realm_of}
 use Rattle.rmm_model.specs.Realm.{IsServed}
 
--- A machine: its settings, granules and pages, and for each VMID whether a realm uses it.
+-- The machine that the RMM manages: the RMM's settings, the attributes and contents of the granules, and the VMIDs that
+-- realms use.
 pub record Machine : Type 0 where
   pub settings : RmmSettings
   pub granules : List RmmGranule
@@ -41,7 +42,7 @@ with_page m granule page = record m { pages = slice_set m.pages granule page }
 abbrev pub with_word : Machine → ℕ → ℕ → ℕ → Machine
 with_word m granule i word = with_page m granule (page_with_word (page_in m granule) i word)
 
--- the machine in which a granule has a given state, no owner and a zero page
+-- the machine after a granule gets a given state and no owner, and is filled with zeros
 abbrev pub with_blank : Machine → ℕ → RmmGranuleState → Machine
 with_blank m granule state = with_page (with_granule m granule (of_no_realm state)) granule zero_page
 
@@ -69,11 +70,11 @@ is_secure m address = nat_le m.settings.secure_base address && nat_lt ((address 
 
 -- ---- realms
 
--- the machine after the realm of an RD is replaced
+-- the machine after the attributes of the realm with the given RD are replaced
 abbrev pub with_realm : Machine → ℕ → RmmRealm → Machine
 with_realm m rd realm = with_granule m rd (of_no_realm (Rd realm))
 
--- each realm's starting tables are in the machine and serve the realm's address space
+-- each realm's starting tables are in the machine and cover the realm's address space
 pub record HasTables (granules : List RmmGranule) : Type 0 where
   pub each : (granule : ℕ) → IfSome (realm_of (slice_index_or granules granule (of_no_realm Undelegated)).state) (IsServed (length granules))
 

@@ -14,7 +14,7 @@ use Rattle.rmm_model.specs.Bytes.{zeros}
 abbrev pub word : ℕ → List ℕ
 word number = to_le_bytes w64 number
 
--- the digest of a message in 64 bytes; a SHA-256 digest is followed by zeros
+-- the 64-byte digest of a message; a SHA-256 digest is followed by zeros
 unfoldable pub digest : HashAlgorithm → List ℕ → List ℕ
 digest Sha256 message = sha256 message ++ zeros 32
 digest Sha512 message = sha512 message
@@ -37,7 +37,7 @@ type_of (Data ipa flags page) = 0
 type_of (Rec params) = 1
 type_of (Ripas base top) = 2
 
--- a measurement descriptor: the given first 0x50 bytes, then the content of the extension and zeros
+-- the measurement descriptor that begins with the given 0x50 bytes, followed by the content of an extension and zeros
 abbrev pub with_content : List ℕ → Extension → List ℕ
 with_content front (Data ipa flags page) = front ++ word ipa ++ word flags ++ page ++ zeros 96
 with_content front (Rec params) = front ++ params ++ zeros 112

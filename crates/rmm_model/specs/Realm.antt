@@ -41,8 +41,8 @@ start_count s2sz level = (2 ^ s2sz + (512 * entry_size level - 1)) / (512 * entr
 unfoldable pub is_start : ℕ → ℕ → ℕ → Bool
 is_start s2sz level count = nat_le level 3 && nat_lt (entry_size level) (2 ^ s2sz) && nat_le count 16 && count == start_count s2sz level
 
--- The starting tables of a realm are in a machine of `count` granules, and serve its address space. The counts, the
--- level and the width are within limits.
+-- The starting tables of a realm are in a machine of `count` granules, and cover the realm's address space. The counts,
+-- the level and the width are within limits.
 pub record IsServed (count : ℕ) (realm : RmmRealm) : Type 0 where
   pub few : count ≤ 4096
   pub inside : realm.first_table + realm.table_count ≤ count

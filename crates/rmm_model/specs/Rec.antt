@@ -1,6 +1,6 @@
--- The attributes of RECs, and the addresses of auxiliary granules in a REC's page. RMM 1.0, REC attributes. The words
--- of a REC's page are this RMM's own. Words 0 to 30 of the page are the general-purpose registers, 31 is the pc, and 32
--- to 47 are the addresses of the auxiliary granules.
+-- The attributes of RECs, and the addresses of their auxiliary granules. RMM 1.0, REC attributes. The words of a REC's
+-- granule are this RMM's own. Words 0 to 30 are the general-purpose registers, 31 is the pc, and 32 to 47 are the
+-- addresses of the auxiliary granules.
 use Rattle.std.specs.Prelude.{ℕ, ◌+◌, ◌||◌, Bool, true, false, List}
 use Rattle.page_arena.specs.Word.{word_of_page}
 use Rattle.rmm_model.specs.declared.entry.RmmRipas.TheVariants.{Empty}
@@ -14,7 +14,7 @@ use Rattle.rmm_model.specs.declared.rec.RipasRequest.{RipasRequest}
 abbrev pub no_request : RipasRequest
 no_request = record { base = 0; top = 0; ripas = Empty; changes_destroyed = false }
 
--- A new REC: it is READY, and no request is pending.
+-- The attributes of a READY REC without requests, results or steps, given whether the REC is runnable, and its MPIDR.
 abbrev pub new_rec : Bool → ℕ → RmmRec
 new_rec is_runnable mpidr = record {
   state = Ready;
@@ -41,6 +41,6 @@ is_running Ready = false
 abbrev pub is_on : RmmRec → Bool
 is_on rec = rec.is_runnable || is_running rec.state
 
--- the address of auxiliary granule k, as stored in a REC's page
+-- the address of a REC's auxiliary granule k, read from the REC's granule
 abbrev pub aux_of : List ℕ → ℕ → ℕ
 aux_of page k = word_of_page page (32 + k)

@@ -1,5 +1,5 @@
--- The outcome of a guest's step, and its effect on memory and on the REC. RMM 1.0, Realm exits, RSI_HOST_CALL,
--- RSI_IPA_STATE_SET and PSCI; Arm Architecture Reference Manual, ESR_EL2.
+-- The outcome of a guest's step, and the changes that the step makes to memory and to the REC. RMM 1.0, Realm exits,
+-- RSI_HOST_CALL, RSI_IPA_STATE_SET and PSCI; Arm Architecture Reference Manual, ESR_EL2.
 use Rattle.std.specs.Prelude.{ℕ, ◌+◌, ◌-◌, ◌*◌, ◌/◌, ◌%◌, ◌^◌, ◌==◌, ◌&&◌, Bool, true, false, not, nat_lt, Option, Some, None, Result, Ok, Err, if◌then◌else◌}
 use Rattle.rmi_abi.specs.declared.rec_run.ExitReason.TheVariants.{Sync, Psci as PsciExit, RipasChange as RipasExit, HostCall as HostExit}
 use Rattle.rmi_abi.specs.declared.rec_run.RecExit.{RecExit}
@@ -48,7 +48,7 @@ abbrev pub is_memory : RmmRttEntry → Bool
 is_memory (Assigned ripas address) = is_ram ripas
 is_memory _ = false
 
--- the granule, or a synchronous external abort if there is none
+-- the given granule, or a synchronous external abort if no granule is given
 abbrev pub found_or_sea : Option ℕ → Result ℕ StepOutcome
 found_or_sea (Some granule) = Ok granule
 found_or_sea None = Err (IsResult Sea)
@@ -59,7 +59,7 @@ protected_access m class entry level ipa =
     if is_memory entry then found_or_sea (granule_named m (descriptor_of entry + ipa % entry_size level)) else
     Err (if is_empty (ripas_in entry) then IsResult Sea else IsExit (abort (class + 4 + level) ipa) Other)
 
--- the field S2AP of a descriptor permits a guest's access, which is a write or a read
+-- the field S2AP of a descriptor permits a guest's access: a write if `writes` is true, and otherwise a read
 abbrev pub may_access : ℕ → Bool → Bool
 may_access desc writes = if writes then desc / 2 ^ 7 % 2 == 1 else desc / 2 ^ 6 % 2 == 1
 
@@ -67,7 +67,7 @@ may_access desc writes = if writes then desc / 2 ^ 7 % 2 == 1 else desc / 2 ^ 6 
 abbrev pub wnr : Bool → ℕ
 wnr writes = if writes then 0x40 else 0
 
--- SAS, WnR and the level in ESR_EL2, for a data abort that can be emulated
+-- the bits of ESR_EL2 with SAS, WnR and the level, for a data abort that can be emulated
 abbrev pub of_access : Bool → AccessSize → ℕ → ℕ
 of_access writes size level = syndrome size + (wnr writes + level)
 
@@ -165,7 +165,7 @@ wait traps esr = if traps then IsExit (record (only_reason Sync) { esr = esr }) 
 abbrev pub system_register : ℕ → ℕ → StepOutcome
 system_register iss value = IsExit (record (only_reason Sync) { esr = 0x60000000 + iss % 2 ^ 25; gpr0 = value }) LastSystemRegister
 
--- The outcome of a step that accesses no memory.
+-- The outcome of a guest's step that accesses no memory.
 abbrev pub call_outcome : RmmSettings → RmmRealm → Attributes → ℕ → GuestStep → StepOutcome
 call_outcome s realm rec flags (HostCall imm gpr0 gpr1 gpr2) = host_call imm gpr0 gpr1 gpr2
 call_outcome s realm rec flags (SetRipas base top ripas more) = if is_ripas_range realm base top ripas then ripas_exit base top ripas else IsResult RsiErrorInput

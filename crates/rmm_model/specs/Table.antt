@@ -1,4 +1,5 @@
--- Translation tables, which are pages of 512 entries: live entries, changeable entries, and the children of an entry.
+-- Definitions about the 512 entries of a translation table: live entries, entries whose RIPAS a command changes, and
+-- children of an entry.
 use Rattle.std.specs.Prelude.{ℕ, zero, suc, ◌+◌, ◌-◌, ◌==◌, ◌&&◌, Bool, true, cond, not, List, Option, Some, None}
 use Rattle.granule_addr.specs.Page.{page_of, zero_page}
 use Rattle.page_arena.specs.Word.{word_of_page, page_with_word}
@@ -6,7 +7,7 @@ use Rattle.rmm_model.specs.declared.entry.Changeable.{Changeable}
 use Rattle.rmm_model.specs.declared.entry.RmmRttEntry.{RmmRttEntry}
 use Rattle.rmm_model.specs.Entry.{entry_of, entry_word, is_live, can_change, child_entry, repeated_byte}
 
--- entry i of a table's page
+-- entry i of a table
 unfoldable pub entry_in_page : List ℕ → ℕ → RmmRttEntry
 entry_in_page page i = entry_of (word_of_page page i)
 
@@ -34,17 +35,17 @@ first_fixed changeable page (suc count) i = cond (can_change changeable (entry_i
 
 -- ---- children
 
--- the given number of entries of a table, from entry `i` on, are the children of the entry `whole`
+-- `count` entries of a table, from entry `i` on, are the children of the entry `whole` with the same indices
 unfoldable pub has_parts : List ℕ → RmmRttEntry → ℕ → ℕ → ℕ → Bool
 has_parts page whole level zero i = true
 has_parts page whole level (suc count) i = word_of_page page i == entry_word (child_entry whole level i) && has_parts page whole level count (i + 1)
 
--- A page in which `count` words, from word `first` on, are replaced by a function of their index.
+-- A page in which `count` words, from word `first` on, are replaced by the values of a function at their indices.
 unfoldable pub with_words_from : ℕ → ℕ → (ℕ → ℕ) → List ℕ → List ℕ
 with_words_from first zero f page = page
 with_words_from first (suc count) f page = page_with_word (with_words_from first count f page) (first + count) (f (first + count))
 
--- a page in which the first `count` words are replaced by a function of their index
+-- a page in which the first `count` words are replaced by the values of a function at their indices
 unfoldable pub with_words : ℕ → (ℕ → ℕ) → List ℕ → List ℕ
 with_words zero f page = page
 with_words (suc count) f page = page_with_word (with_words count f page) count (f count)
@@ -53,6 +54,6 @@ abbrev pub children_page_at : Option ℕ → RmmRttEntry → ℕ → List ℕ
 children_page_at (Some byte) whole level = page_of byte
 children_page_at None whole level = with_words 512 (λ k. entry_word (child_entry whole level k)) zero_page
 
--- The page of a table of the given level that holds the children of an entry.
+-- The contents of a table at the given level, with the children of the given entry as its entries.
 unfoldable pub children_page : RmmRttEntry → ℕ → List ℕ
 children_page whole level = children_page_at (repeated_byte whole) whole level

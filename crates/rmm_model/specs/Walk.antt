@@ -52,14 +52,14 @@ walk m realm ipa level = walk_from m ipa (level - realm.start_level) (start_of r
 
 -- ---- tops
 
--- the IPA of the live entry `live`, given an IPA that entry `i` covers. If the two entries are the same, it is the
--- given IPA, aligned down if `aligns`.
+-- The IPA at which entry `live` of a table begins, given an IPA that entry `i` covers. If `live` is `i`, the result is
+-- the given IPA, aligned down if `aligns`.
 unfoldable pub top_at : Bool → ℕ → ℕ → ℕ → ℕ → ℕ
 top_at aligns level ipa i live =
     if live == i then cond aligns (ipa / entry_size level * entry_size level) ipa else (ipa / entry_size level + (live - i)) * entry_size level
 
--- The IPA of the first live entry at or after an IPA, in the table where a walk ended. It is the end of the table if
--- none is live. If the IPA's own entry is live, it is that IPA, aligned down if the settings say so.
+-- The IPA of the first live entry at or after an IPA, in the table where a walk ended, or of that table's end if there
+-- is none. If the IPA's own entry is live, the result is that IPA, aligned down if the settings say so.
 unfoldable pub top : Machine → RttWalk → ℕ → ℕ
 top m found ipa =
     let i = entry_index found.level ipa in

@@ -1,4 +1,4 @@
-//! Refusals of commands: the failure condition and the RMM's answer.
+//! The RMM's refusals of commands, each with a failure condition and an answer.
 ghost use Rattle.std.specs.Prelude.{◌≡◌};
 ghost use Rattle.rmm_model.specs.Check as checks;
 

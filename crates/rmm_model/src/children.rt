@@ -1,10 +1,11 @@
-//! The 512 child entries of a translation table entry, as the encoded words of a table that replaces the entry.
+//! The 512 children of a translation table entry, encoded as the words of a table.
 ghost use Rattle.std.specs.Prelude.{◌≡◌, ℕ, ◌^◌, ◌<◌, ◌≤◌};
 
 use crate::RmmRttEntry;
 use crate::entry::ADDRESSES;
 
-/// The words that encode the children of a table entry, all of one kind, with descriptors that rise by a fixed step.
+/// The words that encode the children of a table entry: all of one kind, with descriptors that differ by the same
+/// amount from child to child.
 #[derive(Clone, Copy)]
 pub struct ChildWords {
     kind: u64,

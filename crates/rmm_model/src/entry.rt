@@ -29,9 +29,9 @@ pub enum RmmRttEntry {
 /// those with RIPAS DESTROYED only if `destroyed` is set.
 #[derive(Clone, Copy)]
 pub struct Changeable {
-    /// Whether a command changes the RIPAS of ASSIGNED entries.
+    /// Set if a command changes the RIPAS of ASSIGNED entries.
     pub assigned: bool,
-    /// Whether a command changes entries whose RIPAS is DESTROYED.
+    /// Set if a command changes entries whose RIPAS is DESTROYED.
     pub destroyed: bool,
 }
 
@@ -234,8 +234,8 @@ impl RmmRttEntry {
         }
     }
 
-    /// Returns the step between the descriptors of this entry's successive children. The children are in a table at the
-    /// given level. The step is 0 if the entry is not a mapping.
+    /// Returns the difference between the descriptors of adjacent children of this entry. The children are in a table
+    /// at the given level. The difference is 0 if the entry is not a mapping.
     pub fn child_step(self, level: u8) -> u64
         ensures value { result ≡ entries.child_step self level }
         ensures most { result ≤ 2 ^ 39 }
@@ -247,7 +247,7 @@ impl RmmRttEntry {
         }
     }
 
-    /// Returns the byte that fills the page of a new table below the entry, or `None` for a live entry.
+    /// Returns the byte that fills a new table below the entry, or `None` for a live entry.
     pub fn repeated_byte(self) -> Option<u8>
         ensures { result ≡ entries.repeated_byte self }
     {

@@ -37,7 +37,7 @@ pub fn entry_number(level: u8, address: u64) -> u64
     address >> entry_shift(level)
 }
 
-/// Returns the offset of an address in the range of the entry that covers the address at the given level.
+/// Returns the offset of an address from the start of the range that its entry at `level` covers.
 #[tactic(auto, unfolding(crate::specs::Level::entry_size))]
 pub fn entry_offset(level: u8, address: u64) -> u64
     ensures value { result ≡ address % levels.entry_size level }

@@ -127,7 +127,7 @@ pub fn extend(hash: HashAlgorithm, rim: &[u8; 64], extension: &Extension) -> [u8
     }
 }
 
-/// Returns the digest of a page of data in 64 bytes; a SHA-256 digest is followed by zeros.
+/// Returns the 64-byte digest of a page of data; a SHA-256 digest is followed by zeros.
 #[tactic(auto, unfolding(crate::specs::Measure::digest))]
 pub fn page_digest(hash: HashAlgorithm, page: &[u8]) -> [u8; 64]
     ensures { result ≡ measures.digest hash page.now }

@@ -58,8 +58,8 @@ pub enum LastExit {
 
 /// The attributes of a REC. RMM 1.0, REC attributes.
 ///
-/// A REC's page holds its registers, the addresses of its auxiliary granules, and a ring of its guest's pending steps.
-/// While the REC is RUNNING, `run` is the address of its run page.
+/// A REC's granule holds the REC's registers, the addresses of its auxiliary granules, and a ring of its guest's
+/// pending steps. While the REC is RUNNING, `run` is the address of its run page.
 #[derive(Clone, Copy)]
 pub struct RmmRec {
     pub mpidr: u64,
@@ -75,7 +75,7 @@ pub struct RmmRec {
 }
 
 impl RipasRequest {
-    /// The absence of a RIPAS request.
+    /// The value that means that a REC has no RIPAS request.
     pub const NONE: RipasRequest = RipasRequest {
         base: 0,
         top: 0,
@@ -117,7 +117,7 @@ impl RmmRec {
     }
 }
 
-/// Reads the address of auxiliary granule `k` from a REC's page.
+/// Reads the address of auxiliary granule `k` from a REC's granule.
 pub fn aux_address(page: &[u8], k: u8) -> u64
     requires page { length page.now ≡ 4096 }
     requires below { k < 16 }

@@ -1,4 +1,4 @@
-//! The steps of a REC's guest, and their results.
+//! The steps of guests' programs, and their results.
 ghost use Rattle.std.specs.Prelude.{◌≡◌, ◌<◌, length};
 ghost use Rattle.rmm_model.specs.Guest as guests;
 
@@ -146,7 +146,8 @@ impl StepWords {
         }
     }
 
-    /// Reads the words that encode a guest step from position `place` of the ring of steps in a REC's page.
+    /// Reads the words that encode one step of a REC's guest, at position `place` of the ring of steps in the REC's
+    /// granule.
     #[tactic(auto, unfolding(crate::specs::Guest::words_at))]
     pub fn read(page: &[u8], place: u8) -> StepWords
         requires page { length page.now ≡ 4096 }

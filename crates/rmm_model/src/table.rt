@@ -1,4 +1,4 @@
-//! Translation tables: pages of 512 entries.
+//! Functions that search the 512 entries of a translation table, or compare them with the children of an entry.
 ghost use Rattle.std.specs.Prelude.{◌≡◌, ◌+◌, ◌-◌, ◌^◌, ◌<◌, ◌≤◌, length};
 ghost use Rattle.std.specs.Bool.{OnTrue};
 ghost use Rattle.rmm_model.specs.Table as tables;

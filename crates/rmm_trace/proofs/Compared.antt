@@ -68,7 +68,7 @@ next_word (x ∷ words) (suc end) w rest e =
     let more = next_word words end w rest e in
     record { front = rw add-one (ap (λ t. x ∷ t) (rw add-one at more.front)); left = rw add-one (rw add-one at more.left); within = omega (arith, more.within) }
 
--- the first `end` words are in the first part, and the words after them are `left`
+-- the first `end` words belong to the first part of `words`, and the words after them are `left`
 pub record InFirst (words : List TraceWord) (end : ℕ) (left : List TraceWord) : Type 0 where
   pub is_left : left ≡ drop end words
   pub in_first : parts words ≡ onto_all (take end words) (parts left)
@@ -88,7 +88,8 @@ in_first_more words end left w rest is test so_far =
           ∙ sym (onto_all-more (take end words) w (parts rest)) ∙ ap (λ ws. onto_all ws (parts rest)) (sym next.front);
     }
 
--- a next word that ends a part is the last word of the first part; the other parts are those of the words after it
+-- if the first `end` words are in the first part of `words`, and the next word `w` ends it, the parts are the first
+-- `end + 1` words and those of `rest`
 pub first_ends : (words : List TraceWord) (end : ℕ) (left : List TraceWord) (w : TraceWord) (rest : List TraceWord) → left ≡ w ∷ rest → ends_part w rest ≡ true → InFirst words end left
     → parts words ≡ take (end + 1) words ∷ parts rest
 first_ends words end left w rest is test so_far =
@@ -111,7 +112,7 @@ take_past [] (suc end) e = refl
 take_past (x ∷ words) zero e = absurd (cc)
 take_past (x ∷ words) (suc end) e = ap (λ t. x ∷ t) (take_past words end e)
 
--- if no word is left after words that are in the first part, the first part has all the words
+-- if the list `words` is not empty, and no word is left after those of its first part, the first part is the whole list
 pub first_is_all : (words : List TraceWord) (end : ℕ) (left : List TraceWord) → 0 < length words → left ≡ [] → InFirst words end left → parts words ≡ words ∷ parts left
 first_is_all words end left some is so_far =
     let whole = take_past words end (sym so_far.is_left ∙ is) in

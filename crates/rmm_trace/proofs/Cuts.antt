@@ -15,7 +15,7 @@ before_cons mark xs b bs t is test = ap (before_mark mark) is ∙ ap (λ (u : Bo
 after_cons : (mark : ℕ) (xs : List ℕ) (b : ℕ) (bs : List ℕ) (t : Bool) → xs ≡ b ∷ bs → eqb b mark ≡ t → after_mark mark xs ≡ cond t (Some bs) (after_mark mark bs)
 after_cons mark xs b bs t is test = ap (after_mark mark) is ∙ ap (λ (u : Bool). cond u (Some bs) (after_mark mark bs)) test
 
--- the first `at` bytes are before the split of the text, and the text after them is split at the same byte
+-- the split of the whole text is the split of the text after its first `at` bytes, with these bytes put in front
 pub record Passed (mark : ℕ) (text : List ℕ) (at : ℕ) : Type 0 where
   pub before : before_mark mark text ≡ take at text ++ before_mark mark (drop at text)
   pub after : after_mark mark text ≡ after_mark mark (drop at text)

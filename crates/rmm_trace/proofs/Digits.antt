@@ -1,5 +1,5 @@
--- Proofs that the printed digits of a 64-bit number are read back as the same number, and that no other byte is among
--- them.
+-- Proofs that the printed digits of a 64-bit number are read back as the same number, and have no bytes but those of
+-- digits.
 use Rattle.std.proofs.Common.{◌≡◌, ℕ, zero, suc, ◌+◌, ◌*◌, ◌/◌, ◌%◌, ◌^◌, ◌<◌, ◌≤◌, List, [], ◌∷◌, length, Bool, true, false, not, cond, eqb, ltb, leb, Some, refl, sym, ap, ◌∙◌, arith}
 use Rattle.std.proofs.Common.{mod-lt, div-add-mod', div-lt_iff_lt-mul, div-le_self, pow-suc, mul-le-mul_left, le-leb, lt-ltb, ltb-true, ltb-false, eqb-true, ne_eqb, nat_eq}
 use Rattle.std.proofs.lemmas.Bool.{lt-leb, eqb-false}
@@ -27,7 +27,7 @@ digit_by d false small e =
 digit_of-glyph : (d : ℕ) → d < 16 → digit_of (digit_glyph false d) ≡ d
 digit_of-glyph d small = digit_by d (ltb d 10) small refl
 
--- no glyph but that of 0 is `0`
+-- no digit above 0 is printed as `0`
 glyph_by : (d : ℕ) (t : Bool) → 0 < d → eqb (cond t (48 + d) (87 + d)) 48 ≡ false
 glyph_by d true some = ne_eqb (48 + d) 48 (λ e. omega arith)
 glyph_by d false some = ne_eqb (87 + d) 48 (λ e. omega arith)
@@ -35,7 +35,7 @@ glyph_by d false some = ne_eqb (87 + d) 48 (λ e. omega arith)
 glyph_not_zero : (d : ℕ) → 0 < d → eqb (digit_glyph false d) 48 ≡ false
 glyph_not_zero d some = glyph_by d (ltb d 10) some
 
--- no glyph is a byte below `0`, and none is `=`
+-- no digit is printed as a byte with a code below that of `0`; `sign_by` says that none is printed as `=`
 low_by : (mark d : ℕ) (t : Bool) → mark < 48 → eqb (cond t (48 + d) (87 + d)) mark ≡ false
 low_by mark d true low = ne_eqb (48 + d) mark (λ e. omega arith)
 low_by mark d false low = ne_eqb (87 + d) mark (λ e. omega arith)
@@ -52,7 +52,7 @@ glyph_not_sign d = sign_by d (ltb d 10) refl
 
 -- ---- digits
 
--- a digit `r` that is read after the number `q` gives the number `n`, which is `q * base + r`
+-- a digit `r` that is read after the number `q` gives the number `n`, which is `q * base + r` and fits in 64 bits
 value_more : (base q r n b : ℕ) (bs : List ℕ) → digit_of b ≡ r → r < base → q * base + r ≡ n → n < 2 ^ 64 → value_after base q (b ∷ bs) ≡ value_after base n bs
 value_more base q r n b bs is small whole fits =
     let a : ltb r base ≡ true = lt-ltb r base small in
@@ -130,7 +130,8 @@ module _ (base : ℕ) (low : 2 ≤ base) (high : base ≤ 16) where
       let back : value_after base 0 (digits_onto 64 base false n []) ≡ Some n = reads_back 64 n [] small small in
       rw (plain, back) refl
 
-  -- a number's text lacks the byte `mark`, if it does both when it ends at this digit and when more digits follow
+  -- if two texts lack the byte `mark`, the digits printed so far and the same with more in front, so does the text that
+  -- `t` selects
   unmarked_step : (mark k n : ℕ) (acc : List ℕ) (t : Bool) → list_all (λ b. not (eqb b mark)) (digit_glyph false (n % base) ∷ acc) ≡ true
       → list_all (λ b. not (eqb b mark)) (digits_onto k base false (n / base) (digit_glyph false (n % base) ∷ acc)) ≡ true
       → list_all (λ b. not (eqb b mark)) (cond t (digit_glyph false (n % base) ∷ acc) (digits_onto k base false (n / base) (digit_glyph false (n % base) ∷ acc))) ≡ true
@@ -143,17 +144,17 @@ module _ (base : ℕ) (low : 2 ≤ base) (high : base ≤ 16) where
       let here : list_all (λ b. not (eqb b mark)) (digit_glyph false (n % base) ∷ acc) ≡ true = rw (apart (n % base), h) refl in
       unmarked_step mark k n acc (eqb (n / base) 0) here (unmarked mark k (n / base) (digit_glyph false (n % base) ∷ acc) apart here)
 
-  -- if no glyph is the byte `mark`, no digit of a printed number is that byte
+  -- if no digit is printed as the byte `mark`, no printed number has that byte
   pub digits_unmarked : (mark n : ℕ) → ((d : ℕ) → eqb (digit_glyph false d) mark ≡ false) → list_all (λ b. not (eqb b mark)) (digits base false n) ≡ true
   unfolding digits
   digits_unmarked mark n apart = unmarked mark 64 n [] apart refl
 
--- a text of plain digits is not empty
+-- if `is_plain` holds of a text, the text is not empty
 pub some-plain : (ds : List ℕ) → is_plain ds ≡ true → 0 < length ds
 some-plain [] h = absurd (cc)
 some-plain (b ∷ ds) h = omega arith
 
--- a text of plain digits does not begin with `0x`, as a hexadecimal number does
+-- if `is_plain` holds of a text, the text does not begin with `0x`, as a hexadecimal number does
 pub not_hexadecimal : (ds : List ℕ) → is_plain ds ≡ true → starts_with nat_eq ds (48 ∷ 120 ∷ []) ≡ false
 not_hexadecimal [] h = refl
 not_hexadecimal (b ∷ []) h = and-false (eqb 48 b)

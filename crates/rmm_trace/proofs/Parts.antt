@@ -1,4 +1,4 @@
--- Lemmas for the loop that reads the words of a text: it adds one word at each step, and fails at a malformed word or a
+-- Lemmas for the loop that reads the words of a text: each iteration adds one word, or fails at a malformed word or a
 -- 65th one.
 use Rattle.std.proofs.Common.{◌≡◌, ℕ, zero, suc, ◌+◌, ◌-◌, ◌<◌, ◌≤◌, ◌==◌, List, [], ◌∷◌, ◌++◌, length, true, false, cond, Option, Some, None, option_map, option_and_then, refl, sym, ap, ◌∙◌, arith, append_assoc, length-append}
 use Rattle.std.specs.List.{slice_split, onto_first}
@@ -12,7 +12,7 @@ abbrev pub parts_of : Option (List ℕ) → List (List ℕ)
 parts_of None = []
 parts_of (Some bs) = slice_split (λ b. b == 32) bs
 
--- the size of the rest of a text: its length plus 1, or 0 if there is no rest
+-- the length of the rest of a text plus 1, or 0 if there is no rest
 abbrev pub size_of : Option (List ℕ) → ℕ
 size_of None = 0
 size_of (Some bs) = length bs + 1
@@ -32,7 +32,8 @@ size-after (b ∷ bs) = elim (b == 32) as (λ t. size_of (cond t (Some bs) (afte
   | false ↦ omega (arith, size-after bs)
 ]
 
--- the texts in `rest` are the one before the first space of `bs` and those after it, which are in a smaller rest
+-- `parts_of rest` is the text of `bs` up to its first space, followed by the parts after that space; `size_of` is
+-- smaller after the space
 pub record First (rest : Option (List ℕ)) (bs : List ℕ) : Type 0 where
   pub parts : parts_of rest ≡ before_mark 32 bs ∷ parts_of (after_mark 32 bs)
   pub smaller : size_of (after_mark 32 bs) < size_of rest

@@ -1,5 +1,5 @@
--- Lemmas on a table of texts: the search for a text finds the first match, and the text at an index past the end is
--- empty.
+-- Lemmas on lists of texts: a search finds the first text that passes a test, and a lookup past the end of a list gives
+-- the empty text.
 use Rattle.std.proofs.Common.{◌≡◌, ℕ, zero, suc, ◌+◌, ◌<◌, ◌≤◌, List, [], ◌∷◌, length, map, get_or, drop, Bool, true, cond, Option, Some, None, Bor, refl, sym, ap, ◌∙◌, arith, drop-cons}
 use Rattle.std.proofs.Math.ListN.{drop_of_length-le}
 use Rattle.std.specs.List.{position_from}

@@ -92,7 +92,7 @@ no_sign b rest c apart =
 no_sign_alone : (b : ℕ) → begins (b ∷ []) ≡ false
 no_sign_alone b = and-false (eqb 32 b)
 
--- a text without `=` is the whole question
+-- `before_answer` of a text without `=` is the whole text
 pub before_answer-alone : (xs : List ℕ) → lacks 61 xs ≡ true → before_answer xs ≡ xs
 before_answer-alone [] h = refl
 before_answer-alone (b ∷ []) h = rw (no_sign_alone b) refl
@@ -101,7 +101,7 @@ before_answer-alone (b ∷ c ∷ xs) h =
     let apart = not-true (eqb c 61) (and_parts (not (eqb c 61)) (lacks 61 xs) rest).0 in
     rw (no_sign b xs c apart) (ap (λ t. b ∷ t) (before_answer-alone (c ∷ xs) rest))
 
--- a text without `=` is the question if ` = ` and an answer follow it
+-- if ` = ` and an answer follow a text without `=`, `before_answer` of the whole is that text
 pub before_answer-answered : (xs ys : List ℕ) → lacks 61 xs ≡ true → before_answer (xs ++ (codes " = " ++ ys)) ≡ xs
 before_answer-answered [] ys h = refl
 before_answer-answered (b ∷ []) ys h = rw (no_sign b (61 ∷ 32 ∷ ys) 32 refl) refl

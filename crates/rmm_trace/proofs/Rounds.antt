@@ -1,5 +1,5 @@
--- Lemmas on the test that each value of a repeated fill is a byte: it fails at a value above 255, and goes on after any
--- other.
+-- Lemmas on the test that each value of a repeated fill is a byte: the test fails if the last value exceeds 255, and
+-- otherwise the earlier values decide.
 use Rattle.std.proofs.Common.{◌≡◌, ℕ, zero, suc, ◌-◌, ◌<◌, ◌≤◌, Bool, true, false, ◌&&◌, leb, sym, ap, ◌∙◌, arith}
 use Rattle.std.proofs.lemmas.Bool.{lt-leb, le-leb}
 use Rattle.rmm_trace.specs.declared.word.TraceWord.{TraceWord}

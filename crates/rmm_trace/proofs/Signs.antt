@@ -7,7 +7,7 @@ use Rattle.std.proofs.lemmas.List.{take_all}
 use Rattle.std.specs.List.{starts_with}
 use Rattle.rmm_trace.specs.Lines.{before_answer, answer_in}
 
--- a text begins with the answer's sign
+-- a text begins with ` = `, the sign before an answer
 abbrev pub begins : List ℕ → Bool
 begins text = starts_with nat_eq text (codes " = ")
 
@@ -17,7 +17,8 @@ before_at xs b bs t is test = ap before_answer is ∙ ap (λ (u : Bool). cond u 
 answer_at : (xs : List ℕ) (b : ℕ) (bs : List ℕ) (t : Bool) → xs ≡ b ∷ bs → begins xs ≡ t → answer_in xs ≡ cond t (Some (drop 3 (b ∷ bs))) (answer_in bs)
 answer_at xs b bs t is test = ap answer_in is ∙ ap (λ (u : Bool). cond u (Some (drop 3 (b ∷ bs))) (answer_in bs)) (sym (ap begins is) ∙ test)
 
--- the first `at` bytes are in the question, and the text after them has the rest of the question and the answer
+-- the split of the whole text at ` = ` is the split of the text after its first `at` bytes, with these bytes put in
+-- front
 pub record NoSign (text : List ℕ) (at : ℕ) : Type 0 where
   pub before : before_answer text ≡ take at text ++ before_answer (drop at text)
   pub answer : answer_in text ≡ answer_in (drop at text)
@@ -47,7 +48,7 @@ answer_here text at within test passed =
 pub rest_from : (text : List ℕ) (at : ℕ) → take (length text - at) (drop at text) ≡ drop at text
 rest_from text at = take_all (length text - at) (drop at text) (omega (arith, length-drop at text))
 
--- no answer's sign ` = ` begins at a byte that is not a space
+-- a text that does not begin with a space does not begin with ` = `
 other_byte : (b : ℕ) (bs : List ℕ) → eqb b 32 ≡ false → begins (b ∷ bs) ≡ false
 other_byte b bs apart = let other : eqb 32 b ≡ false = ne_eqb 32 b (λ e. eqb-false b 32 apart (sym e)) in rw other refl
 

@@ -1,4 +1,5 @@
--- Proofs that the search for a name that begins with `(` or `R` may start at the first name that begins so.
+-- Proofs that the search for a name that begins with `(` or `R` may start at the first name in the table with the same
+-- first byte.
 use Rattle.std.proofs.Common.{◌≡◌, ℕ, zero, suc, ◌+◌, List, [], ◌∷◌, take, drop, Bool, true, false, not, ◌&&◌, cond, eqb, nat_eq, Some, refl, sym, ap, ◌∙◌, arith}
 use Rattle.std.proofs.lemmas.Bool.{and_parts, not-true, eqb-true, eqb-false, ne_eqb}
 use Rattle.std.specs.List.{list_all, position_from, starts_with}
@@ -34,12 +35,12 @@ skipped b text (suc k) i (n ∷ ns) is all =
     ap (λ (t : Bool). cond t (Some i) (position_from (bytes_eq text) (i + 1) ns)) first ∙ skipped b text k (i + 1) ns is parts.1
     ∙ ap (λ j. position_from (bytes_eq text) j (drop k ns)) same
 
--- no name before those of the checks begins with `(`
+-- in the table of names, no name before the first check begins with `(`
 no_bracket : list_all (λ n. not (begins_with 40 n)) (take 180 names) ≡ true
 unfolding names commands other_questions steps_of_a_guest settings_and_their_values fields_of_parameter_pages words_of_results states exit_reasons outputs results_of_steps checks
 no_bracket = refl
 
--- no name before the words of results begins with `R`
+-- in the table of names, no name before `RMI_SUCCESS` begins with `R`
 no_letter : list_all (λ n. not (begins_with 82 n)) (take 108 names) ≡ true
 unfolding names commands other_questions steps_of_a_guest settings_and_their_values fields_of_parameter_pages words_of_results states exit_reasons outputs results_of_steps checks
 no_letter = refl

@@ -15,7 +15,7 @@ use Rattle.rmm_trace.proofs.Digits.{glyph_not_low, glyph_not_sign, is_plain-digi
 
 -- ---- the names, by tests that compute
 
--- the text is read as the name at this place
+-- there is an atom, and it is the name with this index
 is_name_at : ℕ → Option Atom → Bool
 is_name_at place (Some (Name found)) = eqb found place
 is_name_at place _ = false
@@ -28,7 +28,7 @@ names_are_read : are_read 0 names ≡ true
 unfolding names commands other_questions steps_of_a_guest settings_and_their_values fields_of_parameter_pages words_of_results states exit_reasons outputs results_of_steps checks is_name_at are_read
 names_are_read = refl
 
--- a byte that is in no name and in no number
+-- no name and no number contains the byte
 pub record IsMark (mark : ℕ) : Type 0 where
   pub glyphs : (d : ℕ) → eqb (digit_glyph false d) mark ≡ false
   pub zero_apart : eqb 48 mark ≡ false
@@ -93,7 +93,7 @@ nth_lacks mark (text ∷ texts) (suc place) h = nth_lacks mark texts place (and_
 
 -- ---- atoms
 
--- no atom has a mark in it
+-- the text of a name or a number lacks each byte for which `IsMark` holds
 pub atom_lacks : (mark : ℕ) → IsMark mark → (a : Atom) → lacks mark (atom_text a) ≡ true
 atom_lacks mark is (Name place) = nth_lacks mark names place is.names_lack
 atom_lacks mark is (Decimal n) = digits_unmarked 10 (omega arith) (omega arith) mark n is.glyphs
@@ -121,7 +121,7 @@ atom_back (Hexadecimal n) is =
     let value = plain_value-digits 16 (omega arith) (omega arith) plain_zero_16 n is in
     rw value refl
 
--- no atom is empty
+-- if no text of a list is empty, the text at an index of the list is not empty
 nth_some : (texts : List (List ℕ)) (place : ℕ) → list_all (λ t. ltb 0 (length t)) texts ≡ true → place < length texts → 0 < length (nth_text place texts)
 nth_some [] place h within = absurd (omega arith)
 nth_some (text ∷ texts) zero h within = ltb-true 0 (length text) (and_parts (ltb 0 (length text)) (list_all (λ t. ltb 0 (length t)) texts) h).0

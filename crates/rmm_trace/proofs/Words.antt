@@ -45,11 +45,11 @@ word_of_parts : (bs front middle value : List ℕ) (step mask : Option (List ℕ
     → atom_in value ≡ Some w.value → tail_in mask ≡ Some w.mask → tail_in step ≡ Some w.step → word_in bs ≡ Some w
 word_of_parts bs front middle value step mask w cut listed cut_step is_step cut_mask is_mask a m s = rw (cut, listed, cut_step, is_step, cut_mask, is_mask, a, m, s) refl
 
--- the text of a word before its step has no mark in it other than `/`
+-- the text of a word's value and mask lacks each byte for which `IsMark` holds, other than `/`
 middle_lacks : (mark : ℕ) → IsMark mark → eqb 47 mark ≡ false → (w : TraceWord) → lacks mark (atom_text w.value ++ tail_text (codes "/") w.mask) ≡ true
 middle_lacks mark is slash w = lacks-append mark (atom_text w.value) (tail_text (codes "/") w.mask) (atom_lacks mark is w.value) (tail_lacks mark 47 is slash w.mask)
 
--- the text of a word before its comma has no mark in it other than `/` and `+`
+-- the text of a word before its comma lacks each byte for which `IsMark` holds, other than `/` and `+`
 front_lacks : (mark : ℕ) → IsMark mark → eqb 47 mark ≡ false → eqb 43 mark ≡ false → (w : TraceWord)
     → lacks mark (atom_text w.value ++ tail_text (codes "/") w.mask ++ tail_text (codes "+") w.step) ≡ true
 front_lacks mark is slash plus w =

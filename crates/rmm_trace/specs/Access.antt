@@ -1,5 +1,5 @@
--- The values read from the question of a trace line, its part before ` = `: operands by index, words after a name, and
--- the registers of a call.
+-- The values that are read from a trace line before its ` = `: operands by index, words after a name, and the registers
+-- of a call.
 use Rattle.std.specs.Prelude.{ℕ, zero, suc, ◌+◌, ◌*◌, ◌%◌, ◌^◌, ◌==◌, nat_lt, Bool, false, if◌then◌else◌, List, [], ◌∷◌, slice_index, Option, Some, None}
 use Rattle.std.specs.Option.{unwrap_or}
 use Rattle.rmm_trace.specs.declared.access.TheConstants.{FUNCTIONS}
@@ -17,7 +17,7 @@ number_or_zero (Some a) = unwrap_or (atom_number a) 0
 abbrev pub number_at : TraceWord → ℕ → ℕ
 number_at w round = (number_or_zero (Some w.value) + number_or_zero w.step * round % 2 ^ 64) % 2 ^ 64
 
--- the value of the operand at an index, in a round of a repeat; 0 if there is no such operand
+-- the value of the operand at an index, in a round of a `repeat`; 0 if there is no such operand
 abbrev pub operand_at : List TraceWord → ℕ → ℕ → ℕ
 operand_at [] place round = 0
 operand_at (w ∷ ws) zero round = number_at w round
@@ -32,7 +32,7 @@ abbrev pub after_name : ℕ → List TraceWord → List TraceWord
 after_name name [] = []
 after_name name (w ∷ ws) = if is_name name w.value then ws else after_name name ws
 
--- the values of the `count` operands from index `place` on, in a round of a repeat
+-- the values of the `count` operands from index `place` on, in a round of a `repeat`
 abbrev pub operands : ℕ → ℕ → List TraceWord → ℕ → List ℕ
 operands zero place ws round = []
 operands (suc count) place ws round = operand_at ws place round ∷ operands count (place + 1) ws round

@@ -21,12 +21,13 @@ command_rows =
     (codes "rmi_data_create", 0xC4000153, 5) ∷ (codes "rmi_data_create_unknown", 0xC4000154, 3) ∷ (codes "rmi_data_destroy", 0xC4000155, 2) ∷
     (codes "rmi_psci_complete", 0xC4000164, 3) ∷ []
 
--- the group has exactly `count` operands, and a question may end with it
+-- the group has exactly `count` operands, and may be the last group before the ` = ` of a trace line
 unfoldable pub has_operands : ℕ → Option Group → Bool
 has_operands count (Some group) = (group.least == count) && (group.most == count) && group.is_last
 has_operands count None = false
 
--- the rows agree with the tables of names, function identifiers and word groups, for all commands from index `place` on
+-- the listed commands agree with the tables of names, function identifiers and word groups from index `place` on, and
+-- there are 23 commands in all
 unfoldable pub are_commands : ℕ → List (List ℕ × ℕ × ℕ) → Bool
 are_commands place [] = place == 23
 are_commands place (row ∷ rows) =

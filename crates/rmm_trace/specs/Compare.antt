@@ -26,7 +26,7 @@ atom_number (Name place) = ordinal place
 atom_number (Decimal n) = Some n
 atom_number (Hexadecimal n) = Some n
 
--- the bits that are compared: those of the mask, or all bits if there is no mask
+-- the bits in which values are compared: those of the mask, or all bits if the mask is missing or a name
 abbrev pub mask_of : Option Atom → ℕ
 mask_of (Some (Decimal n)) = n
 mask_of (Some (Hexadecimal n)) = n
@@ -113,7 +113,7 @@ has_part are_checks_compared ours part = list_any (λ other. is_same_part are_ch
 abbrev pub are_parts : Bool → List TraceWord → List TraceWord → Bool
 are_parts are_checks_compared written ours = list_all (λ part. has_part are_checks_compared ours part) (parts written)
 
--- the model's answer begins with the words of the trace's answer
+-- the first words of the model's answer agree with the words of the trace's answer
 abbrev pub are_first : List TraceWord → List TraceWord → Bool
 are_first [] ys = true
 are_first (x ∷ xs) [] = false
@@ -149,14 +149,14 @@ abbrev pub place_of : Atom → ℕ
 place_of (Name place) = place
 place_of _ = DASH
 
--- the index of a question's name or, in a `repeat`, of the name of the repeated call or fill
+-- the index of the name that begins a trace line or, in a `repeat`, of the name of the repeated call or fill
 abbrev pub command_in : List TraceWord → ℕ
 command_in [] = DASH
 command_in (w ∷ []) = place_of w.value
 command_in (w ∷ times ∷ []) = place_of w.value
 command_in (w ∷ times ∷ call ∷ ws) = if place_of w.value == REPEAT then place_of call.value else place_of w.value
 
--- the answers to a command, an interrupt or a fill agree part by part, and those to any other question word by word
+-- the answers to a command, an interrupt or a fill agree part by part, and all other answers word by word
 abbrev pub is_same_by : ℕ → Bool → List TraceWord → List TraceWord → Bool
 is_same_by kind are_checks_compared written ours =
     if nat_lt kind PLATFORM || kind == INTERRUPT || kind == FILL then are_parts are_checks_compared written ours

@@ -1,5 +1,5 @@
--- The conditions that relate the numbers of a trace line: those of a platform, of a guest's access, and of a repeated
--- fill.
+-- The conditions that the numbers of a trace line are consistent: in a `platform` line, in a guest's access, and in a
+-- repeated fill.
 use Rattle.std.specs.Prelude.{ℕ, zero, suc, ◌+◌, ◌*◌, ◌%◌, ◌^◌, max, ◌==◌, nat_le, nat_lt, Bool, true, false, not, ◌&&◌, ◌||◌, if◌then◌else◌, List, [], ◌∷◌, Some}
 use Rattle.rmm_trace.specs.declared.place.TheConstants.{FILL, GUEST, PLATFORM, READ, REPEAT, SECURE, WRITE}
 use Rattle.rmm_trace.specs.declared.word.Atom.{Atom}
@@ -13,7 +13,7 @@ is_secure_right [] base end = true
 is_secure_right (w ∷ ws) base end =
     nat_le base (operand_at (w ∷ ws) 0 0) && nat_le (operand_at (w ∷ ws) 0 0 + 4096 * operand_at (w ∷ ws) 1 0) end
 
--- the machine ends within 48 bits, and the granules of its `secure` setting are inside it
+-- no address of the machine exceeds 48 bits, and the granules of its `secure` setting are inside the machine
 abbrev pub is_platform_right : List TraceWord → Bool
 is_platform_right ws =
     let base = operand_at ws 0 0 in
@@ -24,7 +24,8 @@ is_platform_right ws =
 abbrev pub limit_of : ℕ → ℕ
 limit_of width = if width == 2 then 2 ^ 16 else (if width == 4 then 2 ^ 32 else (if width == 8 then 2 ^ 64 else 2 ^ 8))
 
--- the IPA is aligned to the width, and the value fits in that many bytes; width 0 counts as 1
+-- the IPA is a multiple of the width, and the value fits in `width` bytes, for a width of 1, 2, 4 or 8; width 0 counts
+-- as 1
 abbrev pub is_access : ℕ → ℕ → ℕ → Bool
 is_access ipa width value = (ipa % max width 1 == 0) && nat_lt value (limit_of width)
 
@@ -69,7 +70,8 @@ is_consistent_by (Name place) ws =
     else (if place == REPEAT then is_repeat_right ws else true))
 is_consistent_by _ ws = false
 
--- the numbers of the question are consistent with each other: those of a platform, a guest's access or a repeated fill
+-- the numbers in a trace line are consistent with each other: those of a `platform` line, a guest's access or a
+-- repeated fill
 abbrev pub is_consistent : List TraceWord → Bool
 is_consistent [] = false
 is_consistent (w ∷ ws) = is_consistent_by w.value ws

@@ -1,5 +1,4 @@
--- The grammar of the question of a trace line, its part before ` = `: a sequence of word groups, each a name and its
--- values.
+-- The grammar of a trace line before its ` = `: a sequence of word groups, each with a name and its values.
 use Rattle.std.specs.Prelude.{ℕ, ◌+◌, ◌-◌, ◌%◌, ◌==◌, nat_le, nat_lt, Bool, true, false, not, ◌&&◌, ◌||◌, if◌then◌else◌, List, [], ◌∷◌, Option, Some, None, is_some, option_and_then, bit_and, bit_or}
 use Rattle.rmm_trace.specs.declared.word.Atom.{Atom}
 use Rattle.rmm_trace.specs.declared.word.Atom.TheVariants.{Name, Decimal, Hexadecimal}
@@ -59,7 +58,7 @@ next groups it w =
 abbrev pub is_complete : Place → Bool
 is_complete it = it.group.is_last && nat_le it.group.least it.count
 
--- the words lead from the position to the end of a question
+-- the grammar accepts the words, from the position on, up to the ` = ` or the end of a trace line
 abbrev pub accepts : List Group → Option Place → List TraceWord → Bool
 accepts groups None words = false
 accepts groups (Some it) [] = is_complete it

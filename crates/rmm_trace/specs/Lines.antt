@@ -45,7 +45,7 @@ answer_in (b ∷ bs) = if starts_with nat_eq (b ∷ bs) (codes " = ") then Some 
 abbrev pub is_question : List Group → Place → List TraceWord → Bool
 is_question groups start ws = accepts groups (Some start) ws && is_consistent ws
 
--- the words as a question, if they are one
+-- the words in an `ArrayVec`, if `is_question` holds of them
 abbrev pub as_question : List Group → Place → List TraceWord → Option (ArrayVec TraceWord)
 as_question groups start ws = if is_question groups start ws then Some (record { items = ws }) else None
 

@@ -1,4 +1,4 @@
--- The table of names: the words in traces that are not numbers.
+-- The table of names, which are the words in traces that are not numbers.
 use Rattle.std.specs.Prelude.{ℕ, zero, suc, List, [], ◌∷◌, ◌++◌, codes}
 
 -- the text at an index, or the empty text past the end

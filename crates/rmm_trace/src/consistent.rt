@@ -126,7 +126,8 @@ fn is_repeat_right(words: &[TraceWord]) -> bool
     }
 }
 
-/// Returns whether the numbers in a question that the grammar accepts are consistent with each other.
+/// Returns whether the numbers in the words of a trace line are consistent with each other. The words are ones that the
+/// grammar accepts.
 ///
 /// Compared are the machine of a platform, the access of a guest, and the rounds of a fill.
 pub fn is_consistent(words: &[TraceWord]) -> bool

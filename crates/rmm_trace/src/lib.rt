@@ -1,5 +1,4 @@
-//! The text of traces: RMI calls with their operands as register values, and the answers. The crate reads lines, prints
-//! words as text, and compares answers.
+//! Functions that read the lines of traces, print words as text, and compare answers.
 //!
 //! A line is words that are separated by single spaces. A word is a name or a number, and can have a mask after `/`, a
 //! step after `+`, and a comma. A number keeps its base, so words and their texts determine each other: what is printed

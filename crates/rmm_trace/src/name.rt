@@ -1,4 +1,4 @@
-//! The table of names: the words in traces that are not numbers.
+//! The table of names, which are the words in traces that are not numbers.
 ghost use Rattle.std.specs.Prelude.{◌≡◌, map, drop};
 ghost use Rattle.std.specs.List.{position_from};
 ghost use Rattle.std.specs.Str.{bytes_eq};

@@ -1,4 +1,4 @@
-//! Sentences of a trace: words that are separated by single spaces.
+//! Lists of trace words, called sentences, and their texts with single spaces between the words.
 ghost use Rattle.std.specs.Prelude.{◌≡◌, ◌==◌, [], option_map};
 ghost use Rattle.std.specs.List.{slice_split};
 ghost use Rattle.rmm_trace.specs.Sentences.{if_read, words_in};
@@ -11,7 +11,7 @@ use std::fmt;
 /// The maximum number of words in the question or the answer of a trace line.
 pub const MOST_WORDS: usize = 64;
 
-/// A sentence of a trace: a list of at most `MOST_WORDS` words.
+/// A list of at most `MOST_WORDS` words of a trace, such as a question or an answer.
 pub type Sentence = ArrayVec<TraceWord, MOST_WORDS>;
 
 /// Parses the words of a text into an empty list of trace words. Returns whether the text is a sentence. If the text is

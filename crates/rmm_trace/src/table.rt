@@ -1,4 +1,4 @@
-//! The grammar of the questions in trace lines, as a table of word groups. The table has a row for each group.
+//! The grammar of trace lines up to their ` = `, as a table of word groups. The table has a row for each group.
 use crate::grammar::{Group, Place, REPEATED, ValueKind};
 use crate::place::*;
 
@@ -199,7 +199,7 @@ pub const START: Place = Place {
     seen: 0,
 };
 
-/// The grammar rules for all groups of words that the question of a trace line can have.
+/// The grammar rules for all groups of words that a trace line can have before its ` = `.
 pub const GROUPS: [Group; 95] = [
     // calls, which can be repeated
     plain!(CALLS, RMI_VERSION, 1, 1),

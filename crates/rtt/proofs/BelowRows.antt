@@ -16,7 +16,7 @@ use Rattle.rtt.proofs.TableAt.{table_at-same, entry_at-some}
 use Rattle.rtt.proofs.RowsIn.{get-rows_in, row_in-place}
 use Rattle.rtt.proofs.RowRuns.{all_rows_each, all_rows_true}
 
--- the first IPA granule of a table of the given level, and the level above it
+-- a table of the given level can begin at the IPA granule `ipa`, and `above` is one less than the level
 module _ (level above ipa : ℕ) (next : above + 1 ≡ level) (place : is_table_place ipa level ≡ true) where
   pub facts : IsTablePlace ipa level
   facts = table_place ipa level place

@@ -24,7 +24,7 @@ use Rattle.rtt.proofs.RowsAfter.{row_in-written}
 use Rattle.rtt.proofs.Owned.{Moves, apart_states, HasGranules-written}
 use Rattle.rtt.proofs.BelowRows as below_rows
 
--- the rows after the write of an entry that leads to a table whose entries are all equal
+-- the written entry leads to a new table, and all entries of that table are equal
 module _ (entries new : Entries) (granules : List Granule) (rd : ℕ) (root : Root) (above ipa table : ℕ) (entry : Row)
     (own : HasGranules entries granules rd root) (w : Writes entries new root above ipa table entry)
     (high : above < 3) (granule : ℕ) (row : Row) (leads : table_of entry ≡ Some granule) (fresh : (index : ℕ) → index < 512 → new granule index ≡ row) where
@@ -117,7 +117,7 @@ module _ (entries new : Entries) (granules : List Granule) (rd : ℕ) (root : Ro
       ∙ ap (λ (k : ℕ). put_rows (λ _. unassigned ripas) (put_row rows above ipa (table_row granule)) k ipa 512) (below_rows.suc_above level above ipa next place)
       ∙ ap (λ (k : ℕ). put_rows (λ _. unassigned ripas) (put_row rows k ipa (table_row granule)) level ipa 512) (sym (below_rows.above_is level above ipa next place))
 
-  -- The realm still owns its granules, and now owns that of the new table too, which was DELEGATED.
+  -- The realm still owns its granules, and now also the granule of the new table, which was DELEGATED.
   pub created_granules : (new_granules : List Granule) → Moves granules new_granules granule InRtt (Some rd) → HasGranules new new_granules rd root
   created_granules new_granules moves = HasGranules-written entries new granules rd root above ipa table (table_row granule) own writes new_granules (record {
     tables_stay = λ l i t inside is _. let was = own.tables l i t inside is in moves.others t InRtt (Some rd) (apart_table t was) was;

@@ -24,7 +24,7 @@ use Rattle.rtt.proofs.RowsAfter.{row_in-written}
 use Rattle.rtt.proofs.Owned.{Moves, apart_states, HasGranules-written}
 use Rattle.rtt.proofs.BelowRows as below_rows
 
--- no row is left under an entry that leads to no table
+-- removing the rows under an entry is the same as keeping only the rows that are not under the entry
 cut : (under place : Bool) (o : Option Row) → cond under (cond place None None) o ≡ cond (not under) o None
 cut true true o = refl
 cut true false o = refl
@@ -87,7 +87,8 @@ module _ (entries new : Entries) (granules : List Granule) (rd : ℕ) (root : Ro
       ∙ sym (get-insert_row dropped (above, first_covered above ipa) (l, i) (unassigned Destroyed)))
       ∙ ap (λ (k : ℕ). put_row dropped k ipa (unassigned Destroyed)) (sym (below_rows.above_is level above ipa next place))
 
-  -- The realm still owns the granules of its other tables and of its pages, whatever becomes of the destroyed table's.
+  -- The realm still owns the granules of its other tables and of its pages, whatever state and realm the destroyed
+  -- table's granule gets.
   pub destroyed_granules : (new_granules : List Granule) (state : GranuleState) (realm : Option ℕ) → Moves granules new_granules granule state realm → HasGranules new new_granules rd root
   destroyed_granules new_granules state realm moves =
       let was_in : IsIn granules granule InRtt (Some rd) = own.tables level ipa granule (below_rows.level_inside level above ipa next place root.width below) its_place in

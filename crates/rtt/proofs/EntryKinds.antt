@@ -1,4 +1,4 @@
--- Lemmas on entries by kind: whether an entry leads to a table, to a page of data, or to nothing.
+-- Proofs that the state of an entry decides whether the entry leads to a table, to a page of data, or to nothing.
 use Rattle.std.proofs.Common.{◌≡◌, ℕ, Bool, true, false, cond, Option, Some, None, refl, ap}
 use Rattle.realm_model.specs.declared.states.EntryState.{EntryState}
 use Rattle.realm_model.specs.declared.states.EntryState.TheVariants.{Unassigned, Assigned, Table}
@@ -7,7 +7,7 @@ use Rattle.realm_model.specs.declared.states.Ripas.TheVariants.{Ram}
 use Rattle.realm_model.specs.Rows.{Row, is_unassigned, is_assigned, is_table, unassigned, assigned, as_ram, table_of, data_of}
 use Rattle.rtt.specs.Word.{IsEncodable, IsEntry}
 
--- an UNASSIGNED entry is of no other kind
+-- an entry that passes the test `is_unassigned` has the state UNASSIGNED
 pub unassigned_kind : (row : Row) → is_unassigned row ≡ true → row.state ≡ Unassigned
 unassigned_kind row e = by_kind row.state e
   where
@@ -19,14 +19,14 @@ unassigned_kind row e = by_kind row.state e
 pub unassigned_plain : (row : Row) → is_unassigned row ≡ true → is_table row ≡ false
 unassigned_plain row e = ap (λ (h : EntryState). elim h [ Unassigned ↦ false | Assigned ↦ false | Table ↦ true ]) (unassigned_kind row e)
 
--- an UNASSIGNED entry leads to nothing
+-- an UNASSIGNED entry leads to no table
 pub table_of-unassigned : (row : Row) → row.state ≡ Unassigned → table_of row ≡ None
 table_of-unassigned row e = ap (λ (h : EntryState). cond (elim h [ Unassigned ↦ false | Assigned ↦ false | Table ↦ true ]) row.granule None) e
 
 pub data_of-unassigned : (row : Row) → row.state ≡ Unassigned → data_of row ≡ None
 data_of-unassigned row e = ap (λ (h : EntryState). cond (elim h [ Unassigned ↦ false | Assigned ↦ true | Table ↦ false ]) row.granule None) e
 
--- an UNASSIGNED entry whose RIPAS becomes RAM is the UNASSIGNED entry with RIPAS RAM
+-- setting the RIPAS of an UNASSIGNED entry without a granule to RAM gives the entry `unassigned Ram`
 pub as_ram-unassigned : (row : Row) → row.state ≡ Unassigned → row.granule ≡ None → as_ram (Some row) ≡ unassigned Ram
 as_ram-unassigned row kind none = λ i. record { state = kind i; ripas = Ram; granule = none i }
 
@@ -38,8 +38,7 @@ table_of-plain row plain = ap (λ b. cond b row.granule None) plain
 pub table_of-table : (row : Row) → is_table row ≡ true → table_of row ≡ row.granule
 table_of-table row is = ap (λ b. cond b row.granule None) is
 
--- if an entry leads to its granule only when it passes a test, and leads to a granule, it passes the test and has that
--- granule
+-- if `cond test o None` is a granule, the test is true and `o` is that granule
 leads : (test : Bool) (o : Option ℕ) (granule : ℕ) → cond test o None ≡ Some granule → (test ≡ true) × (o ≡ Some granule)
 leads true o granule e = (refl, e)
 leads false o granule e = cc

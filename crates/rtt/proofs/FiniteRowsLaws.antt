@@ -16,7 +16,7 @@ pub record IsBounded (space : ℕ) (at : ℕ → ℕ → Option Row) : Type 0 wh
   pub levels : (level ipa : ℕ) → level ≡ 0 ⊎ 4 ≤ level → at level ipa ≡ None
   pub granules : (level ipa : ℕ) → space ≤ ipa → at level ipa ≡ None
 
--- two places are equal exactly if their test is true
+-- `is_at` is true of two places exactly if the places are equal
 pub place_tells : (q k : ℕ × ℕ) → ((is_at q k ≡ true) × (q ≡ k)) ⊎ ((is_at q k ≡ false) × (q ≡ k → ⊥))
 place_tells q k =
     elim (is_at q k) as (λ b. is_at q k ≡ b → ((b ≡ true) × (q ≡ k)) ⊎ ((b ≡ false) × (q ≡ k → ⊥))) [
@@ -24,7 +24,7 @@ place_tells q k =
       | false ↦ λ e. inr (refl, λ same. true_false _ (place_self q) (ap (is_at q) same ∙ e))
     ] refl
 
--- rows that are equal at each place are equal
+-- two maps of rows are equal if they have the same row at each place
 pub same_rows : (rows other : Rows) → ((level ipa : ℕ) → get rows (level, ipa) ≡ get other (level, ipa)) → rows ≡ other
 same_rows rows other same = same_map place_total place_cmp-IsAntisymmetric rows other (λ q. same q.0 q.1)
 
@@ -46,7 +46,8 @@ find-append q (x ∷ xs) ys =
       | false ↦ find-append q xs ys
     ]
 
--- the list of a level has no row at another level or past its end
+-- the list of a level's rows at the first `n` IPA granules has no row at another level, and none from IPA granule `n`
+-- on
 find_none : (at : ℕ → ℕ → Option Row) (level n other ipa : ℕ) → (other ≡ level → ipa < n → ⊥) → find place_cmp (other, ipa) (rows_below at level n) ≡ None
 unfolding rows_below row_before
 find_none at level zero other ipa out = refl

@@ -1,5 +1,5 @@
--- Proofs that the row at which an RTT walk ends decides whether a command is refused, and with which level; for
--- destroying a table, its own entries decide too.
+-- Proofs that the row at which an RTT walk ends decides whether a command is refused, and with which level. For
+-- RMI_RTT_DESTROY the entries of the table decide too.
 use Rattle.std.proofs.Common.{◌≡◌, ◌≢◌, ℕ, ◌-◌, Bool, true, false, Some, None, Err, ◌⊎◌, ⊎_elim, sym, ap, ◌∙◌}
 use Rattle.std.specs.Prelude.{◌==◌}
 use Rattle.std.proofs.lemmas.Bool.{cases_eq, eq-eqb, ne_eqb}
@@ -23,12 +23,12 @@ module _ (rows : Rows) (ipa level wanted ended : ℕ) (row : Row) (at : wanted �
     found_so : ended ≡ wanted → passes row ≡ true → (f : Row → Outcome) → with_row rows ipa level (λ r. check (passes r) (error_rtt level) (f r)) ≡ f row
     found_so there holds f = ended_there there (λ r. check (passes r) (error_rtt level) (f r)) ∙ check_true (passes row) (error_rtt level) (f row) holds
 
-    -- A command goes on with the row where its walk ended, if that is at the required level and the row passes the
-    -- test.
+    -- A command goes on with the row where its walk ended, if the row is of the required level and passes the test.
     pub row_passed : ended ≡ wanted → passes row ≡ true → (found : Row) × ((f : Row → Outcome) → with_row rows ipa level (λ r. check (passes r) (error_rtt level) (f r)) ≡ f found)
     row_passed there holds = (row, found_so there holds)
 
-    -- Otherwise the command is refused, with the level where the walk ended.
+    -- If the walk ended at another level, or the row fails the test, the command is refused with the level where the
+    -- walk ended.
     pub row_refused : (ended ≢ wanted) ⊎ (passes row ≡ false) → (f : Row → Outcome) → with_row rows ipa level (λ r. check (passes r) (error_rtt level) (f r)) ≡ Err (error_rtt ended)
     row_refused fails f =
         ⊎_elim

@@ -1,5 +1,5 @@
--- Proofs that a realm's rows and tables stay the same if its RTT granules keep their state and pages, and its DATA
--- granules keep their state.
+-- Proofs that a realm's rows and tables stay the same if its RTT granules stay its RTT granules with the same bytes,
+-- and its DATA granules stay its DATA granules.
 use Rattle.std.specs.Prelude.{◌≡◌, ℕ, zero, suc, ◌<◌, ◌≤◌, true, false, cond, List, Option, Some, None, option_and_then}
 use Rattle.std.proofs.Common.{refl, sym, ap, subst, ◌∙◌, arith}
 use Rattle.granule_addr.specs.Ipa.{entry_index}
@@ -17,7 +17,7 @@ use Rattle.rtt.specs.Tables.{Entries, entries_of, table_at, entry_at, data_at, i
 use Rattle.rtt.specs.Realm.{IsInside, HasGranules, HasTables, LeavesAlone}
 use Rattle.rtt.proofs.PlaceLaws.{index_below, inside_place}
 
--- two functions of an optional table have the same result if they agree on the table that is there
+-- `option_and_then` has the same result for two functions if they agree on the value that the option has
 option_and_then-same : {A : Type 0} (mapping_at new_look : ℕ → Option A) (o : Option ℕ) → ((table : ℕ) → o ≡ Some table → new_look table ≡ mapping_at table) → option_and_then new_look o ≡ option_and_then mapping_at o
 option_and_then-same mapping_at new_look None same = refl
 option_and_then-same mapping_at new_look (Some table) same = same table refl
@@ -49,8 +49,8 @@ module _ (entries new : Entries) (root : Root)
         ∙ option_and_then-same (λ t. data_of (entries t index)) (λ t. data_of (new t index)) (table_at entries root level ipa)
         (λ t at. same_data level ipa t index inside at (index_below level ipa))
 
-    -- The realm still owns its granules, in any list of granules in which its RTT and DATA granules keep their states
-    -- and stay the realm's.
+    -- The realm still owns the granules of its tables and pages, if its RTT granules stay its RTT granules, and its
+    -- DATA granules stay its DATA granules.
     pub HasGranules-same : (granules new_granules : List Granule) (rd : ℕ)
         → ((granule : ℕ) → IsIn granules granule InRtt (Some rd) → IsIn new_granules granule InRtt (Some rd))
         → ((granule : ℕ) → IsIn granules granule InData (Some rd) → IsIn new_granules granule InData (Some rd))

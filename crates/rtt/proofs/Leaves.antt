@@ -85,8 +85,8 @@ module _ (entries new : Entries) (granules : List Granule) (rd : ℕ) (root : Ro
       (λ other is. subst (λ (k : ℕ). IsIn new_granules k InData (Some rd)) (sym (is_page other is)) moves.now)
       (λ l i other is there was_at _. data_apart other (own.«data» l i other there was_at) (is_page other is))
 
-  -- The realm still owns its granules if the new entry is UNASSIGNED, and the page that the old entry led to moves to
-  -- any state.
+  -- If the new entry is UNASSIGNED, and only the granule of the old entry's page changes, the realm owns the granules
+  -- of its tables and pages.
   pub leaf_unmapped : (new_granules : List Granule) (page : ℕ) (state : GranuleState) (realm : Option ℕ) → entry.state ≡ Unassigned
       → data_of old_entry ≡ Some page → Moves granules new_granules page state realm → HasGranules new new_granules rd root
   leaf_unmapped new_granules page state realm entry_is was moves =

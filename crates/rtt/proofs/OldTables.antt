@@ -1,4 +1,5 @@
--- A proof that destroying a table removes its rows from the realm, clears its page, and leaves other realms unchanged.
+-- A proof that destroying a table removes its rows from the realm, clears its granule, and leaves other realms
+-- unchanged.
 use Rattle.std.proofs.Common.{◌≡◌, ◌≢◌, ℕ, ◌+◌, ◌-◌, ◌<◌, ◌≤◌, Bool, true, false, List, [], length, set, Some, None, refl, sym, ap, subst, ◌∙◌, arith}
 use Rattle.std.specs.Prelude.{IsTrue, ◌↔◌}
 use Rattle.std.proofs.lemmas.List.{length-set, get_or-set_same, get_or-set_other}
@@ -32,7 +33,7 @@ use Rattle.rtt.proofs.Destroys.{its_place, destroyed_rows, destroyed_granules, d
 use Rattle.rtt.proofs.Walks.{table_at-below}
 use Rattle.rtt.proofs.Written.{IsExact, same_entry, same_exact, entry_written, exact_written, word_as}
 
--- a table is unused exactly if `answer` is true, which says that its entries are all UNASSIGNED
+-- if `answer` is true exactly when a table's entries are all UNASSIGNED, then `answer` says whether the table is unused
 pub is_unused : (pages : List (List ℕ)) (root : Root) (level wanted ended ipa table granule : ℕ) (entry : Row) (answer : Bool) → wanted + 1 ≡ level → is_table_place ipa level ≡ true
     → IsInside root.width ended ipa → ended ≡ wanted → table_at (entries_of pages) root ended ipa ≡ Some table → entry ≡ entries_of pages table (entry_index ended ipa) → Some granule ≡ table_of entry
     → (IsTrue answer ↔ ((index : ℕ) → 0 ≤ index → index < 512 → is_unassigned (entries_of pages granule index) ≡ true))
@@ -101,7 +102,7 @@ module _ (pages mid : List (List ℕ)) (flags : List Bool) (sized : IsSized mid 
   deep : IsInside root.width level ipa
   deep = level_inside level above ipa next place root.width inside.below
 
-  -- the table above is in another granule
+  -- the table above the destroyed table is in a different granule
   above_apart : table ≢ granule
   above_apart same =
       let both = tables.own.tables_once above ipa level ipa granule inside deep (at ∙ ap (λ (k : ℕ). Some k) same) its in

@@ -14,8 +14,8 @@ use Rattle.rtt.proofs.Owned.{Moves, apart_realms}
 of_one_realm : (granules : List Granule) (rd other granule : ℕ) (state : GranuleState) → other ≢ rd → IsIn granules granule InRtt (Some rd) → IsIn granules granule state (Some other) → ⊥
 of_one_realm granules rd other granule state apart its others = apart_realms granules granule granule state InRtt other rd others its apart (λ i. granule)
 
--- other realms are left alone if one granule moves that is of no other realm, and pages change only there and in the
--- realm's RTT granules
+-- if a call changes only the granule `moved`, which belonged to no other realm, and the bytes of RTT granules of `rd`,
+-- other realms are left alone
 pub others_left : (pages new_pages : List (List ℕ)) (granules new_granules : List Granule) (rd moved : ℕ) (state new_state : GranuleState) (realm new_realm : Option ℕ)
     → IsIn granules moved state realm → ((other : ℕ) → other ≢ rd → realm ≢ Some other) → Moves granules new_granules moved new_state new_realm
     → ((granule : ℕ) → granule ≢ moved → ¬ (IsIn granules granule InRtt (Some rd)) → page_at new_pages granule ≡ page_at pages granule)
@@ -29,7 +29,7 @@ others_left pages new_pages granules new_granules rd moved state new_state realm
       «data» = λ granule is. moves.others granule _ _ (beside granule _ is) is;
     }
 
--- other realms are left alone if no granule moves, and only pages of the realm's RTT granules change
+-- if a call changes only the bytes of RTT granules of `rd`, other realms are left alone
 pub others_kept : (pages new_pages : List (List ℕ)) (granules : List Granule) (rd : ℕ)
     → ((granule : ℕ) → ¬ (IsIn granules granule InRtt (Some rd)) → page_at new_pages granule ≡ page_at pages granule)
     → LeavesOthers rd pages granules new_pages granules

@@ -73,7 +73,8 @@ none_of_data entries (Some child) index h = data_of-unassigned (entries child in
 
 module _ (entries new : Entries) (granules : List Granule) (rd : ℕ) (root : Root) (level ipa table : ℕ) (entry : Row)
     (own : HasGranules entries granules rd root) (w : Writes entries new root level ipa table entry) where
-  -- a page of data afterwards is new, or was there
+  -- after the write, the page of data for an IPA granule is the one that the written entry leads to, or the same as
+  -- before
   data_cases : (l i page : ℕ) → IsInside root.width l i → data_at new root l i ≡ Some page
       → ((data_of entry ≡ Some page) × (l ≡ level) × (i / covered_count level ≡ ipa / covered_count level))
       ⊎ ((data_at entries root l i ≡ Some page) × (l ≡ level → i / covered_count level ≢ ipa / covered_count level))

@@ -1,4 +1,4 @@
--- Lemmas on the arithmetic of IPA granules: the entry of each level that covers an IPA granule, and the table of that
+-- Lemmas on the arithmetic of IPA granules: the entry that covers an IPA granule at each level, and the table of that
 -- entry.
 use Rattle.std.proofs.Common.{◌≡◌, ◌≢◌, ℕ, zero, suc, ◌+◌, ◌*◌, ◌/◌, ◌%◌, ◌<◌, ◌≤◌, Bool, true, false, ◌&&◌, eqb, Option, Some, None, ◌⊎◌, inl, inr, ⊎_elim, refl, sym, ap, ◌∙◌, arith, lit≤}
 use Rattle.std.specs.Prelude.{◌==◌}
@@ -22,15 +22,16 @@ option_cases (Some x) = inr (x, refl)
 pub index_below : (level ipa : ℕ) → entry_index level ipa < 512
 index_below level ipa = let q = ipa / covered_count level in let h : q % 512 < 512 = omega arith in h
 
--- IPA granules under one entry are under one table, at one index
+-- if one entry covers two IPA granules, one table covers both
 pub table_of_entry : (level ipa other : ℕ) → ipa / covered_count level ≡ other / covered_count level → ipa / served_count level ≡ other / served_count level
 table_of_entry level ipa other e =
     sym (div-div-eq-div-mul ipa (covered_count level) 512) ∙ ap (λ (q : ℕ). q / 512) e ∙ div-div-eq-div-mul other (covered_count level) 512
 
+-- if one entry covers two IPA granules, both have the same index in the table
 pub index_of_entry : (level ipa other : ℕ) → ipa / covered_count level ≡ other / covered_count level → entry_index level ipa ≡ entry_index level other
 index_of_entry level ipa other e = ap (λ (q : ℕ). q % 512) e
 
--- IPA granules under one table, at one index, are under one entry
+-- if one table covers two IPA granules, and both have the same index in the table, one entry covers both
 pub entry_of_index : (level ipa other : ℕ) → ipa / served_count level ≡ other / served_count level → entry_index level ipa ≡ entry_index level other
     → ipa / covered_count level ≡ other / covered_count level
 entry_of_index level ipa other t i =
@@ -40,7 +41,7 @@ entry_of_index level ipa other t i =
     div-div-eq-div-mul ipa (covered_count level) 512 ∙ t ∙ sym (div-div-eq-div-mul other (covered_count level) 512) in
     omega arith
 
--- a table of the next level serves what an entry covers
+-- a table of the next level covers as many IPA granules as an entry of this level
 pub served_below : (level : ℕ) → 1 ≤ level → level < 3 → served_count (suc level) ≡ covered_count level
 served_below zero low high = absurd (omega arith)
 served_below (suc zero) low high = refl
@@ -72,7 +73,7 @@ is_place_from width level ipa inside first =
     (lt-ltb ipa (served_space width) inside.below))
     (eq-eqb (first_covered level ipa) ipa first)
 
--- the first IPA granule that an entry covers is a place, under that entry
+-- the entry that covers an IPA granule also covers `first_covered` of that IPA granule
 pub first_covers : (level ipa : ℕ) → first_covered level ipa / covered_count level ≡ ipa / covered_count level
 first_covers level ipa = mul-div_cancel (ipa / covered_count level) (covered_pos level)
 
@@ -88,7 +89,8 @@ first_inside width level ipa inside =
 pub first_is_place : (width level ipa : ℕ) → IsInside width level ipa → is_place width level (first_covered level ipa) ≡ true
 first_is_place width level ipa inside = is_place_from width level (first_covered level ipa) (first_inside width level ipa inside) (first_first level ipa)
 
--- a place under an entry of its level is the first IPA granule of that entry
+-- if the entry of a level that covers `ipa` also covers the place `other` of that level, `other` is the first IPA
+-- granule of that entry
 pub place_is_first : (level ipa other : ℕ) → first_covered level other ≡ other → other / covered_count level ≡ ipa / covered_count level → other ≡ first_covered level ipa
 place_is_first level ipa other first same = sym first ∙ ap (λ (q : ℕ). q * covered_count level) same
 
@@ -119,7 +121,7 @@ pub under_false : (wanted level ipa other_level other : ℕ) → (other_level �
     → is_under wanted level ipa other_level other ≡ false
 under_false wanted level ipa other_level other n = ⊎_elim (λ u. absurd (n u.1 u.2)) (λ u. u.0) (under_cases wanted level ipa other_level other)
 
--- the places under an entry are the 512 of the table below it
+-- for each index below 512, the table below an entry has a place with that index, and the place is under the entry
 pub below_is_place : (width level ipa index : ℕ) → IsInside width level ipa → level < 3 → index < 512
     → ((first_covered level ipa + index * covered_count (suc level)) / covered_count level ≡ ipa / covered_count level)
     × (is_place width (suc level) (first_covered level ipa + index * covered_count (suc level)) ≡ true)

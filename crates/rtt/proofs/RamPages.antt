@@ -1,5 +1,5 @@
--- A proof that setting the RIPAS of several pages of one table to RAM changes only the rows of these pages, and leaves
--- other realms unchanged.
+-- A proof that setting the RIPAS of several IPA granules of one table to RAM changes only the rows of these IPA
+-- granules, and leaves other realms unchanged.
 use Rattle.std.proofs.Common.{◌≡◌, ◌≢◌, ℕ, ◌+◌, ◌-◌, ◌/◌, ◌%◌, ◌<◌, ◌≤◌, Bool, true, false, List, ◌⊎◌, Some, None, refl, sym, ap, subst, ◌∙◌, arith}
 use Rattle.std.specs.Prelude.{IsTrue, ◌↔◌}
 use Rattle.std.proofs.lemmas.Bool.{and_parts, leb-true, eqb-true}
@@ -34,7 +34,8 @@ fits_table ipa level first count last first_is run =
     let one_table : ipa / 512 ≡ (ipa + count - 1) / 512 = eqb-true (ipa / 512) ((ipa + count - 1) / 512) parts.1 in
     omega (arith, start, some, one_table)
 
--- the rows of a run of pages are all UNASSIGNED exactly if `answer` is true, which says that of their entries
+-- if `answer` is true exactly when the entries of a run of pages are all UNASSIGNED, then `answer` says whether the
+-- rows of the pages are all UNASSIGNED
 pub pages_unused : (pages : List (List ℕ)) (root : Root) (level ipa table first count : ℕ) (answer : Bool) → IsInside root.width level ipa → level ≡ 3
     → table_at (entries_of pages) root level ipa ≡ Some table
     → first ≡ entry_index level ipa → first + count ≤ 512

@@ -1,4 +1,4 @@
--- Proofs that the rows of a table of level 3 change as specified when the RIPAS of several of its pages becomes RAM.
+-- Proofs that the rows of a table of level 3 change as specified when the RIPAS of several IPA granules becomes RAM.
 use Rattle.std.proofs.Common.{◌≡◌, ℕ, ◌+◌, ◌-◌, ◌*◌, ◌/◌, ◌%◌, ◌<◌, ◌≤◌, true, false, List, Option, Some, None, ◌⊎◌, inl, inr, refl, sym, ap, ◌∙◌, arith, lit≤}
 use Rattle.std.specs.Prelude.{option_and_then}
 use Rattle.std.specs.FinMap.{get}
@@ -132,7 +132,7 @@ module _ (entries : Entries) (root : Root) (ipa table count : ℕ) (below : ipa 
             → row_in new root l i ≡ get (put_rows as_ram rows 3 ipa count) (l, i)
         beside l i out same = same ∙ sym (get-put_rows_beside as_ram rows 3 ipa count (l, i) out ∙ get-rows_in entries root l i)
 
-        -- entry `start + k` of the table is at the place of page k
+        -- a place whose entry is entry `start + k` of the table is the place of page k
         its_place : (l i t k : ℕ) → IsInside root.width l i → first_covered l i ≡ i → table_at entries root l i ≡ Some t → t ≡ table → k < count
             → entry_index l i ≡ start + k → ◌≡◌ {A = ℕ × ℕ} (l, i) (3, ipa + k * covered_count 3)
         its_place l i t k inside first is same few index =

@@ -27,7 +27,8 @@ use Rattle.rtt.proofs.StartTables.{get_or-set_each_inside, get_or-set_each_besid
 use Rattle.rtt.proofs.Walks.{start_in}
 use Rattle.rtt.proofs.Written.{IsExact, entry_read, exact_read}
 
--- no row of the starting tables leads to a table exactly if `answer` is true, which says that of their entries
+-- if `answer` is true exactly when no entry of the starting tables is a TABLE entry, `answer` is the opposite of
+-- `has_root_table`
 pub no_table_below : (pages : List (List ℕ)) (root : Root) (answer : Bool)
     → (IsTrue answer ↔ ((number index : ℕ) → number < start_count root.width → index < 512 → is_table (entries_of pages (root.first + number) index) ≡ false))
     → answer ≡ not (has_root_table root.width (rows pages root))
@@ -52,7 +53,7 @@ module _ (pages new_pages : List (List ℕ)) (flags : List Bool) (granules new_g
   fits : root.first + start_count root.width ≤ length granules
   fits = starts_fit root (length granules) (λ number few. (was number few).inside)
 
-  -- a granule is that of a starting table, or is below or above all of them
+  -- a granule is a starting table, or is below the first starting table, or is above the last starting table
   start_cases : (granule : ℕ) → ((number : ℕ) × (number < start_count root.width) × (granule ≡ root.first + number)) ⊎ ((granule < root.first) ⊎ (root.first + start_count root.width ≤ granule))
   start_cases granule =
       elim (cases_lt granule root.first) [
@@ -94,7 +95,7 @@ module _ (pages new_pages : List (List ℕ)) (flags : List Bool) (granules new_g
   pub all_moved : (number : ℕ) → number < start_count root.width → IsIn new_granules (root.first + number) to new_realm
   all_moved number few = let count = granule_count in let lies = (was number few).inside in record { inside = omega arith; is = granule_moved number few }
 
-  -- a granule that is not of the state and realm that the starting tables had keeps its page, its state and its realm
+  -- a granule keeps its bytes, its state and its realm unless it had the state and the realm of the starting tables
   granule_stays : (granule : ℕ) (state : GranuleState) (its : Option ℕ) → (IsIn granules granule from realm → ⊥) → IsIn granules granule state its
       → (page_at new_pages granule ≡ page_at pages granule) × IsIn new_granules granule state its
   granule_stays granule state its apart is =

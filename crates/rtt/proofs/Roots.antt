@@ -1,5 +1,5 @@
--- Proofs about starting tables: the rows and granules of a new realm, which has no other tables, and whether any
--- starting table has a TABLE entry.
+-- Proofs that a realm with starting tables alone has these tables' rows and granules, and that `has_root_table` says
+-- whether a starting table has a TABLE entry.
 use Rattle.std.proofs.Common.{◌≡◌, ◌≢◌, ℕ, zero, suc, ◌+◌, ◌*◌, ◌/◌, ◌%◌, ◌<◌, ◌≤◌, Bool, true, false, not, List, Some, None, inl, inr, refl, sym, ap, subst, ◌∙◌, arith, lit≤}
 use Rattle.std.specs.Prelude.{option_and_then}
 use Rattle.std.specs.FinMap.{get, empty, get-empty}

@@ -1,5 +1,5 @@
--- Lemmas on consecutive rows of a level: writing them leaves all other rows unchanged, and all of them pass a test
--- exactly if each one does.
+-- Lemmas on consecutive rows of a level: writing them leaves all other rows unchanged, and `all_rows` holds of them
+-- exactly if each one passes the test.
 use Rattle.std.proofs.Common.{◌≡◌, ℕ, zero, suc, ◌+◌, ◌*◌, ◌<◌, Bool, true, false, cond, ◌&&◌, Option, Some, None, ⊎_elim, refl, sym, ap, ◌∙◌, arith}
 use Rattle.std.specs.FinMap.{get, insert, get-insert}
 use Rattle.std.proofs.lemmas.Bool.{and_from}
@@ -13,7 +13,7 @@ use Rattle.rtt.proofs.FiniteRowsLaws.{place_tells}
 pub get-insert_row : (rows : Rows) (place q : ℕ × ℕ) (row : Row) → get (insert rows place row) q ≡ cond (is_at q place) (Some row) (get rows q)
 get-insert_row rows place q row = get-insert place_total rows place row q
 
--- rows at other places are unchanged
+-- changing `n` rows of a level from `first` on leaves the rows at all other places unchanged
 pub get-put_rows_beside : (change : Option Row → Row) (rows : Rows) (level first n : ℕ) (q : ℕ × ℕ)
     → ((k : ℕ) → k < n → q ≡ (level, first + k * covered_count level) → ⊥) → get (put_rows change rows level first n) q ≡ get rows q
 get-put_rows_beside change rows level first n q out =
@@ -23,13 +23,13 @@ get-put_rows_beside change rows level first n q out =
 
 module _ (test : Row → Bool) (rows : Rows) (level first n : ℕ) (row : ℕ → Row)
     (are : (k : ℕ) → k < n → get rows (level, first + k * covered_count level) ≡ Some (row k)) where
-  -- each row passes if all do
+  -- if `all_rows` holds of `n` rows, each of these rows passes the test
   pub all_rows_each : all_rows test rows level first n ≡ true → (k : ℕ) → k < n → test (row k) ≡ true
   all_rows_each all k lt =
       let found = all_rows_at test rows level first n k all lt in
       ap test (same_Some _ _ (sym (are k lt) ∙ found.1)) ∙ found.2
 
-  -- all rows pass if each does
+  -- if each of `n` rows passes the test, `all_rows` holds of these rows
   pub all_rows_true : ((k : ℕ) → k < n → test (row k) ≡ true) → all_rows test rows level first n ≡ true
   unfolding all_rows
   all_rows_true each = first_ones n (λ k lt. lt)
@@ -40,7 +40,7 @@ module _ (test : Row → Bool) (rows : Rows) (level first n : ℕ) (row : ℕ �
           let lt : m < n = few m (omega arith) in
           and_from _ _ (ap (λ o. elim o [ Some row ↦ test row | None ↦ false ]) (are m lt) ∙ each m lt) (first_ones m (λ k h. few k (omega arith)))
 
-  -- if not all rows pass, there is one that does not
+  -- if `all_rows` does not hold of `n` rows, some row among them fails the test
   pub all_rows_fails : all_rows test rows level first n ≡ false → (k : ℕ) × (k < n) × (test (row k) ≡ false)
   unfolding all_rows
   all_rows_fails fails = first_ones n (λ k lt. lt) fails

@@ -31,7 +31,7 @@ module _ (pages : List (List ℕ)) (root : Root) where
   found level ipa row inside at =
       in_some (entries_of pages) (entry_index level ipa) (table_at (entries_of pages) root level ipa) row (sym (row_at-rows_in (entries_of pages) root level ipa inside) ∙ at)
 
-  -- the table that serves an IPA granule by the rows serves it by the entries too
+  -- if the rows lead to a table that serves an IPA granule, the entries lead to the same table
   table_found : (level ipa table : ℕ) → IsInside root.width level ipa → table_by (rows pages root) root level ipa ≡ Some table → table_at (entries_of pages) root level ipa ≡ Some table
   table_found zero ipa table inside at = let low = inside.least in absurd (omega arith)
   table_found (suc zero) ipa table inside at = table_at-root (entries_of pages) root ipa ∙ at

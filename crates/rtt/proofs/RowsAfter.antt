@@ -33,7 +33,8 @@ own_place level ipa l i first =
 
 module _ (entries new : Entries) (granules : List Granule) (rd : ℕ) (root : Root) (level ipa table : ℕ) (entry : Row)
     (own : HasGranules entries granules rd root) (w : Writes entries new root level ipa table entry) where
-  -- The rows afterwards: the one written, those of the table below it, and all others as they were.
+  -- After the write, the written entry is at its own place, the rows under it are those of the table below it, and all
+  -- others are as they were.
   pub row_in-written : (l i : ℕ) → row_in new root l i ≡ cond (is_at (l, i) (level, first_covered level ipa)) (Some entry)
       (cond (is_under (suc level) level ipa l i) (cond (is_place root.width l i) (option_and_then (λ t. Some (new t (entry_index l i))) (table_of entry)) None) (row_in entries root l i))
   row_in-written l i =

@@ -62,7 +62,8 @@ walk_here entries root zero ipa table inside at = let low : 1 ≤ 0 = inside.lea
 walk_here entries root (suc level) ipa table inside at =
     step_walk (rows_in entries root) ipa level _ (row_at-rows_in entries root (suc level) ipa inside ∙ entry_at-some entries root (suc level) ipa table at)
 
--- A walk towards a level ends there, or at an entry that leads to no table.
+-- A walk towards level `wanted` ends at an entry for the IPA granule if that entry is of level `wanted`, or is above
+-- that level and leads to no table.
 pub walk_ends : (entries : Entries) (root : Root) (level wanted ipa table : ℕ) → IsInside root.width level ipa → level ≤ wanted → wanted ≤ 3 → table_at entries root level ipa ≡ Some table
     → (level ≡ wanted) ⊎ (table_of (entries table (entry_index level ipa)) ≡ None)
     → walk (rows_in entries root) ipa wanted ≡ Some (record { level = level; row = entries table (entry_index level ipa) })

@@ -1,5 +1,5 @@
--- Lemmas on list elements that are all set to one value, and on a realm's starting tables by number: their granules,
--- and the IPA granules that each serves.
+-- Lemmas on setting consecutive elements of a list to one value, and on starting tables: the granule of each, and the
+-- IPA granules that it serves.
 use Rattle.std.proofs.Common.{◌≡◌, ◌≢◌, ℕ, zero, suc, ◌+◌, ◌-◌, ◌*◌, ◌<◌, ◌≤◌, List, length, set, get_or, ◌⊎◌, inl, inr, ⊎_elim, refl, sym, ap, subst, ◌∙◌, arith}
 use Rattle.std.specs.List.{All, range_with_len}
 use Rattle.std.proofs.lemmas.List.{length-set, get_or-set_same, get_or-set_other}
@@ -14,7 +14,7 @@ use Rattle.realm_model.specs.StepLaw.{set_each}
 -- ---- a list with one element at each place of a run
 
 module _ {X : Type 0} (x : X) where
-  -- setting the elements of a run of n + 1 is setting those of the run of n, and then the last one
+  -- setting a run of `n + 1` elements gives the same list as setting the first `n` of them and then the last
   pub set_each-range_more : (first n : ℕ) (xs : List X) → set_each x (range_with_len first (suc n)) xs ≡ set (set_each x (range_with_len first n) xs) (first + n) x
   unfolding set_each
   set_each-range_more first zero xs = let same : first ≡ first + 0 = omega arith in ap (λ (k : ℕ). set xs k x) same
@@ -53,7 +53,7 @@ start_is P root all number few =
     subst P (get_or-range_with_len root.first (start_count root.width) number 0 few)
     (all number 0 (subst (λ (n : ℕ). number < n) (sym (length-range_with_len root.first (start_count root.width))) few))
 
--- all starting tables are inside the machine if each is
+-- if the granule of each starting table is below `n`, the number just past the last of these granules is at most `n`
 pub starts_fit : (root : Root) (n : ℕ) → ((number : ℕ) → number < start_count root.width → root.first + number < n) → root.first + start_count root.width ≤ n
 starts_fit root n each =
     let some : 0 < start_count root.width = pow_pos (root.width - 39) in

@@ -1,4 +1,4 @@
--- Lemmas on the table of each level that serves an IPA granule, and on the entry and the page of data for that IPA
+-- Lemmas on the table that serves an IPA granule at each level, and on the entry and the page of data for that IPA
 -- granule.
 use Rattle.std.proofs.Common.{◌≡◌, ℕ, zero, suc, ◌+◌, ◌/◌, ◌≤◌, Option, Some, None, inl, inr, refl, sym, ap, ◌∙◌, arith}
 use Rattle.std.specs.Prelude.{option_and_then}
@@ -26,7 +26,7 @@ pub table_at-next : (entries : Entries) (root : Root) (level ipa table : ℕ) �
 table_at-next entries root level ipa table low at =
     table_at-suc entries root level ipa low ∙ ap (option_and_then (λ table. table_of (entries table (entry_index level ipa)))) at
 
--- IPA granules that a table serves have the same tables down to that one
+-- two IPA granules that one table of a level can cover have the same table at that level, or both have none
 pub table_at-same : (entries : Entries) (root : Root) (level ipa other : ℕ) → level ≤ 3 → ipa / served_count level ≡ other / served_count level
     → table_at entries root level ipa ≡ table_at entries root level other
 unfolding table_at
@@ -39,7 +39,7 @@ table_at-same entries root (suc (suc level)) ipa other high e =
     (table_at-same entries root (suc level) ipa other (omega arith) (table_of_entry (suc level) ipa other same))
     ∙ ap (λ (i : ℕ). option_and_then (λ table. table_of (entries table i)) (table_at entries root (suc level) other)) (index_of_entry (suc level) ipa other same)
 
--- IPA granules under one entry have the same entry
+-- two IPA granules with the same place at a level have the same entry at that level, or both have none
 pub entry_at-same : (entries : Entries) (root : Root) (level ipa other : ℕ) → level ≤ 3 → ipa / covered_count level ≡ other / covered_count level
     → entry_at entries root level ipa ≡ entry_at entries root level other
 entry_at-same entries root level ipa other high e =

@@ -1,5 +1,5 @@
--- Proofs that each step of an RTT walk in pages leads to a granule of the realm, and that the walk over the realm's
--- rows ends at the same entry.
+-- Proofs that an RTT walk comes only to granules of the realm, and that the walk over the realm's rows ends at the same
+-- entry.
 use Rattle.std.proofs.Common.{◌≡◌, ℕ, ◌+◌, ◌*◌, ◌<◌, ◌≤◌, List, length, Some, None, ◌⊎◌, ⊎_elim, inl, inr, refl, sym, ap, ◌∙◌, arith, add-one}
 use Rattle.std.specs.Prelude.{option_and_then}
 use Rattle.granule_addr.specs.Ipa.{entry_index, served_count}
@@ -51,7 +51,7 @@ start_in pages granules rd root tables number few =
 pub starts_inside : (pages : List (List ℕ)) (granules : List Granule) (rd : ℕ) (root : Root) → HasTables pages granules rd root → root.first + start_count root.width ≤ length granules
 starts_inside pages granules rd root tables = starts_fit root (length granules) (λ number few. (start_in pages granules rd root tables number few).inside)
 
--- the granule that an entry leads to is the realm's: an RTT granule for a table, a DATA granule for a page
+-- the table that an entry leads to is an RTT granule of the realm
 pub child_in : (pages : List (List ℕ)) (granules : List Granule) (rd : ℕ) (root : Root) (level ipa table child : ℕ) (entry : Row) → HasTables pages granules rd root
     → IsInside root.width level ipa → level < 3 → table_at (entries_of pages) root level ipa ≡ Some table → entry ≡ entries_of pages table (entry_index level ipa) → table_of entry ≡ Some child
     → IsIn granules child InRtt (Some rd)
@@ -60,14 +60,15 @@ child_in pages granules rd root level ipa table child entry tables inside high a
     tables.own.tables (level + 1) ipa child (record { least = omega arith; most = omega arith; below = inside.below })
     (table_at-below (entries_of pages) root level (level + 1) ipa table child entry low refl at is (sym leads))
 
+-- the page of data that an entry leads to is a DATA granule of the realm
 pub page_in : (pages : List (List ℕ)) (granules : List Granule) (rd : ℕ) (root : Root) (level ipa table page : ℕ) (entry : Row) → HasTables pages granules rd root
     → IsInside root.width level ipa → table_at (entries_of pages) root level ipa ≡ Some table → entry ≡ entries_of pages table (entry_index level ipa) → data_of entry ≡ Some page
     → IsIn granules page InData (Some rd)
 page_in pages granules rd root level ipa table page entry tables inside at is leads =
     tables.own.«data» level ipa page inside (ap (option_and_then (λ t. data_of (entries_of pages t (entry_index level ipa)))) at ∙ ap data_of (sym is) ∙ leads)
 
--- a walk over the rows ends at the entry for the IPA granule that is of level `wanted`, or is above it and leads to no
--- table
+-- a walk over the rows ends at an entry for the IPA granule if that entry is of level `wanted`, or is above that level
+-- and leads to no table
 pub walk_found : (pages : List (List ℕ)) (root : Root) (level wanted ipa table : ℕ) (entry : Row) → IsInside root.width level ipa → level ≤ wanted → wanted ≤ 3
     → table_at (entries_of pages) root level ipa ≡ Some table → entry ≡ entries_of pages table (entry_index level ipa) → (level ≡ wanted) ⊎ (table_of entry ≡ None)
     → walk (rows pages root) ipa wanted ≡ Some (record { level = level; row = entry })

@@ -58,11 +58,12 @@ small Table ripas (Some granule) is = let few = ripas_small ripas in let below :
 pub entry_word_fits : (row : Row) → IsEntry row → entry_word row < 2 ^ 64
 entry_word_fits row is = small row.state row.ripas row.granule is
 
--- each word is decoded to an entry
+-- `decoded` gives an entry for each kind, each RIPAS and each granule below 4,096
 said_is : (state : EntryState) (ripas : Ripas) (granule : ℕ) → granule < 4096 → IsEntry (decoded state ripas granule)
 said_is Unassigned ripas granule below = refl
 said_is Assigned ripas granule below = below
 said_is Table ripas granule below = (below, refl)
 
+-- each word is decoded to an entry
 pub IsEntry-entry_of : (word : ℕ) → IsEntry (entry_of word)
 IsEntry-entry_of word = said_is (kind_of (word % 4)) (ripas_of (word / 4 % 4)) (word / 4096 % 4096) (omega arith)

@@ -46,7 +46,8 @@ module _ (entries new : Entries) (granules : List Granule) (rd : ℕ) (root : Ro
   pub table_there : (other : ℕ) → other / covered_count level ≡ ipa / covered_count level → table_at entries root level other ≡ Some table
   table_there other same = table_at-same entries root level other ipa w.inside.most (table_of_entry level other ipa same) ∙ w.at
 
-  -- an entry in the table and at the index of the written one is of its level, and covers the same IPA granules
+  -- an entry with the table and the index of the written entry has the level of that entry, and covers the same IPA
+  -- granules
   pub same_entry : (other_level other other_table : ℕ) → IsInside root.width other_level other → table_at entries root other_level other ≡ Some other_table
       → other_table ≡ table → entry_index other_level other ≡ entry_index level ipa
       → (other_level ≡ level) × (other / covered_count level ≡ ipa / covered_count level)
@@ -118,7 +119,8 @@ module _ (entries new : Entries) (granules : List Granule) (rd : ℕ) (root : Ro
             ]
       ]
 
-  -- The tables afterwards: the one below the entry, and all others as they were.
+  -- After the write, the table under the entry is the one that the written entry leads to, and all other tables are as
+  -- they were.
   pub table_at-written : (other_level other : ℕ) → IsInside root.width other_level other
       → table_at new root other_level other ≡ cond (is_under (suc level) level ipa other_level other) (table_of entry) (table_at entries root other_level other)
   unfolding table_at
@@ -132,7 +134,8 @@ module _ (entries new : Entries) (granules : List Granule) (rd : ℕ) (root : Ro
       written (suc (suc l)) low high =
           step (suc l) other (record { least = omega arith; most = omega arith; below = inside.below }) (omega arith) (written (suc l) (omega arith) (omega arith))
 
-  -- a table afterwards is new, or was there
+  -- after the write, a table that serves an IPA granule is the one that the written entry leads to, or the same as
+  -- before
   pub table_cases : (l i t : ℕ) → IsInside root.width l i → table_at new root l i ≡ Some t
       → ((table_of entry ≡ Some t) × (l ≡ suc level) × (i / covered_count level ≡ ipa / covered_count level))
       ⊎ ((table_at entries root l i ≡ Some t) × (l ≡ suc level → i / covered_count level ≢ ipa / covered_count level))
@@ -161,7 +164,8 @@ module _ (entries new : Entries) (granules : List Granule) (rd : ℕ) (root : Ro
     ]
   ]
 
-  -- The entries afterwards: the one written, those of the table below it, and all others as they were.
+  -- After the write, the written entry is at its own place, the entries under it are those of the table below it, and
+  -- all others are as they were.
   pub entry_at-written : (other_level other : ℕ) → IsInside root.width other_level other
       → entry_at new root other_level other ≡ cond (is_under level level ipa other_level other) (Some entry)
       (cond (is_under (suc level) level ipa other_level other) (option_and_then (λ t. Some (new t (entry_index other_level other))) (table_of entry)) (entry_at entries root other_level other))

@@ -1,5 +1,4 @@
--- Proofs that an entry that is written to the page of a table is read back from it, and that all other words stay the
--- same.
+-- Proofs that an entry written to a table's page is read back, and that all other words stay the same.
 use Rattle.std.proofs.Common.{◌≡◌, ◌≢◌, ℕ, ◌+◌, ◌<◌, ◌≤◌, Bool, List, length, ◌⊎◌, ⊎_elim, inl, inr, sym, ap, subst, ◌∙◌, arith}
 use Rattle.std.proofs.lemmas.Bool.{cases_eq, cases_lt}
 use Rattle.page_arena.specs.Page.{page_at, IsSized}
@@ -23,11 +22,12 @@ IsEntry-entries_of pages granule index = IsEntry-entry_of (word_at pages granule
 pub IsEntry-read : {entry : Row} (pages : List (List ℕ)) (granule index : ℕ) → entry ≡ entries_of pages granule index → IsEntry entry
 IsEntry-read pages granule index is = subst IsEntry (sym is) (IsEntry-entries_of pages granule index)
 
--- the word of an entry is decoded to the entry, and is exact
+-- if a word encodes an entry, the word is decoded to that entry
 pub entry_read : (pages : List (List ℕ)) (granule index : ℕ) (row : Row) → IsEntry row → word_at pages granule index ≡ entry_word row → entries_of pages granule index ≡ row
 unfolding entries_of
 entry_read pages granule index row is word = ap entry_of word ∙ entry_of-entry_word row is
 
+-- if a word encodes an entry, the word is exact
 pub exact_read : (pages : List (List ℕ)) (granule index : ℕ) (row : Row) → IsEntry row → word_at pages granule index ≡ entry_word row → IsExact pages granule index
 exact_read pages granule index row is word = word ∙ sym (ap entry_word (entry_read pages granule index row is word))
 
@@ -64,7 +64,8 @@ module _ (pages : List (List ℕ)) (flags : List Bool) (sized : IsSized pages fl
       word_at-with_word_other pages table index (entry_word row) within whole few granule other
       (⊎_elim (λ same. inr (λ at. apart (same, at))) (λ ne. inl ne) (cases_eq granule table)) lt
 
-  -- each word other than the written one is the word in `before`, if its page was equal to the page there
+  -- if a granule had the same bytes as in `before`, each of its words after the write is the word in `before`, except
+  -- the written word
   pub word_as : (before : List (List ℕ)) (granule other : ℕ) → page_at pages granule ≡ page_at before granule → other < 512 → ((granule ≡ table) × (other ≡ index) → ⊥)
       → word_at new_pages granule other ≡ word_at before granule other
   word_as before granule other same lt apart = word_kept granule other lt apart ∙ ap (λ (page : List ℕ). word_of_page page other) same

@@ -23,7 +23,7 @@ LeadsTo rows level ipa granule = (row : Row) × (row_at rows level ipa ≡ Some 
 
 -- ---- the invariants of a call
 
--- The invariants that each call keeps outside its realm's tables. There is a granule for each page, and those that
+-- A call keeps the invariants of what lies outside its realm's tables. There is a granule for each page, and those that
 -- are not UNDELEGATED have taken pages. The same pages are free, and all other realms are left alone.
 pub record KeepsRest (rd : ℕ) (pages : List (List ℕ)) (free : List Bool) (granules : List Granule)
     (new_pages : List (List ℕ)) (new_free : List Bool) (new_granules : List Granule) : Type 0 where
@@ -31,18 +31,19 @@ pub record KeepsRest (rd : ℕ) (pages : List (List ℕ)) (free : List Bool) (gr
   pub flags : new_free ≡ free
   pub other_realms : LeavesOthers rd pages granules new_pages new_granules
 
--- The invariants after a call that leaves the realm with starting tables: those that every call keeps, and the
--- invariant of the realm's tables.
+-- A call keeps the invariant of the realm's tables, and the invariants of what lies outside these tables. After the
+-- call the realm has starting tables.
 pub record Keeps (rd : ℕ) (root : Root) (pages : List (List ℕ)) (free : List Bool) (granules : List Granule)
     (new_pages : List (List ℕ)) (new_free : List Bool) (new_granules : List Granule) : Type 0 where
   pub tables : HasTables new_pages new_granules rd root
   pub rest : KeepsRest rd pages free granules new_pages new_free new_granules
 
--- Each page is unchanged, except the pages of the realm's tables.
+-- The bytes of each granule are unchanged, except those of the realm's tables.
 abbrev pub ChangesTablesOnly : Root → List (List ℕ) → List (List ℕ) → Type 0
 ChangesTablesOnly root pages new_pages = (granule : ℕ) → ¬ (IsTableOf pages root granule) → page_at new_pages granule ≡ page_at pages granule
 
--- Each page is unchanged, except the pages of the realm's tables and the pages for which `IsOneMore` holds.
+-- The bytes of each granule are unchanged, except those of the realm's tables and of granules for which `IsOneMore`
+-- holds.
 abbrev pub ChangesTablesAnd : (ℕ → Type 0) → Root → List (List ℕ) → List (List ℕ) → Type 0
 ChangesTablesAnd IsOneMore root pages new_pages =
     (granule : ℕ) → ¬ (IsOneMore granule) → ¬ (IsTableOf pages root granule) → page_at new_pages granule ≡ page_at pages granule

@@ -12,7 +12,8 @@ undelegated = record { state = Undelegated; realm = None }
 abbrev pub granule_at : List Granule → ℕ → Granule
 granule_at granules granule = slice_index_or granules granule undelegated
 
--- the granule is inside the machine and in this state, and belongs to this realm, or to none
+-- the granule is inside the machine, has the given state, and belongs to the given realm, or to no realm if `realm` is
+-- `None`
 pub record IsIn (granules : List Granule) (granule : ℕ) (state : GranuleState) (realm : Option ℕ) : Type 0 where
   pub inside : granule < length granules
   pub is : granule_at granules granule ≡ record { state = state; realm = realm }

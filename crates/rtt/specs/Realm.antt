@@ -12,7 +12,7 @@ use Rattle.rtt.specs.Word.{entry_word}
 use Rattle.realm_model.specs.Sound.{mapping_at, IsSoundRows}
 use Rattle.rtt.specs.Tables.{Entries, entries_of, table_at, data_at, rows}
 
--- There is one granule for each page, and the page of each granule that is not UNDELEGATED is taken.
+-- The page store has one page for each granule, and the page of a granule that is not UNDELEGATED is not free.
 pub record IsBacked (pages : List (List ℕ)) (flags : List Bool) (granules : List Granule) : Type 0 where
   pub as_many : length granules ≡ length pages
   pub taken : (granule : ℕ) → granule < length granules → (granule_at granules granule).state ≢ Undelegated → is_free flags granule ≡ false
@@ -53,7 +53,7 @@ pub record IsTableOf (pages : List (List ℕ)) (root : Root) (granule : ℕ) : T
   pub inside : IsInside root.width level ipa
   pub at : table_at (entries_of pages) root level ipa ≡ Some granule
 
--- A realm's RTT granules keep their state and their pages, and its DATA granules keep their state.
+-- A realm's RTT granules stay its RTT granules with the same bytes, and its DATA granules stay its DATA granules.
 pub record LeavesAlone (rd : ℕ) (pages : List (List ℕ)) (granules : List Granule) (new_pages : List (List ℕ)) (new_granules : List Granule) : Type 0 where
   pub page : (granule : ℕ) → IsIn granules granule Rtt (Some rd) → page_at new_pages granule ≡ page_at pages granule
   pub table : (granule : ℕ) → IsIn granules granule Rtt (Some rd) → IsIn new_granules granule Rtt (Some rd)

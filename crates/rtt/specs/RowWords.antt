@@ -1,5 +1,5 @@
--- The condition that the words of translation tables encode the rows, where the tables below the starting tables are
--- those that the rows lead to. RMM 1.0, RTT entry.
+-- The condition that each word of a realm's translation tables encodes its row. The tables below the starting tables
+-- are those that the rows lead to. RMM 1.0, RTT entry.
 use Rattle.std.specs.Prelude.{◌≡◌, ℕ, ◌-◌, ◌==◌, List, Option, Some, option_and_then, if◌then◌else◌}
 use Rattle.granule_addr.specs.Ipa.{entry_index}
 use Rattle.granule_addr.specs.Root.{start_table}
@@ -10,7 +10,7 @@ use Rattle.rtt.specs.Word.{entry_word}
 use Rattle.rtt.specs.Tables.{rows}
 use Rattle.rtt.specs.Realm.{IsInside}
 
--- the table of a level that serves an IPA granule: a starting table, or the table that the row above leads to
+-- the table that serves an IPA granule at a level: a starting table, or the table that the row above leads to
 abbrev pub table_by : Rows → Root → ℕ → ℕ → Option ℕ
 table_by rows root level ipa =
     if level == 1 then Some (start_table root ipa) else option_and_then table_of (row_at rows (level - 1) ipa)

@@ -16,8 +16,8 @@ Entries = ℕ → ℕ → Row
 unfoldable pub entries_of : List (List ℕ) → Entries
 entries_of pages granule index = entry_of (word_at pages granule index)
 
--- The table of a level that serves an IPA granule. That of level 1 is a starting table, and any other is the one that
--- the entry above it leads to.
+-- The table that serves an IPA granule at a given level. At level 1 the table is a starting table; at any other level
+-- the entry above leads to the table.
 unfoldable pub table_at : Entries → Root → ℕ → ℕ → Option ℕ
 table_at entries root zero ipa = None
 table_at entries root (suc zero) ipa = Some (start_table root ipa)
@@ -32,7 +32,7 @@ entry_at entries root level ipa = option_and_then (λ table. Some (entries table
 abbrev pub data_at : Entries → Root → ℕ → ℕ → Option ℕ
 data_at entries root level ipa = option_and_then (λ table. data_of (entries table (entry_index level ipa))) (table_at entries root level ipa)
 
--- a row of a level can begin at the IPA granule, in an address space of that width
+-- a row of a level can begin at the IPA granule, in an address space of the given width
 unfoldable pub is_place : ℕ → ℕ → ℕ → Bool
 is_place width level ipa = nat_le 1 level && nat_le level 3 && nat_lt ipa (served_space width) && first_covered level ipa == ipa
 

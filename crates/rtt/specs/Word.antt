@@ -17,7 +17,7 @@ ripas_bits Empty = 0
 ripas_bits Ram = 1
 ripas_bits Destroyed = 2
 
--- the bits of a granule's address, which is its number times 4,096; 0 without a granule
+-- the bits of a granule's address, which is its number times 4,096; 0 if there is no granule
 abbrev pub address_bits : Option ℕ → ℕ
 address_bits None = 0
 address_bits (Some granule) = granule * 4096
@@ -27,8 +27,8 @@ address_bits (Some granule) = granule * 4096
 abbrev pub entry_word : Row → ℕ
 entry_word row = kind_bits row.state + ripas_bits row.ripas * 4 + address_bits row.granule
 
--- The state, the RIPAS and the granule can be encoded: there is a granule, with a number below 4,096, exactly if the
--- state is not UNASSIGNED. The RIPAS of a TABLE entry is EMPTY.
+-- An entry can be encoded: an UNASSIGNED entry has no granule, any other entry has a granule below 4,096, and a TABLE
+-- entry has RIPAS EMPTY.
 abbrev pub IsEncodable : EntryState → Ripas → Option ℕ → Type 0
 IsEncodable Unassigned ripas granule = granule ≡ None
 IsEncodable Assigned ripas None = ⊥
@@ -48,7 +48,8 @@ kind_of bits = if bits == 1 then Assigned else (if bits == 2 then Table else Una
 abbrev pub ripas_of : ℕ → Ripas
 ripas_of bits = if bits == 1 then Ram else (if bits == 2 then Destroyed else Empty)
 
--- the entry of this kind, with the given RIPAS and the given granule as far as an entry of this kind has them
+-- the entry of the given kind; an UNASSIGNED or ASSIGNED entry has the given RIPAS, and an ASSIGNED or TABLE entry the
+-- given granule
 abbrev pub decoded : EntryState → Ripas → ℕ → Row
 decoded Unassigned ripas granule = unassigned ripas
 decoded Assigned ripas granule = assigned ripas granule

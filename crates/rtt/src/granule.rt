@@ -1,4 +1,4 @@
-//! The attributes of a granule: its state, and the realm that it belongs to.
+//! The state of a granule, and the realm that the granule belongs to.
 use granule_addr::Gran;
 use realm_model::GranuleState;
 

@@ -14,14 +14,14 @@ pub fn tables_are_words()
     ensures { (pages : List (List ℕ)) (granules : List Granule) (rd : ℕ) (root : Root) → HasTables pages granules rd root → AreRowWords pages root }
 {}
 
-/// Proves that each translation table entry (row) is a valid combination of state, RIPAS and granule. An UNASSIGNED row
-/// leads to nothing, any other row leads to a granule, and a TABLE row has no RIPAS.
+/// Proves that each row of a realm's translation is a valid combination of state, RIPAS and granule. An UNASSIGNED row
+/// leads to nothing, any other row leads to a granule, and a TABLE row has RIPAS EMPTY.
 pub fn rows_are_entries()
     ensures { (pages : List (List ℕ)) (root : Root) (level ipa : ℕ) (row : Row) → row_at (rows pages root) level ipa ≡ Some row → IsEntry row }
 {}
 
-/// Proves that a realm's translation tables keep their entries if its RTT granules keep their state and bytes, and its
-/// DATA granules keep their state. The tables keep their invariant too.
+/// Proves that a realm's translation tables keep their entries if its RTT granules stay its RTT granules with the same
+/// bytes, and its DATA granules stay its DATA granules. The tables keep their invariant too.
 pub fn tables_left_alone_stay()
     ensures { (rd : ℕ) (root : Root) (pages : List (List ℕ)) (granules : List Granule) (new_pages : List (List ℕ)) (new_granules : List Granule)
         → HasTables pages granules rd root → LeavesAlone rd pages granules new_pages new_granules

@@ -1,12 +1,11 @@
--- Proofs that appending the items of the next number, level or element to those of the first n gives the items of the
--- first n + 1.
+-- Lemmas for loops that append items to a list, number by number, level by level, or element by element.
 use Rattle.std.proofs.Common.{◌≡◌, ℕ, ◌+◌, ◌-◌, ◌<◌, ◌≤◌, List, [], ◌∷◌, ◌++◌, length, take, get_or, sym, ap, ◌∙◌, subst, arith}
 use Rattle.std.specs.List.{flat_map, range_with_len, AllZip}
 use Rattle.std.proofs.lemmas.List.{flat_map_more, take_more}
 use Rattle.std.proofs.lemmas.Slice.Zip.{all_zipped_more}
 use Rattle.granule_addr.proofs.Runs.{range_with_len_more}
 
--- the items of the first `n` numbers, with those of number `n` appended, are the items of the first `n + 1`
+-- the items for the numbers below `n`, followed by the items for `n`, are those for the numbers below `n + 1`
 pub items_more :
     {A : Type 0} (f : ℕ → List A) (n : ℕ) (old mid new : List A)
     → mid ≡ old ++ flat_map f (range_with_len 0 n)
@@ -16,7 +15,8 @@ items_more f n old mid new so_far more =
     more ∙ ap (λ items. items ++ f n) so_far ∙ flat_map_more f old (range_with_len 0 n) n
     ∙ ap (λ ns. old ++ flat_map f ns) (sym (range_with_len_more 0 n n (omega arith)))
 
--- the items of the first `i` elements, with those of element `i` appended, are the items of the first `i + 1`
+-- the items for the first `i` elements, followed by those for the next element, are those for the first `i + 1`
+-- elements
 pub elements_more :
     {A B : Type 0} (f : A → List B) (xs : List A) (i : ℕ) (d x : A) (old mid new : List B)
     → i < length xs
@@ -28,7 +28,8 @@ elements_more f xs i d x old mid new below is so_far more =
     more ∙ ap (λ items. items ++ f x) so_far ∙ flat_map_more f old (take i xs) x
     ∙ ap (λ taken. old ++ flat_map f taken) (ap (λ y. take i xs ++ y ∷ []) is ∙ sym (take_more xs i d below))
 
--- the items of the first `i` elements, one each, with that of element `i` appended, are the items of the first `i + 1`
+-- if each element has one item, the items for the first `i` elements and that for the next are those for the first
+-- `i + 1`
 pub one_element_more :
     {A B : Type 0} (f : A → B) (xs : List A) (i : ℕ) (x : A) (item : B) (old mid new : List B)
     → i < length xs
@@ -52,8 +53,8 @@ levels_more f level old mid new some so_far more =
     ∙ ap (λ ns. old ++ flat_map f ns)
     (sym (range_with_len_more 1 (level - 1) level (omega arith)) ∙ ap (range_with_len 1) (let e : level - 1 + 1 ≡ level + 1 - 1 = omega arith in e))
 
--- if `R` relates the first `n` numbers to the items, and number `n` to one more item, it relates the first `n + 1`
--- numbers to all of them
+-- if `R` holds of each number below `n` and its item, and of `n` and an appended item, `R` holds for the numbers below
+-- `n + 1`
 pub each_more :
     {A : Type 0} (R : ℕ → A → Type 0) (n : ℕ) (old new : List A) (item : A)
     → AllZip R (range_with_len 0 n) old

@@ -17,7 +17,8 @@ some_of true it found is = cc
 some_of false it found is = cc
 
 module _ (world : World) (build : ℕ) where
-  -- if the IPA granule and the level of a read are equal to `ipa` and `level`, the row that was read is the row there
+  -- reading a row at an IPA granule that equals `ipa` and a level that equals `level` gives the row at `ipa` and
+  -- `level`
   pub row_read : (found : Option RowView) (read ipa asked level : ℕ) → found ≡ row_at world build read asked → read ≡ ipa → asked ≡ level → found ≡ row_at world build ipa level
   row_read found read ipa asked level is same_ipa same_level = is ∙ ap₂ (row_at world build) same_ipa same_level
 
@@ -41,7 +42,7 @@ module _ (world : World) (build : ℕ) where
 
   -- ---- the runs so far
 
-  -- the items are runs of equal rows, one after another, from one IPA granule until right before another
+  -- the items are successive runs of equal rows, which together cover the IPA granules from `from` to `to - 1`
   pub RunsTo : ℕ → List RowItem → ℕ → Type 0
   RunsTo from [] to = to ≡ from
   RunsTo from (run ∷ runs) to = (row_at world build from 3 ≡ Some run.row) × IsRowRun world build run.row run.count × RunsTo (first_after run.row run.count) runs to
@@ -61,7 +62,7 @@ module _ (world : World) (build : ℕ) where
   RunsTo-all [] from ipa lead ends = ap (λ n. row_at world build n 3) (sym lead) ∙ ends
   RunsTo-all (first ∷ runs) from ipa lead ends = (lead.0, lead.1, RunsTo-all runs (first_after first.row first.count) ipa lead.2 ends)
 
-  -- the items of all rows before an IPA granule
+  -- the items are those of all rows that begin below the IPA granule `ipa`
   pub record IsSoFar (ipa : ℕ) (items : List RowItem) : Type 0 where
     pub runs : List RowItem
     pub lead : RunsTo 0 runs ipa

@@ -1,5 +1,5 @@
--- Proofs that the list of turn items stays correct when an item is appended, and that the turns of a whole document are
--- a run of the plan.
+-- Proofs that appending a turn's item extends a run's list of turn items, and that a whole list describes a run of the
+-- plan.
 use Rattle.std.proofs.Common.{ℕ, List, [], ◌∷◌, ◌++◌, length, refl, subst, ◌≤◌, take}
 use Rattle.std.proofs.lemmas.List.{take_all}
 use Rattle.std.specs.List.{flat_map}
@@ -28,7 +28,7 @@ pub AreTurnItems-more :
 AreTurnItems-more plan order from at build to old new turns adds =
     rw adds.appended (AreTurnItems-then plan order from at build to old adds.item turns adds.is_item)
 
--- items of the first `i` turns are the items of all turns of the plan, if its schedule has no more than `i`
+-- if the plan's schedule has at most `i` turns, the items of its first `i` turns are the items of all its turns
 pub HasTurnItems-whole :
     (plan : Plan) (i : ℕ) (from : HostView) (at : Position) (items : List TurnItem)
     → length plan.order ≤ i
@@ -40,7 +40,8 @@ HasTurnItems-whole plan i from at items done turns = record {
   turns = subst (λ order. AreTurnItems plan order (start from) at items) (take_all i plan.order done) turns;
 }
 
--- if items describe turns of the given builds, the plan has such turns between the same positions
+-- if `AreTurnItems` holds of a schedule and two positions, turns of the scheduled builds lead from the first position
+-- to the second
 run_of :
     (plan : Plan) (order : List ℕ) (from to : Position) (items : List TurnItem)
     → AreTurnItems plan order from to items
@@ -52,7 +53,8 @@ run_of plan (b ∷ order) from to (item ∷ items) is =
     let rest = run_of plan order is.0 to items is.2 in
     (is.1.turn ∷ rest.0, (is.1.of_build, is.0, is.1.is_turn, rest.1))
 
--- if items describe the plan's turns, a reported run of the plan leads from the first host to the second
+-- if items describe the plan's turns from one host state to another, a reported run of the plan leads from the one to
+-- the other
 pub reported_run :
     (plan : Plan) (from to : HostView) (items : List TurnItem)
     → HasTurnItems plan from to items

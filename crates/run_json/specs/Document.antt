@@ -1,4 +1,5 @@
--- The JSON document of a plan's run: the machine's settings, the turns, and the state of the host after the last turn.
+-- The JSON document of a plan's run, with the machine's settings, the turns, and the state of the host after the last
+-- turn.
 use Rattle.std.specs.Prelude.{◌≡◌, ℕ, List, [], ◌∷◌, ◌++◌, length, option_map}
 use Rattle.host_ledger.specs.View.{HostView}
 use Rattle.realm_plan.specs.Plan.{Plan}
@@ -12,8 +13,9 @@ use Rattle.run_json.specs.declared.turn.TurnItem.{TurnItem}
 abbrev pub settings_of : Plan → MachineSettings
 settings_of plan = record { pages = plan.pages; vmids = plan.vmids; aux = plan.aux; history = plan.history; builds = length plan.builds }
 
--- The item of a turn: the build, its step with the step's index, and the host's answer. Then the event that the turn
--- added to the history, and what that changed. Last, what the host keeps of the build after the turn.
+-- The item describes a turn of the build that leads from one position to the other. The item has the build, its step
+-- with the step's index, and the host's answer. Then come the event that the turn added to the history, what that
+-- changed, and what the host keeps of the build.
 pub record IsTurnItem (plan : Plan) (from : Position) (build : ℕ) (to : Position) (item : TurnItem) : Type 0 where
   pub turn : Turn
   pub of_build : turn.build ≡ build
@@ -40,8 +42,8 @@ pub record HasTurnItems (plan : Plan) (from to : HostView) (items : List TurnIte
   pub host : end.host ≡ to
   pub turns : AreTurnItems plan plan.order (start from) end items
 
--- The document of some run of the plan from a host: the format's version, the machine's settings, the turns, and the
--- last world.
+-- The document describes some run of the plan from one host state to another, with format version, machine settings,
+-- turns and last world.
 pub record IsDocument (plan : Plan) (from to : HostView) (document : Document) : Type 0 where
   pub version_is : document.realmview ≡ 1
   pub settings_are : document.settings ≡ settings_of plan

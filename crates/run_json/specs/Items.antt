@@ -18,12 +18,12 @@ use Rattle.run_json.specs.declared.items.PageItem.{PageItem}
 use Rattle.run_json.specs.declared.kept.BuildKept.{BuildKept}
 use Rattle.run_json.specs.declared.realm.RealmItem.{RealmItem}
 
--- the item of a granule, if the machine has it
+-- the item of the granule with this number, if the machine has such a granule
 abbrev pub granule_item : HostView → ℕ → Option GranuleItem
 granule_item host granule = option_map (λ (view : GranuleView). record { granule = granule; view = view }) (granule_at (world_of host) granule)
 
--- the item of `count` rows of the build's realm, beginning with the row where a walk ends, or None if there is no such
--- row
+-- the item of `count` rows that begin with the row at the end of an IPA granule's walk towards a level; None if there
+-- is no such row
 abbrev pub row_item : HostView → ℕ → ℕ → ℕ → ℕ → Option RowItem
 row_item host build ipa level count = option_map (λ (row : RowView). record { row = row; count = count }) (row_at (world_of host) build ipa level)
 

@@ -15,6 +15,6 @@ escaped json = flat_map escaped_byte json
 abbrev pub data_element : List ℕ → List ℕ
 data_element json = codes "<script id=\"data\" type=\"application/json\">" ++ (escaped json ++ codes "</script>")
 
--- the page: the template's head, the script element with the data, and the template's tail
+-- the HTML page, which is the template's head, the script element with the data, and the template's tail
 unfoldable pub page_bytes : List ℕ → List ℕ
 page_bytes json = HEAD.now ++ (data_element json ++ TAIL.now)

@@ -11,7 +11,7 @@ use Rattle.run_json.specs.declared.items.RowItem.{RowItem}
 
 -- ---- runs: successive rows of one table with the same entry
 
--- the IPA granule right after a run of `count` equal rows that begins with this row
+-- the first IPA granule after a run of `count` equal rows that begins with this row
 abbrev pub first_after : RowView → ℕ → ℕ
 first_after row count = row.first + count * covered_count row.level
 
@@ -45,13 +45,12 @@ beginning_at ipa (Some row) = if row.first == ipa then record { row = row; count
 abbrev pub rows_above : World → ℕ → RowView → List RowItem
 rows_above world build row = flat_map (λ level. beginning_at row.first (row_at world build row.first level)) (range_with_len 1 (row.level - 1))
 
--- the items of a run of equal rows: the rows of higher levels that begin at its first IPA granule, and then the run
--- itself
+-- the rows of the levels above that begin where a run of equal rows begins, and then the run itself, each as an item
 abbrev pub run_items : World → ℕ → RowItem → List RowItem
 run_items world build run = rows_above world build run.row ++ run ∷ []
 
--- The items of all rows of a build's realm. There is one such list: each run begins at the row that the walk finds, and
--- goes on as long as it can.
+-- The items are those of all rows of a build's realm. There is one such list: each run begins at the row that the walk
+-- finds, and goes on as long as it can.
 pub record AreRowsOf (world : World) (build : ℕ) (items : List RowItem) : Type 0 where
   pub runs : List RowItem
   pub are_runs : AreRowRuns world build 0 runs

@@ -1,4 +1,5 @@
--- The JSON object of a turn: its step, its event, and the objects that the event changed, as they are after the turn.
+-- The JSON object of a turn, with its step, its event, and the objects that the event changed, as they are after the
+-- turn.
 use Rattle.std.specs.Prelude.{◌≡◌, ℕ, ◌+◌, ◌*◌, List, [], ◌∷◌, ◌++◌, length, nat_lt, if◌then◌else◌, Option, Some, None, slice_get, string_bytes}
 use Rattle.std.specs.List.{flat_map, range_with_len}
 use Rattle.granule_addr.specs.Root.{start_count}
@@ -22,7 +23,7 @@ use Rattle.run_json.specs.declared.turn.TurnItem.{TurnItem}
 
 -- ---- steps
 
--- what a step's item says: the step's index in the build's list, its text, and the answer
+-- a step's index in the build's list, its text, and the answer, as the step's item has them
 abbrev pub step_view : StepItem → ℕ × List ℕ × TurnAnswer
 step_view step = (step.place, string_bytes step.step, step.answer)
 
@@ -86,7 +87,7 @@ realm_after host build act = if changes_realm act then Some (realm_item host bui
 
 -- ---- events
 
--- the item of an event: the event, and the objects that it changed
+-- the item has this event, and the granules, rows, REC and realm that the event changed
 pub record IsEventItem (host : HostView) (build : ℕ) (event : Event) (item : EventItem) : Type 0 where
   pub event_is : item.event ≡ event
   pub granules_are : item.granules.items ≡ granules_after host event.act
@@ -100,7 +101,8 @@ IsEventAt host build None item = item ≡ None
 IsEventAt host build (Some event) (Some item) = IsEventItem host build event item
 IsEventAt host build (Some event) None = ⊥
 
--- the item has the event at this index of the history, what the event changed, and what the host keeps of the build
+-- the item has the event at this index of the history, what the event changed, and the build's number of open
+-- operations, mark and abort flag
 pub record IsAfterTurn (host : HostView) (build place : ℕ) (item : TurnItem) : Type 0 where
   pub event_is : IsEventAt host build (slice_get host.history place) item.event
   pub open_is : item.open ≡ length (open_of host build)

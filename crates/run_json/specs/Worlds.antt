@@ -1,4 +1,4 @@
--- The JSON object of the host's state: all granules, and the pages, open operations and realm of each build.
+-- The JSON object of the host's state, with all granules, and the pages, open operations and realm of each build.
 use Rattle.std.specs.Prelude.{◌≡◌, ℕ, List, [], ◌∷◌, length, Option, Some, None}
 use Rattle.std.specs.List.{flat_map, range_with_len, AllZip}
 use Rattle.realm_model.specs.World.{free_set}
@@ -24,7 +24,7 @@ all_granules host = more_granules host 0 host.limits.pages
 abbrev pub page_items : HostView → ℕ → ℕ → List (Option PageItem)
 page_items host build count = flat_map (λ page. page_item host build page ∷ []) (range_with_len 0 count)
 
--- the items of a build's operations, each written as its event
+-- one item for each operation of a list, with the operation as an event of the build
 abbrev pub open_lines : ℕ → List Act → List EventLine
 open_lines build acts = flat_map (λ act. record { 0 = record { build = build; act = act } } ∷ []) acts
 
@@ -42,7 +42,7 @@ IsRealmWith host build (Some realm) (Some item) =
 abbrev pub IsRealmContents : HostView → ℕ → Option RealmContents → Type 0
 IsRealmContents host build item = IsRealmWith host build (realm_item host build) item
 
--- the item of a build: its mark, its abort flag, its open operations, its pages and its realm
+-- the item has the build's number, mark, abort flag, open operations, pages and realm
 pub record IsBuildItem (host : HostView) (build : ℕ) (item : BuildItem) : Type 0 where
   pub build_is : item.build ≡ build
   pub kept_is : item.kept ≡ build_kept host build
@@ -54,7 +54,7 @@ pub record IsBuildItem (host : HostView) (build : ℕ) (item : BuildItem) : Type
 abbrev pub AreBuildItems : HostView → ℕ → List BuildItem → Type 0
 AreBuildItems host count items = AllZip (IsBuildItem host) (range_with_len 0 count) items
 
--- the item of a world: the number of free granules, all granules, and all builds
+-- the item has the number of free granules, all granules of the machine, and all builds of the host
 pub record IsWorldItem (host : HostView) (item : WorldItem) : Type 0 where
   pub free_is : item.free ≡ length (free_set (world_of host))
   pub granules_are : item.granules.items ≡ all_granules host

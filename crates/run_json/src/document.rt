@@ -1,4 +1,4 @@
-//! The JSON document of a plan's run: machine settings, turns, and the host's final state.
+//! The JSON document of a plan's run, with machine settings, turns, and the host's final state.
 ghost use Rattle.std.specs.Prelude.{◌≡◌, ◌<◌, OnOk, IfOk, vec_len};
 ghost use Rattle.realm_plan.specs.PlanView.{plan_view};
 ghost use Rattle.run_json.specs.Document.{settings_of, AddsTurnItem, HasTurnItems, IsDocument};
@@ -38,8 +38,8 @@ impl Serialize for MachineSettings {
     }
 }
 
-/// The JSON document of a plan's run: machine settings, turns, and the host's final state. `realmview` is the version
-/// of the format.
+/// The JSON document of a plan's run, with machine settings, turns, and the host's final state. `realmview` is the
+/// version of the format.
 pub struct Document {
     pub realmview: u8,
     pub settings: MachineSettings,

@@ -14,7 +14,7 @@ use realm_plan::state_word;
 use serde::{Described, Serialize, Serializer};
 use std::alloc::{AllocError, Global};
 
-/// The JSON object of a granule: its number, and the state, build and realm that the host has for it.
+/// The JSON object of a granule, with its number, and the state, build and realm that the host has for it.
 #[derive(Clone, Copy)]
 pub struct GranuleItem {
     pub granule: Gran,
@@ -42,8 +42,8 @@ pub fn granule_item<S: PageStore>(host: &Host<S>, granule: Gran) -> Option<Granu
     Some(GranuleItem { granule, view })
 }
 
-/// The JSON object of a series of equal rows at one level of a realm's translation tables: the first row and the number
-/// of rows.
+/// The JSON object of a series of equal rows at one level of a realm's translation tables, with the first row and the
+/// number of rows.
 #[derive(Clone, Copy)]
 pub struct RowItem {
     pub row: RowView,
@@ -81,7 +81,7 @@ pub fn row_item<S: PageStore>(
     Some(RowItem { row, count })
 }
 
-/// The data of an existing REC in the REC's JSON object: its granule, its state and its auxiliary granules.
+/// The data of an existing REC in the REC's JSON object, with its granule, its state and its auxiliary granules.
 #[derive(Drop)]
 pub struct RecView {
     pub granule: Gran,
@@ -98,7 +98,7 @@ impl RecView {
     }
 }
 
-/// The JSON object of a REC: the REC's number, and the REC's data if the REC exists.
+/// The JSON object of a REC, with the REC's number, and the REC's data if the REC exists.
 #[derive(Drop)]
 pub struct RecItem {
     pub number: RecNo,
@@ -143,7 +143,7 @@ pub fn rec_item<S: PageStore>(
     })
 }
 
-/// The JSON object of a build's page: its granule and the sum of its bytes.
+/// The JSON object of a build's page, with its granule and the sum of its bytes.
 #[derive(Clone, Copy)]
 pub struct PageItem {
     pub granule: Gran,

@@ -6,7 +6,7 @@ use serde::{Described, Serialize, Serializer};
 use std::alloc::{AllocError, Global};
 use std::fmt::Display;
 
-/// A value that is written in JSON as a string: its `Display` text.
+/// A value that is written in JSON as a string, which is the value's `Display` text.
 #[derive(Clone, Copy)]
 pub struct Shown<T>(pub T);
 

@@ -1,4 +1,4 @@
-//! The JSON document of a plan's run: the machine's settings, the turns, and the host's final state.
+//! The JSON document of a plan's run, with the machine's settings, the turns, and the host's final state.
 //!
 //! A document is a value. Its granules, rows, RECs and realms are read from the host: after each turn those that the
 //! turn's event names (`specs/Turns.antt`), and all of them at the end. `serde_json` writes it; the words of its

@@ -11,7 +11,7 @@ use realm_model::RealmState;
 use realm_plan::realm_word;
 use serde::{Described, Serialize, Serializer};
 
-/// The JSON object of a realm: the realm's attributes and its RD. RMM 1.0, Realm attributes.
+/// The JSON object of a realm, with the realm's attributes and its RD. RMM 1.0, Realm attributes.
 #[derive(Clone, Copy)]
 pub struct RealmItem {
     pub rd: Gran,

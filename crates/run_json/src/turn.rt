@@ -1,4 +1,4 @@
-//! The JSON object of a build's turn: step, answer, event, and the event's changes.
+//! The JSON object of a build's turn, with step, answer, event, and the event's changes.
 ghost use Rattle.std.specs.Prelude.{◌≡◌, ◌+◌, ◌≤◌, [], ◌∷◌, ◌++◌, OnOk, IfOk, slice_get, option_map};
 ghost use Rattle.run_json.specs.Turns.{step_view, placed, numbered_granule, more_granules, each_granule, changed_items, changed_view};
 ghost use Rattle.run_json.specs.Turns.{granules_after, rows_after, IsRecAfter, realm_after, IsEventItem, IsEventAt, IsAfterTurn};
@@ -19,7 +19,7 @@ use realm_plan::{PlanStep, StepText};
 use serde::{Described, Serialize, Serializer};
 use std::alloc::{AllocError, Global};
 
-/// The JSON object of a step: its index, its text, and the host's answer. The index is that in the build's list of
+/// The JSON object of a step, with its index, its text, and the host's answer. The index is that in the build's list of
 /// steps, and the text is that of a plan.
 #[derive(Drop)]
 pub struct StepItem {
@@ -28,8 +28,8 @@ pub struct StepItem {
     pub answer: TurnAnswer,
 }
 
-/// The JSON object of a history event: the event, and the RMM objects that it changed. The objects are as the host has
-/// them after the turn. A list is empty if the event changes no such object.
+/// The JSON object of a history event, with the event, and the RMM objects that it changed. The objects are as the host
+/// has them after the turn. A list is empty if the event changes no such object.
 pub struct EventItem {
     pub event: Event,
     pub granules: Vec<Option<GranuleItem>>,
@@ -50,8 +50,8 @@ impl Drop for EventItem {
     }
 }
 
-/// The JSON object of a build's turn: step, event, and build state afterwards. A step or an event is there only if the
-/// turn has one.
+/// The JSON object of a build's turn, with step, event, and build state afterwards. A step or an event is there only if
+/// the turn has one.
 pub struct TurnItem {
     pub build: BuildId,
     pub step: Option<StepItem>,

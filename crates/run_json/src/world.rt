@@ -1,4 +1,4 @@
-//! The JSON object of a host's state: all granules, and the pages, open operations and realm of each build.
+//! The JSON object of a host's state, with all granules, and the pages, open operations and realm of each build.
 ghost use Rattle.std.specs.Prelude.{◌≡◌, IfOk, length};
 ghost use Rattle.host_ledger.specs.View.{pages_of_build};
 ghost use Rattle.run_json.specs.Worlds.{all_granules, page_items, open_lines, AreRecItems, IsRealmContents, IsBuildItem, AreBuildItems, IsWorldItem};
@@ -58,8 +58,8 @@ impl Serialize for RealmContents {
     }
 }
 
-/// The JSON object of a build's state on the host: the mark, the abort flag, the open operations, the pages and the
-/// realm. The open operations are events, from the oldest on.
+/// The JSON object of a build's state on the host, with the mark, the abort flag, the open operations, the pages and
+/// the realm. The open operations are events, from the oldest on.
 pub struct BuildItem {
     pub build: BuildId,
     pub kept: BuildKept,
@@ -94,7 +94,7 @@ impl Serialize for BuildItem {
     }
 }
 
-/// The JSON object of a host's state: its granules, its builds, and the number of granules that no build leases.
+/// The JSON object of a host's state, with its granules, its builds, and the number of granules that no build leases.
 pub struct WorldItem {
     pub free: u16,
     pub granules: Vec<Option<GranuleItem>>,
@@ -226,7 +226,8 @@ fn builds_of<S: PageStore>(alloc: Global, host: &Host<S>) -> Result<Vec<BuildIte
     Ok(items)
 }
 
-/// Returns the JSON object of a host's state: its granules and its builds. The one error is that allocation failed.
+/// Returns the JSON object of a host's state, with its granules and its builds. The one error is that allocation
+/// failed.
 pub fn world_item<S: PageStore>(alloc: Global, host: &Host<S>) -> Result<WorldItem, AllocError>
     ensures { IfOk result (IsWorldItem host.now) }
 {

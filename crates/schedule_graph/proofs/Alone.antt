@@ -46,8 +46,8 @@ module _ (P : Option Act → Type 0) (none : P None) where
   by_test true act h = h
   by_test false act h = none
 
--- of what is allocated, the operation of a command that needs no block and no VMID depends only on the REC number and
--- the byte read
+-- the operation of a command that needs no block and no VMID depends on no allocated value but the REC number and the
+-- byte that is read
 act_alike : (cmd : Cmd) → NeedsNothingShared (Ask cmd) → (gs : List ℕ) (one other : Allocated) → other.number ≡ one.number → other.byte ≡ one.byte → act_of cmd gs other ≡ act_of cmd gs one
 unfolding act_of
 act_alike (Take order) none_such gs one other number byte = absurd none_such
@@ -89,7 +89,8 @@ module _ (limits : Limits) (used fewer : List ℕ) (realm : Option Seen) (cells 
 
 -- ---- the checks before
 
--- the summary in which every build has the given facts; the checks of a call read those of its build alone
+-- A `BuildsSummary` in which every build has the same given values. Of the builds' values, a call's checks read only
+-- those of the calling build.
 abbrev summary_alone : ℕ → Bool → List ℕ → Bool → ℕ → ℕ → Bool → BuildsSummary
 summary_alone builds aborting pages realm opened room vmid = record {
   builds = builds;
@@ -141,7 +142,8 @@ byte_seen h _ gs = refl
 
 -- ---- a build on two hosts
 
--- if a build's pages are the granules leased to it, the granules of the pages that a command names are leased to it
+-- if a build's pages are the granules that the build leases, then the build leases the granules of all its pages that a
+-- command names
 named_leased : (leases : List (Option ℕ)) (b : ℕ) (pages : List ℕ) → ((g : ℕ) → is_in g pages ≡ is_leased_to (Some b) leases g)
     → (named : List ℕ) → list_all (is_leased_to (Some b) leases) (filter_map (λ page. slice_get pages page) named) ≡ true
 named_leased leases b pages are [] = refl
@@ -183,8 +185,8 @@ module _ (b : ℕ) (host twin : HostView) (same : DidTheSameAlone b host twin) w
   named : (cmd : Cmd) → granules_named twin b cmd ≡ granules_named host b cmd
   named cmd = ap (λ ps. filter_map (λ page. slice_get ps page) (operands cmd)) pages
 
-  -- in a legal history, the granules that a build's command names look the same in the whole world and in the build's
-  -- part of it
+  -- in a legal history, each granule that a build's command names is the same in the whole world as in the build's part
+  -- of the world
   seen_in_part : (h : HostView) → IsLegal h.limits h.history → (cmd : Cmd)
       → map (seen (part_of (world_of h) b).machine) (granules_named h b cmd) ≡ map (seen (world_of h).machine) (granules_named h b cmd)
   seen_in_part h legal cmd =

@@ -30,8 +30,8 @@ use Rattle.schedule_graph.proofs.Kept.{keeps, goes, keeps-at, depth}
 
 -- ---- the marks after an answer
 
--- The marks after an answer. A refusal changes none. Any other answer drops the build's mark if fewer operations are
--- open than at the mark.
+-- The new host has the old host's marks, except for a mark that the answer dropped. A refusal drops none. Any other
+-- answer drops the build's mark if fewer operations are open than at the mark.
 abbrev MarksAfter : HostAnswer → HostView → ℕ → HostView → Type 0
 MarksAfter (Refused reason) host b new = new.marks ≡ host.marks
 MarksAfter _ host b new = new.marks ≡ set host.marks b (mark_while (length (open_of new b)) (get_or host.marks b None))
@@ -60,8 +60,8 @@ rest_after host b (WasUndone done) new h c other = set_rest host.marks new.marks
 
 -- ---- a mark that is kept in both hosts or in neither
 
--- The two marks are of the same point, or both are missing. `host` keeps `mark` for the build if and only if `twin`
--- keeps `other`.
+-- The two marks have the same build and the same number of open operations, or both marks are missing. `host` keeps
+-- `mark` for the build if and only if `twin` keeps `other`.
 pub record AreKeptAlike (b : ℕ) (host twin : HostView) (mark other : Option Mark) : Type 0 where
   pub points : option_map mark_point other ≡ option_map mark_point mark
   pub kept : goes (mark_of twin b) other ≡ goes (mark_of host b) mark

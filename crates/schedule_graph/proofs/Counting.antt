@@ -11,7 +11,8 @@ use Rattle.schedule_graph.specs.declared.graph.Edge.{Edge}
 
 -- ---- a layer of counts
 
--- if `count` is right for any list of edges, it is right for each state of a layer, and a missing state has the count 0
+-- If `count` gives, for any edges, how many of the paths along them `keep` keeps, then mapping `count` over a layer
+-- gives these numbers for the layer's states. A missing state has the count 0.
 layer_at : {L : Type 0} (keep : List (Path L) → List (Path L)) → keep [] ≡ [] → (count : List (Edge L) → ℕ) (whole : List (Edge L) → List (Path L))
     → ((edges : List (Edge L)) → count edges ≡ length {A = Path L} (keep (whole edges)))
     → (layer : List (Vec (Edge L) Global)) (state : ℕ)

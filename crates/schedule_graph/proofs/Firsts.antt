@@ -1,4 +1,4 @@
--- Proofs that the path counts lead, edge by edge, to the first path with, or without, a label that has a property.
+-- Proofs that the path counts lead, edge by edge, to the first path on which some label, or no label, has a property.
 use Rattle.std.proofs.Common.{◌≡◌, ℕ, zero, suc, ◌+◌, ◌<◌, ◌≤◌, Bool, true, false, cond, ◌||◌, List, [], ◌∷◌, ◌++◌, map, length, take, drop, drop-cons, append_assoc, add-one, Vec, Global, vec_items, Option, Some, None, refl, sym, ap, ◌∙◌, subst, arith}
 use Rattle.std.specs.Prelude.{filter, nat_lt, option_map, slice_index_or}
 use Rattle.std.specs.List.{find, flat_map}
@@ -51,7 +51,7 @@ abbrev labels_of : {L : Type 0} → Path L → List L
 labels_of {L} path = map (λ (e : Edge L). e.label) path
 
 module _ {L : Type 0} (is : L → Bool) (accept : Bool → Bool) where
-  -- whether `accept` allows a path, given whether a label before it satisfies `is`
+  -- the path is allowed by `accept`, which is given `true` if `shown` is true or some label on the path satisfies `is`
   abbrev pub like : Bool → Path L → Bool
   like shown path = accept (shown || shows is path)
 
@@ -85,7 +85,8 @@ module _ {L : Type 0} (is : L → Bool) (accept : Bool → Bool) where
 
   -- ---- the next edge
 
-  -- the path counts of the next layer, for paths after a label that satisfies `is` was shown, and for the others
+  -- the lists `with_it` and `without_it` count the allowed paths from each state of the next layer: after a label that
+  -- satisfies `is`, and after none
   module _ (next : ℕ → List (Path L)) (with_it without_it : List ℕ)
       (are : (shown : Bool) (state : ℕ) → count_at (cond shown with_it without_it) state ≡ length (filter (like shown) (next state))) where
     abbrev pub goes : Bool → Edge L → Bool
@@ -136,15 +137,15 @@ found_is p (y ∷ xs) x found = at (found_is p xs x) (p y) refl found
 -- ---- a layer
 
 module _ {L : Type 0} (layers : List (Layer L)) where
-  -- the paths from a state that edges leave are those along its first edge, then those along the next, and so on
+  -- if a state has edges, its paths are those along the first edge, then those along the next, and so on
   paths_at : (layer : Layer L) (state : ℕ) (edge : Edge L) (edges : List (Edge L)) → slice_index_or layer state [] ≡ edge ∷ edges
       → paths (layer ∷ layers) state ≡ flat_map (λ e. onto e (paths layers e.to)) (edge ∷ edges)
   paths_at [] state edge edges same = cc
   paths_at (here ∷ layer) zero edge edges same = ap (paths_by_edges (paths layers)) same
   paths_at (here ∷ layer) (suc state) edge edges same = paths_at layer state edge edges same
 
-  -- from a state that no edge leaves there is no path, or only the empty one: what holds of both lists holds of its
-  -- paths
+  -- if `P` holds for the list of no path and for the list of only the empty path, `P` holds for the paths from a state
+  -- that no edge leaves
   no_edges : (layer : Layer L) (state : ℕ) (P : List (Path L) → Type 0) → P [] → P ([] ∷ []) → slice_index_or layer state [] ≡ [] → P (paths (layer ∷ layers) state)
   no_edges [] state P none one same = none
   no_edges (here ∷ layer) zero P none one same = subst (λ edges. P (paths_by_edges (paths layers) edges)) (sym same) one
@@ -221,8 +222,8 @@ option_map-push labels label None = refl
 option_map-push labels label (Some more) = ap Some (sym (append_assoc labels (label ∷ []) more))
 
 module _ {L : Type 0} (is : L → Bool) (accept : Bool → Bool) (layers : List (Layer L)) where
-  -- The labels of the first allowed path are `labels`, and then those of the first allowed path from `state` in layer
-  -- `depth`. There is such a path.
+  -- The first allowed path from state 0 has the labels `labels`, and then the labels of the first allowed path from
+  -- `state` in layer `depth`. There is an allowed path from that state.
   pub record IsOnWay (depth state : ℕ) (shown : Bool) (labels : List L) : Type 0 where
     pub first : first_like (like is accept false) (paths layers 0) ≡ option_map (λ more. labels ++ more) (first_like (like is accept shown) (paths (drop depth layers) state))
     pub some : 0 < length (filter (like is accept shown) (paths (drop depth layers) state))
@@ -233,7 +234,7 @@ module _ {L : Type 0} (is : L → Bool) (accept : Bool → Bool) (layers : List 
     some = some;
   }
 
-  -- past the last layer there is no path
+  -- `IsOnWay` does not hold if `depth` is the number of layers or more
   pub way_is_over : (depth state : ℕ) (shown : Bool) (labels : List L) → length layers ≤ depth → IsOnWay depth state shown labels → ⊥
   way_is_over depth state shown labels past way = at (drop depth layers) (drop_of_length-le layers past) way.some
     where
@@ -323,7 +324,7 @@ none_kept : {X : Type 0} (xs : List X) → filter (λ x. false) xs ≡ []
 none_kept [] = refl
 none_kept (x ∷ xs) = none_kept xs
 
--- for a condition that no path satisfies, no counts need to be listed: a count that is left out is 0
+-- for a condition that no path satisfies, the empty list of path counts is right, as a missing count is 0
 pub no_numbers : {L : Type 0} (layers : List (Layer L)) → ArePathNumbers {L = L} (λ path. false) layers []
 no_numbers {L} layers zero state = sym (ap length (none_kept (paths layers state)))
 no_numbers {L} layers (suc depth) state = sym (ap length (none_kept (paths (drop (suc depth) layers) state)))

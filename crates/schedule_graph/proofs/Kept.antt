@@ -1,5 +1,6 @@
--- Lemmas about marks and cursors: the host keeps a mark while no fewer operations are open than at the mark, and the
--- same answer keeps two cursors' progress equal.
+-- Lemmas about the marks that a host keeps, and about a build's progress in its plan after an answer. A host keeps a
+-- mark while no fewer operations are open than at the mark. If two cursors have equal progress, they still do after the
+-- same answer.
 use Rattle.std.proofs.Common.{◌≡◌, ℕ, zero, suc, ◌==◌, ◌&&◌, Bool, true, false, cond, List, [], ◌∷◌, map, get_or, set, length, Option, Some, None, refl, sym, ap, ◌∙◌, eq-eqb, eqb-true, arith}
 use Rattle.std.specs.Prelude.{nat_le, option_map}
 use Rattle.std.proofs.lemmas.Bool.{and_parts}
@@ -51,7 +52,8 @@ keeps-while n (Some kept) mark = at (is_same_mark kept mark) refl
         (elim (nat_le kept.length n) as (λ t. keeps (cond t (Some kept) None) mark ≡ false) [ true ↦ differs | false ↦ refl ])
         ∙ sym (ap (λ s. s && nat_le mark.length n) differs)
 
--- a mark is still kept if and only if it was kept and no fewer operations are open than at the mark
+-- once `n` operations are open, a mark is kept if and only if it was kept before and was set with at most `n`
+-- operations open
 pub keeps-at : (marks : List (Option Mark)) (b n : ℕ) (mark : Mark)
     → keeps (get_or (set marks b (mark_while n (get_or marks b None))) b None) mark ≡ (keeps (get_or marks b None) mark && nat_le mark.length n)
 keeps-at [] b n mark = refl
@@ -116,8 +118,8 @@ module _ (gives_up : Bool) (answer : TurnAnswer) where
   mark-moved_on place =
       elim (place.left == 0) as (λ t. (cond t (record place { done = next place.done }) place).mark ≡ place.mark) [ true ↦ refl | false ↦ refl ]
 
--- if the marks of two cursors are both kept or both not, so are the marks at `b` once these cursors are set there in
--- lists of the same progress
+-- two cursors that agree on whether their marks are kept still agree once they are put at index `b` of two lists of
+-- equal progress
 pub goes-set : (ones others : List PlanCursor) (b : ℕ) (one other : PlanCursor) (kept also : Option Mark) → map progress_of others ≡ map progress_of ones
     → goes also other.mark ≡ goes kept one.mark
     → goes also (get_or (set others b other) b first_place).mark ≡ goes kept (get_or (set ones b one) b first_place).mark

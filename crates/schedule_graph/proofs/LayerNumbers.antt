@@ -36,7 +36,8 @@ last_first (x ∷ xs) d = get_or-reverse (x ∷ xs) 0 d (omega arith) ∙ ap (λ
 
 module _ {L : Type 0} (like : Path L → Bool) (layers : List (Layer L)) (counts : List (List ℕ)) (done : ℕ) (more : done < length layers) (long : length counts ≡ done)
     (are : ArePathNumbers like (drop (length layers - done) layers) (reverse counts)) where
-  -- the numbers that were counted last are those of the next layer
+  -- the counts that were added last are the path counts of layer `length layers - done`, the lowest layer that is
+  -- counted so far
   pub next_numbers : (state : ℕ) → count_at (slice_index_or counts (done - 1) []) state ≡ length (filter like (paths (drop (length layers - done) layers) state))
   next_numbers state =
       ap (λ k. count_at (slice_index_or counts (k - 1) []) state) (sym long) ∙ ap (λ here. count_at here state) (sym (last_first counts [])) ∙ are 0 state

@@ -46,7 +46,7 @@ pub number_of_one : number_of (1 ∷ []) ≡ 1
 unfolding number_of
 number_of_one = refl
 
--- a sum is worth the digit that it leaves in its place and the carry to the next place
+-- the digit `sum % 10` at place `k` and the carry `sum / 10` at place `k + 1` are together worth `sum` at place `k`
 carried : (sum k : ℕ) → sum % 10 * 10 ^ k + sum / 10 * 10 ^ (k + 1) ≡ sum * 10 ^ k
 carried sum k =
     let split : sum ≡ sum % 10 + 10 * (sum / 10) = omega arith in
@@ -55,7 +55,8 @@ carried sum k =
     let up : sum / 10 * 10 ^ (k + 1) ≡ 10 * (sum / 10 * 10 ^ k) = ap (λ n. sum / 10 * 10 ^ n) (add-one k) ∙ one_place_up (sum / 10) k in
     omega (arith, parts, tens, up)
 
--- when a carry is added to a digit, the new number and the carry that is left are worth the old number and the carry
+-- when a carry is added to the digit at its place, the number and the new carry together are worth the old number and
+-- the old carry
 pub carry_step : (digits : List ℕ) (at carry : ℕ) → at < length digits
     → number_of (set digits at ((get_or digits at 0 + carry) % 10)) + (get_or digits at 0 + carry) / 10 * 10 ^ (at + 1) ≡ number_of digits + carry * 10 ^ at
 carry_step digits at carry inside =
@@ -65,8 +66,8 @@ carry_step digits at carry inside =
     let both = add-mul digit carry (10 ^ at) in
     omega (arith, new, over, both)
 
--- when a carry is appended as one more digit, the new number and the carry that is left are worth the old number and
--- the carry
+-- when the last digit of a carry is appended, the number and the new carry together are worth the old number and the
+-- old carry
 pub push_step : (digits : List ℕ) (carry : ℕ)
     → number_of (digits ++ carry % 10 ∷ []) + carry / 10 * 10 ^ length (digits ++ carry % 10 ∷ []) ≡ number_of digits + carry * 10 ^ length digits
 push_step digits carry =
@@ -76,7 +77,7 @@ push_step digits carry =
     let there : carry / 10 * 10 ^ length (digits ++ carry % 10 ∷ []) ≡ carry / 10 * 10 ^ (length digits + 1) = ap (λ n. carry / 10 * 10 ^ n) long in
     omega (arith, new, over, there)
 
--- one more factor of two doubles a product with a power of two
+-- if the exponent of a power of two grows by one, a product with that power doubles
 pub doubled : (n k : ℕ) → n * 2 ^ (k + 1) ≡ n * 2 ^ k + n * 2 ^ k
 doubled n k =
     let up : n * 2 ^ (k + 1) ≡ 2 * (n * 2 ^ k) = ap (λ m. n * 2 ^ m) (add-one k) ∙ ap (λ p. n * p) (pow-succ' 2 k) ∙ mul_left_comm n 2 (2 ^ k) in
@@ -86,6 +87,6 @@ alone : (n : ℕ) → number_of [] + n * 10 ^ 0 ≡ n
 unfolding number_of
 alone n = omega arith
 
--- without digits, the number and a carry of `n` are worth `n`
+-- if a number has no digits yet, the number and a carry of `n` are together worth `n`
 pub from_none : (digits : List ℕ) (n : ℕ) → digits ≡ [] → number_of digits + n * 10 ^ length digits ≡ n
 from_none digits n none = ap (λ ds. number_of ds + n * 10 ^ length ds) none ∙ alone n

@@ -1,5 +1,5 @@
--- Proofs that run positions in the same state have the same possible turns and answers, and that each turn leads both
--- to the same state.
+-- Proofs that two positions of runs, if in the same state, have the same possible turns and answers, and that a turn
+-- leads both positions to the same state.
 use Rattle.std.proofs.Common.{◌≡◌, ◌≢◌, ℕ, ◌-◌, ◌==◌, Bool, true, false, cond, List, [], ◌∷◌, map, get_or, set, Option, Some, None, Result, Ok, Err, refl, sym, ap, ◌∙◌, subst, ⊎_elim}
 use Rattle.std.specs.Prelude.{option_map}
 use Rattle.std.specs.Bool.{OnTrue, OnFalse}
@@ -53,7 +53,9 @@ module _ (b : ℕ) (place other : PlanCursor) (alike_places : progress_of other 
   same_left : other.left ≡ place.left
   same_left = ap (λ (p : Progress). p.left) alike_places
 
-  -- a step that changes nothing can be taken on the other host too, if it may change nothing there either
+  -- `Too` holds for a step that leaves `host` and its cursor unchanged, if the step can also leave `twin` and its
+  -- cursor unchanged. Before the step, the hosts differ only in the schedule, and agree on whether they keep the
+  -- cursors' marks.
   stays : (IsStep : HostView → PlanCursor → Type 0) (host twin new : HostView) (after : PlanCursor) → DifferInInterleaving host twin
       → AreKeptAlike b host twin place.mark other.mark → new ≡ host → after ≡ place → IsStep twin other → Too IsStep b host twin new after
   stays IsStep host twin new after differ kept same same_place is = record {
@@ -119,8 +121,8 @@ module _ (b : ℕ) (place other : PlanCursor) (alike_places : progress_of other 
         also_rest = too.also_rest;
       }
 
-  -- the turn of a step that has `count` operations to undo: the turn changes nothing if `none`, and otherwise performs
-  -- one undo
+  -- the turn of a step that has `count` operations to undo: if `none` is true, the turn changes nothing, and otherwise
+  -- it performs one undo
   abbrev IsManyBy : ℕ → HostView → PlanCursor → TurnAnswer → Bool → HostView → PlanCursor → Type 0
   IsManyBy count host at answer none new after =
       OnTrue none ((answer ≡ tells.Nothing) × (new ≡ host) × (after ≡ at)) × OnFalse none (IsOneOfMany host b at (count - 1) answer new after)

@@ -80,7 +80,7 @@ take_trimmed (d ∷ digits) = elim (number_of (d ∷ digits) == 0) as (λ t. tak
   | false ↦ ap (λ ds. d ∷ ds) (take_trimmed digits)
 ]
 
--- appending a zero does not change the number of digits without the zeros at the end
+-- appending a zero does not change how many digits remain when the zeros at the end are removed
 pub trimmed-zero : (digits : List ℕ) → length (trimmed (digits ++ 0 ∷ [])) ≡ length (trimmed digits)
 unfolding number_of
 trimmed-zero [] = refl
@@ -94,7 +94,7 @@ trimmed-zero (d ∷ digits) =
     same_number : (ds : List ℕ) → number_of (ds ++ 0 ∷ []) ≡ number_of ds
     same_number ds = let more = number_of-push ds 0 in omega (arith, more)
 
--- with any other digit appended, all digits are left: there are no zeros at the end
+-- if a digit other than 0 is appended, removing the zeros at the end removes nothing
 pub trimmed-more : (digits : List ℕ) (d : ℕ) → (d ≡ 0 → ⊥) → length (trimmed (digits ++ d ∷ [])) ≡ length digits + 1
 unfolding number_of
 trimmed-more [] d some = ap (λ t. length (cond t [] (d ∷ []))) (ne_eqb (d + 10 * 0) 0 (λ e. some (omega (arith, e))))
@@ -113,7 +113,7 @@ trimmed-more (x ∷ digits) d some = at (trimmed-more digits d some) (number_of 
             some (omega (arith, e, more, product))
     at rest false more = omega (arith, rest)
 
--- if the digit at `place` is 0, it does not change the number of digits without the zeros at the end
+-- if the digit at `place` is 0, the first `place` and the first `place + 1` digits are equally long once trimmed
 pub grown-zero : (digits : List ℕ) (place : ℕ) → place < length digits → get_or digits place 0 ≡ 0
     → length (trimmed (take (place + 1) digits)) ≡ length (trimmed (take place digits))
 grown-zero digits place inside none =
@@ -122,7 +122,7 @@ grown-zero digits place inside none =
     ∙ ap (λ d. length (trimmed (take place digits ++ d ∷ []))) none
     ∙ trimmed-zero (take place digits)
 
--- if the digit at `place` is not 0, all of the first `place + 1` digits are left
+-- if the digit at `place` is not 0, removing the zeros at the end of the first `place + 1` digits removes nothing
 pub grown-more : (digits : List ℕ) (place : ℕ) → place < length digits → (get_or digits place 0 ≡ 0 → ⊥) → length (trimmed (take (place + 1) digits)) ≡ place + 1
 grown-more digits place inside some =
     ap (λ k. length (trimmed (take k digits))) (add-one place)

@@ -1,4 +1,4 @@
--- The path counts of all layers of a graph, and the first path with, or without, a label that has a property.
+-- The path counts of all layers of a graph, and the first path on which some label, or no label, has a property.
 use Rattle.std.specs.Prelude.{◌≡◌, ℕ, nat_lt, Bool, true, not, cond, ◌||◌, List, [], map, filter, length, drop, Option, option_map, slice_index_or, Vec, vec_items}
 use Rattle.std.specs.List.{find}
 use Rattle.std.specs.declared.alloc.Global.{Global}
@@ -23,7 +23,7 @@ ArePathNumbers like layers counts =
 abbrev pub first_like : {L : Type 0} → (Path L → Bool) → List (Path L) → Option (List L)
 first_like like ps = option_map (λ path. map (λ edge. edge.label) path) (find like ps)
 
--- the condition that every path satisfies
+-- true for every path
 abbrev pub any_path : {L : Type 0} → Path L → Bool
 any_path path = true
 
@@ -33,7 +33,7 @@ shows_none is path = not (shows is path)
 
 -- ---- the next edge of a path
 
--- By the path counts of the next layer, some path that is sought goes on along the edge. One list is for paths on which
--- this edge or an earlier one has a label that satisfies `is`, and one for the other paths.
+-- The edge leads to a state from which at least one path is counted, by the counts of the next layer. One list is for
+-- paths on which this edge or an earlier one has a label that satisfies `is`, and one for the other paths.
 abbrev pub goes_on : {L : Type 0} → (L → Bool) → Bool → List ℕ → List ℕ → Edge L → Bool
 goes_on is shown with_it without_it edge = nat_lt 0 (count_at (cond (shown || is edge.label) with_it without_it) edge.to)

@@ -3,7 +3,7 @@ use Rattle.std.specs.Prelude.{◌≡◌, ℕ, Bool, not, cond, List, [], ◌∷�
 use Rattle.std.specs.List.{flat_map, list_any}
 use Rattle.schedule_graph.specs.declared.graph.Edge.{Edge}
 
--- a layer of a graph: for each state, the edges that lead from it to the next layer
+-- a layer of a graph: for each state, the edges that lead from the state to the next layer
 abbrev pub Layer : Type 0 → Type 0
 Layer L = List (List (Edge L))
 
@@ -32,11 +32,11 @@ shows is path = list_any (λ edge. is edge.label) path
 abbrev pub AreCounts : {L : Type 0} → List (Layer L) → List ℕ → Type 0
 AreCounts layers counts = (state : ℕ) → slice_index_or counts state 0 ≡ length (paths layers state)
 
--- for each state of the first layer, its count is the number of paths from it that show a label satisfying `is`
+-- for each state of the first layer, its count is the number of paths from it on which some label satisfies `is`
 abbrev pub AreCountsWith : {L : Type 0} → (L → Bool) → List (Layer L) → List ℕ → Type 0
 AreCountsWith is layers counts = (state : ℕ) → slice_index_or counts state 0 ≡ length (filter (shows is) (paths layers state))
 
--- for each state of the first layer, its count is the number of paths from it that show no label satisfying `is`
+-- for each state of the first layer, its count is the number of paths from it on which no label satisfies `is`
 abbrev pub AreCountsWithout : {L : Type 0} → (L → Bool) → List (Layer L) → List ℕ → Type 0
 AreCountsWithout is layers counts =
     (state : ℕ) → slice_index_or counts state 0 ≡ length (filter (λ path. not (shows is path)) (paths layers state))
@@ -52,12 +52,12 @@ abbrev pub path_count : {L : Type 0} → List ℕ → List (Edge L) → ℕ
 path_count next [] = 1
 path_count next (edge ∷ edges) = sum_by (λ e. count_at next e.to) (edge ∷ edges)
 
--- The number of paths, from a state with the given edges, that show a label satisfying `is`. Once a path shows one, it
--- may go on in any way.
+-- The number of paths, from a state with the given edges, on which some label satisfies `is`. After such a label, a
+-- path may go on in any way.
 abbrev pub with_count : {L : Type 0} → (L → Bool) → List ℕ → List ℕ → List (Edge L) → ℕ
 with_count is next next_with edges = sum_by (λ e. cond (is e.label) (count_at next e.to) (count_at next_with e.to)) edges
 
--- the number of paths, from a state with the given edges, that show no label satisfying `is`
+-- the number of paths, from a state with the given edges, on which no label satisfies `is`
 abbrev pub without_count : {L : Type 0} → (L → Bool) → List ℕ → List (Edge L) → ℕ
 without_count is next_without [] = 1
 without_count is next_without (edge ∷ edges) =

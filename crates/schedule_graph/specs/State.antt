@@ -1,5 +1,5 @@
--- The equivalence of two run positions: each build has the same events, progress and abort flag, and a valid mark in
--- both or in neither.
+-- The equivalence of two positions in runs of a plan: each build has the same events, progress and abort flag, and a
+-- valid mark in both or in neither.
 use Rattle.std.specs.Prelude.{◌≡◌, ℕ, Bool, false, List, map, Option, Some, None, option_map}
 use Rattle.host_ledger.specs.declared.mark.Mark.{Mark}
 use Rattle.realm_host.specs.Interleaving.{DifferInInterleaving}

@@ -14,8 +14,9 @@ ghost use Rattle.schedule_graph.specs.Graph.{first_of, IsGraph, IsPathRun};
 ghost use Rattle.schedule_graph.specs.Paths.{Layer, paths};
 ghost use Rattle.schedule_graph.specs.State.{AreOneState, IsAlsoTaken, AreAlsoTaken};
 
-/// Proves that run positions in the same state have the same possible turns and answers. The next steps are the same
-/// too, and so is the map of the host. A turn, or any number of them, leads from two such positions to one state again.
+/// Proves that two positions of a plan's runs, if they are in the same state, have the same possible turns and answers.
+/// The next steps are the same too, and so is the map of the host. A turn, or any number of them, leads from two such
+/// positions to one state again.
 pub fn a_state_decides_its_turns()
     ensures steps { (plan : Plan) (one other : Position) → AreOneState one other → (build : ℕ)
         → step_after plan build (place_of other.places build).done ≡ step_after plan build (place_of one.places build).done }

@@ -1,4 +1,4 @@
--- A proof that no granule is free if none of the free flags is set.
+-- A proof that no granule is free if no granule's free flag is set.
 use Rattle.std.proofs.Common.{◌≡◌, ℕ, zero, suc, List, [], ◌∷◌, Bool, true, false, refl, length}
 use Rattle.std.proofs.Math.Nat.{suc-ne-zero}
 use Rattle.std.specs.List.{filter}

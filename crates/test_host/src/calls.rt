@@ -1,5 +1,5 @@
-//! Test scripts: calls to a host, with the expected answers. A script has calls of the host's builds, and readings of
-//! the host's state.
+//! The calls to a host in a test script, with the expected answers. A script has calls of the host's builds, and
+//! readings of the host's state.
 use crate::expected::holds_at;
 use crate::hosts::{booted, over_arena};
 use crate::lines::No;
@@ -11,7 +11,7 @@ use realm_host::{Cmd, GranuleState, Host, Kind, Mark, RealmState, Refusal, Reply
 use std::alloc::Global;
 use std::process::Abort;
 
-/// A test script: a sequence of calls, each with the number of its build.
+/// A sequence of calls to a host in a test, each with the number of its build.
 pub(crate) type Script = &'static [(u8, Call)];
 
 /// A command in a test script, which a build gives the host.

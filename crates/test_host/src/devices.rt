@@ -83,7 +83,7 @@ impl Write for Sink {
     }
 }
 
-/// The call to a device that fails, if any. Reads and writes are counted from 0.
+/// The read, write or flush that fails, if any does. Reads and writes are counted from 0.
 #[derive(Clone, Copy)]
 pub(crate) enum Failing {
     Nothing,
@@ -150,8 +150,8 @@ impl<'a> Devices<'a> {
     }
 }
 
-/// The expected outcome of a tested program: its result, the input that it leaves, and its output. The input left is a
-/// number of bytes. With the output are the numbers of writes and flushes.
+/// The expected outcome of a tested program: its result, the input that it leaves unread, and its output. The unread
+/// input is a number of bytes. With the output are the numbers of writes and flushes.
 #[derive(Clone, Copy)]
 pub(crate) struct Outcome<'a> {
     pub end: Result<(), Fault>,

@@ -1,5 +1,5 @@
-//! Guests: builds that share a host in a test. Each guest has a seat, and the guests' steps differ only in a fill
-//! value.
+//! The builds that share a host in a test, called guests. Each guest has a seat, and the guests' steps differ only in a
+//! fill value.
 ghost use Rattle.std.specs.Prelude.{◌≡◌, ◌≤◌, [], length, vec_capacity};
 
 use crate::expected::push;

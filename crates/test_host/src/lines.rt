@@ -19,11 +19,11 @@ pub(crate) enum No {
     Page(u16),
 }
 
-/// An expected answer to a step, or to another question of a build's worker.
+/// An expected answer to a step of a build, or to an undo after a refused step.
 #[derive(Drop)]
 pub(crate) enum Want {
     Done,
-    /// The reply to a Take step: the first page of the leased block.
+    /// The first page of the block that a Take step leased.
     Page(u16),
     Byte(u8),
     Marked(u16),
@@ -46,7 +46,7 @@ pub(crate) enum Line {
 }
 
 impl No {
-    /// Converts this reason to the host's.
+    /// Converts this reason to a `Refusal`, for comparison with the host's.
     pub(crate) fn of_host(&self) -> Refusal {
         match self {
             No::Build => Refusal::NoBuild,

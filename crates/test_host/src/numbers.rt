@@ -1,4 +1,5 @@
-//! Tests of IPA granules and widths, result words and table entries. The expected values are worked out by hand.
+//! Tests of IPA widths, of the RTT entry that covers an IPA granule, and of the words that encode results and RTT
+//! entries. The expected values are worked out by hand.
 use crate::expected::{equal, holds_at};
 use crate::names::granule;
 use granule_addr::{IpaGran, IpaWidth, Level, index_at, is_protected, start_table};

@@ -1,4 +1,4 @@
-//! Checks that reports of guest builds have the expected lines.
+//! Checks that the reports of builds that share a host have the expected lines.
 use crate::expected::{equal, holds_at};
 use crate::lines::{Line, No, Want, has_line};
 use crate::steps::{ENTER, STEPS};

@@ -1,4 +1,4 @@
-//! Steps of builds, spelled as in a plan.
+//! Steps of builds for tests, spelled as in a plan.
 use crate::expected::push;
 use host_commands::{Cmd, Step};
 use realm_plan::step_from_text;

@@ -1,4 +1,4 @@
-//! Tests of the words in translation tables, with both `PlainStore` and `BuddyArena`.
+//! Tests that translation tables have the expected 64-bit words in memory, with both `PlainStore` and `BuddyArena`.
 //!
 //! The words are written and cleared as a realm's tables and its page are made and removed.
 ghost use Rattle.std.specs.Prelude.{◌≡◌, true, length, replicate};

@@ -1,4 +1,4 @@
-//! A test client of a host, which itself refuses at most one chosen request of a worker.
+//! A host client for tests that itself refuses at most one chosen request of a worker.
 ghost use Rattle.std.specs.Prelude.{◌+◌, ◌*◌};
 
 use builders::{Ledgers, SeatTeller, Teller};

@@ -17,7 +17,7 @@ pub enum Waiting {
     ForBuild1,
 }
 
-/// A turn scheduler for three builds, under which some of them wait for another one. The scheduler counts the turns
+/// A turn scheduler for three builds, which makes some builds wait for another build. The scheduler counts the turns
 /// that each build has passed.
 #[derive(Drop)]
 pub struct Turns<'a, C: Clock> {

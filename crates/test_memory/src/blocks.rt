@@ -1,4 +1,4 @@
-//! A timed test that takes a block of pages and gives it back many times.
+//! A timed test that takes a block and gives it back many times.
 use crate::{Fault, tell};
 use buddy::BuddyArena;
 use granule_addr::{Gran, Order};

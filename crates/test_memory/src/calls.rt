@@ -99,7 +99,7 @@ fn realm_command(turn: u8, offset: PageOff) -> Cmd {
     }
 }
 
-/// The number of commands in the test's sequence, which the function `command` returns one by one.
+/// The number of commands in the sequence that the function `command` returns one by one.
 pub(crate) const TURNS: u8 = 22;
 
 // Asks for the number of open operations above a mark, and then rolls the build back to the mark.

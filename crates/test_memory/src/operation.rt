@@ -1,10 +1,10 @@
-//! Operations on an RMM: calls, the host's writes to memory, and steps of guests.
+//! Operations on an RMM: RMI calls, the host's writes to memory, and steps of a guest's program.
 use page_arena::PlainStore;
 use rmi_abi::Registers;
 use rmm::Rmm;
 use rmm_model::{Queued, StepWords};
 
-/// An operation on an RMM: a call, a memory write, or a guest's step.
+/// A call, a memory write, or a guest's step, as an operation on an RMM.
 #[derive(Clone, Copy)]
 pub(crate) enum Operation {
     Call(Registers),

@@ -1,5 +1,4 @@
-//! Tests of a shared host: calls through a session handle (`Seat`), and the run of a worker. The calls go through the
-//! seat of one build, and the worker is for the other build.
+//! Tests that call a shared host through one build's seat, and then run a worker for another build.
 ghost use Rattle.std.specs.Prelude.{◌≡◌, ◌≤◌, [], All, IfOk, vec_len};
 ghost use Rattle.build_seats.specs.Names.{AreNamed};
 

@@ -57,13 +57,14 @@ module _ (rows : List EvaluatedCheck) (row : EvaluatedCheck) (left : List Evalua
   })
   on_by Passed is (inr told) fails other = inr (extends_on _ text new told (extends_same text new (other refl).1))
 
-  -- the invariant holds after one more check, if a failed check appends its line and any other check changes nothing
+  -- the invariant holds after one more check, if the check appends its line when it fails, and changes nothing when it
+  -- does not
   pub tells_on : Tells rows (row ∷ left) is_first begun text → (is_failure row.outcome ≡ true → Extends (text ++ failed_text is_first row.condition) new)
       → (is_failure row.outcome ≡ false → (next ≡ is_first) × (new ≡ text)) → Tells rows left next begun new
   tells_on t fails other = on_by row.outcome refl t fails other
 
--- the invariant holds after the check at index `i`, if a failed check appends its line and any other check changes
--- nothing
+-- the invariant holds after the check at index `i`, if that check appends its line when it fails, and changes nothing
+-- when it does not
 pub tells_at : (rows : List EvaluatedCheck) (i : ℕ) (d : EvaluatedCheck) (is_first next : Bool) (begun text new : List ℕ) → i < length rows → Tells rows (drop i rows) is_first begun text
     → (is_failure (get_or rows i d).outcome ≡ true → Extends (text ++ failed_text is_first (get_or rows i d).condition) new)
     → (is_failure (get_or rows i d).outcome ≡ false → (next ≡ is_first) × (new ≡ text)) → Tells rows (drop (i + 1) rows) next begun new

@@ -1,5 +1,4 @@
--- Proofs that the loop over a part of the input keeps its invariant: the lines in the front of the part have been
--- taken.
+-- Proofs about the loop over a part of the input: the session has taken the lines that end before the loop's position.
 use Rattle.std.proofs.Common.{◌≡◌, ℕ, ◌<◌, true, false, List, [], ◌∷◌, ◌++◌, length, refl, sym, ◌∙◌, ap, subst, append_assoc, append-nil, arith, length-append}
 use Rattle.std.specs.Prelude.{Some, None}
 use Rattle.command_line.specs.declared.rmitrace.TraceSubcommand.{TraceSubcommand}
@@ -11,7 +10,8 @@ use Rattle.trace_program.proofs.Parts.{cut_none, cut_some, no_feed_before}
 use Rattle.trace_program.proofs.Taken.{done_taken, line_taken, part_taken}
 
 module _ (asked : TraceSubcommand) (source : List ℕ) (first : Session) (begun texts : List ℕ) where
-  -- if the lines of the bytes before a part were taken, the lines of these bytes with the part's front are taken too
+  -- Reading the bytes `front` leads a run from session `first` to session `s`, whatever bytes were read before. The
+  -- bytes kept of the last line change from `begun` to `line`, and the text from `texts` to `text`.
   abbrev pub FrontTaken : List ℕ → Session → (line text : List ℕ) → Type 0
   FrontTaken front s line text = (read written : List ℕ) → IsTraceLineTaken asked source read written first begun texts → IsTraceLineTaken asked source (read ++ front) written s line text
 
@@ -37,7 +37,8 @@ module _ (asked : TraceSubcommand) (source : List ℕ) (first : Session) (begun 
         subst (λ (x : List ℕ). IsTraceLineTaken asked source x written s line text) (append_assoc read front more)
         (done_taken asked source (read ++ front) written s line text (f read written t) more done)
 
--- a part is its front, the next line with its line feed, and the bytes after that line
+-- a part with a line feed after the bytes `front` is `front`, the line with that line feed, and the bytes after the
+-- line
 pub line_split : (part front rest after : List ℕ) → part ≡ front ++ rest → after_mark 10 rest ≡ Some after → part ≡ (front ++ (before_mark 10 rest ++ 10 ∷ [])) ++ after
 line_split part front rest after split some =
     split ∙ ap (λ (x : List ℕ). front ++ x) (cut_some rest after some) ∙ sym (append_assoc front (before_mark 10 rest ++ 10 ∷ []) after)
@@ -52,7 +53,7 @@ after_shorter rest after some =
 
 -- ---- the loop over the lines of a part
 
--- The front of the part is taken, and the rest is left.
+-- The lines in the first bytes of the part, `front`, are taken, the bytes `rest` are left, and the check is not done.
 pub record HasFront (asked : TraceSubcommand) (source : List ℕ) (first : Session) (begun texts part rest : List ℕ) (s : Session) (line text : List ℕ) : Type 0 where
   pub front : List ℕ
   pub split : part ≡ front ++ rest
@@ -60,7 +61,7 @@ pub record HasFront (asked : TraceSubcommand) (source : List ℕ) (first : Sessi
   pub taken : FrontTaken asked source first begun texts front s line text
 
 module _ (asked : TraceSubcommand) (source : List ℕ) (first : Session) (begun texts part rest : List ℕ) (s : Session) (line text : List ℕ) (h : HasFront asked source first begun texts part rest s line text) where
-  -- `kept` has the bytes that are kept of the line once `more` is appended to the line
+  -- whenever `line` is what a run keeps of the bytes `begin`, `kept` is what the run keeps of `begin ++ more`
   abbrev Keeps : List ℕ → List ℕ → Type 0
   Keeps more kept = (begin : List ℕ) → line ≡ kept_of_line begin → kept ≡ kept_of_line (begin ++ more)
 
@@ -87,6 +88,6 @@ module _ (asked : TraceSubcommand) (source : List ℕ) (first : Session) (begun 
       (front_part asked source first begun texts h.front s line text h.taken rest kept h.going none
       (λ begin is. keeps begin is ∙ ap (λ (x : List ℕ). kept_of_line (begin ++ x)) cut))
 
--- unless the check is done, the loop over a part can begin with an empty front and all of the part left
+-- unless the check is done, `HasFront` holds before the loop over a part, with no bytes taken and the whole part left
 pub no_front : (asked : TraceSubcommand) (source : List ℕ) (first : Session) (begun texts part : List ℕ) → is_check_done asked first ≡ false → HasFront asked source first begun texts part part first begun texts
 no_front asked source first begun texts part going = record { front = []; split = refl; going = going; taken = front_none asked source first begun texts }

@@ -1,4 +1,4 @@
--- A proof that a check which cannot count another line has read at least 2^64 - 1 bytes.
+-- A proof that a run of `check` that cannot count another line has read at least 2^64 - 1 bytes.
 use Rattle.std.proofs.Common.{◌≡◌, ℕ, ◌+◌, ◌-◌, ◌<◌, ◌≤◌, ◌==◌, List, [], ◌∷◌, ◌++◌, length, map, refl, sym, ap, subst, ◌∙◌, arith, zero-le, length-append, inl, inr}
 use Rattle.std.specs.Prelude.{◌^◌, Result, Ok, Err, IsErrAnd}
 use Rattle.std.proofs.lemmas.List.{length-map}
@@ -133,7 +133,7 @@ longer count read part at_least = omega (arith, at_least, length-append read par
 
 -- ---- errors
 
--- an error that is passed on is the error that the call returned
+-- if a call's result is the error `error`, and is also `Err asked`, then `Err error` equals `Err asked`
 pub passed_on : {T S : Type 0} (result : Result T TraceError) (error asked : TraceError) → IsErrAnd result (λ other. other ≡ error) → result ≡ Err asked
     → ◌≡◌ {A = Result S TraceError} (Err error) (Err asked)
 passed_on (Ok x) error asked same is = absurd same

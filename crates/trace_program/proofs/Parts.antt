@@ -1,5 +1,4 @@
--- Lemmas about splitting a text at line feeds: appended bytes extend the last line or begin new lines, and earlier
--- lines stay.
+-- Lemmas that bytes appended to a text extend its last line or begin new lines, and that earlier lines stay.
 use Rattle.std.proofs.Common.{◌≡◌, ℕ, ◌<◌, ◌==◌, Bool, true, false, cond, not, List, [], ◌∷◌, ◌++◌, length, refl, sym, ap, ◌∙◌, subst, append_assoc, append-nil, arith, length-append, true-eqb, inl, inr}
 use Rattle.std.specs.Prelude.{Option, Some, None}
 use Rattle.std.specs.List.{list_all, onto_first}
@@ -8,7 +7,7 @@ use Rattle.std.proofs.lemmas.List.Splits.{length-slice_split}
 use Rattle.checked_io.specs.Lines.{parts_of, last_line, without_empty_last, lines_in}
 use Rattle.rmm_trace.specs.Cuts.{before_mark, after_mark}
 
--- the parts with one byte more at the end of the last one
+-- the parts of a text between line feeds, with one byte more at the end of the last part
 abbrev onto_last : ℕ → List (List ℕ) → List (List ℕ)
 onto_last b [] = []
 onto_last b (part ∷ []) = (part ++ b ∷ []) ∷ []
@@ -98,7 +97,7 @@ cut_none (b ∷ bs) is =
 
 -- ---- parts that stay with more bytes
 
--- The parts of the bytes begin with `lines`, and there are more parts after these.
+-- The parts of `bytes` between line feeds begin with `lines`, and more parts follow.
 pub record Grows (bytes : List ℕ) (lines : List (List ℕ)) : Type 0 where
   pub left : List (List ℕ)
   pub cut : parts_of bytes ≡ lines ++ left

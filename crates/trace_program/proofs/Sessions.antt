@@ -4,7 +4,7 @@ use Rattle.command_line.specs.declared.rmitrace.TraceSubcommand.{TraceSubcommand
 use Rattle.trace_program.specs.declared.session.Session.{Session}
 use Rattle.trace_program.specs.Session.{IsLineText, IsSession, after_line, is_check_done}
 
--- a test is not both true and false
+-- no Boolean is both true and false
 pub not_both : (b : Bool) → b ≡ true → b ≡ false → ⊥
 not_both true e f = absurd (cc)
 not_both false e f = absurd (cc)

@@ -1,5 +1,5 @@
--- Proofs that a line's question and answer fit within the line, and that the bytes after the answer are the line's
--- tail.
+-- Proofs that a line's question and answer fit within the line, and that the bytes after both are those that `tail_of`
+-- gives.
 use Rattle.std.proofs.Common.{◌≡◌, ℕ, ◌+◌, ◌≤◌, ◌==◌, Bool, true, false, cond, ◌&&◌, List, [], ◌∷◌, length, drop, codes, refl, arith, length-drop, drop-drop, ap, ◌∙◌}
 use Rattle.std.specs.Prelude.{nat_eq, Option, Some, None}
 use Rattle.std.specs.List.{starts_with}

@@ -1,4 +1,4 @@
--- Proofs that the lines of a trace are taken one after another while the input is read in parts.
+-- Proofs that a session takes the lines of a trace one after another, while the input is read in parts.
 use Rattle.std.proofs.Common.{◌≡◌, ℕ, ◌<◌, Bool, true, false, List, [], ◌∷◌, ◌++◌, length, map, refl, sym, ap, ◌∙◌, subst, append_assoc, append-nil, arith}
 use Rattle.std.proofs.lemmas.List.{map-append}
 use Rattle.checked_io.specs.Lines.{lines_in, parts_of, without_empty_last}

@@ -52,11 +52,11 @@ front_longer old new text more w = record {
 whole_front : (old new : Option (List ℕ)) (text : List ℕ) → Appends old new text → AppendsFront old new text
 whole_front old new text written = record { front = text; rest = []; split = sym (append-nil text); grows = written }
 
--- if nothing was written, a prefix of the text was written: the empty one
+-- if the output is unchanged, the empty prefix of the text was written to it
 pub nothing_front : (old : Option (List ℕ)) (text : List ℕ) → AppendsFront old old text
 nothing_front old text = record { front = []; rest = text; split = refl; grows = appends_none old }
 
--- a property of lines that are taken with an empty text holds of lines that are taken with no text
+-- if `text` is empty, a claim about lines taken with the text `text` also holds for lines taken with no text
 pub from_no_text : (asked : TraceSubcommand) (source : List ℕ) (s : Session) (line text : List ℕ) (P : List ℕ → List ℕ → Type 0) → text ≡ []
     → ((read written : List ℕ) → IsTraceLineTaken asked source read written s line text → P read written) → (read written : List ℕ) → IsTraceLineTaken asked source read written s line [] → P read written
 from_no_text asked source s line text P empty takes read written t = takes read written (subst (λ (x : List ℕ). IsTraceLineTaken asked source read written s line x) (sym empty) t)

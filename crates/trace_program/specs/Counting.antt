@@ -20,8 +20,8 @@ count_of c Same = c.same
 count_of c Allowed = c.allowed
 count_of c Wrong = c.wrong
 
--- A line with the given verdict cannot be counted: the count of all lines, or of those with this verdict, has reached
--- its maximum.
+-- A line with the given verdict cannot be counted, because the count of all lines, or of the lines with this verdict,
+-- has reached its maximum.
 abbrev pub IsCountFull : Counts → LineVerdict → Type 0
 IsCountFull c verdict = (2 ^ 64 - 1 ≤ c.lines) ⊎ (2 ^ 64 - 1 ≤ count_of c verdict)
 

@@ -24,7 +24,7 @@ use Rattle.trace_program.specs.LineText.{name_place, raw_call, read}
 
 -- ---- lines that are no command
 
--- a word's value is the name with the given index
+-- a word's value is the name with the given index in the table of names
 abbrev pub is_name_place : Atom → ℕ → Bool
 is_name_place (Name place) name = place == name
 is_name_place _ name = false
@@ -44,7 +44,7 @@ is_no_command reply = are_no_command reply.words.items
 
 -- ---- names of lines
 
--- a word is the name of a check in the set
+-- the atom is the name of a check, and the set has this name
 abbrev pub is_check_in : NameSet → Atom → Bool
 is_check_in set (Name place) = nat_le FIRST_CHECK place && is_name_in set place
 is_check_in set _ = false
@@ -56,7 +56,7 @@ abbrev pub has_check_written : NameSet → Option (List TraceWord) → Bool
 has_check_written set (Some words) = has_check set words
 has_check_written set None = false
 
--- the call or the fill that a question repeats, or the question itself if it is not a repeat
+-- the call or the fill inside a `repeat`, or the given words if they are no `repeat`
 abbrev pub repeated : List TraceWord → List TraceWord
 repeated [] = []
 repeated (w ∷ []) = w ∷ []
@@ -66,18 +66,19 @@ abbrev pub call_place : Option (List TraceWord) → List TraceWord → ℕ
 call_place (Some call) question = name_place call
 call_place None question = name_place (repeated question)
 
--- the index of the name of a question's command; for a repeat or a raw call this is the command inside it
+-- the index, in the table of names, of a line's first word, of the command or `fill` inside a `repeat`, or of the
+-- command that an `smc` call makes
 unfoldable pub command_place : List TraceWord → ℕ
 command_place question = call_place (raw_call question) question
 
--- A set has the name of a line's question or command, or of a check in one of the line's answers.
+-- The set has the first word of a trace line, the line's command, or a check that one of the line's answers names.
 unfoldable pub is_named : NameSet → List TraceWord → List ℕ → TraceReply → Bool
 is_named set question written reply =
     is_name_in set (name_place question) || is_name_in set (command_place question) || has_check set reply.words.items || has_check_written set (read written)
 
 -- ---- lines that are compared
 
--- the line has one of the names that are asked for, or none are asked for
+-- the line has one of the names that are asked for, or no names are asked for
 abbrev pub is_asked_for : Option NameSet → List TraceWord → List ℕ → TraceReply → Bool
 is_asked_for None question written reply = true
 is_asked_for (Some only) question written reply = is_named only question written reply
@@ -86,15 +87,14 @@ abbrev pub is_left_out : Option NameSet → List TraceWord → List ℕ → Trac
 is_left_out None question written reply = false
 is_left_out (Some skip) question written reply = is_named skip question written reply
 
--- A line is compared if it has one of the names that are asked for, if any are, and none of the names that are left
--- out.
+-- A line is compared if it passes `is_asked_for`, and has none of the names that are left out.
 unfoldable pub is_compared : Comparison → List TraceWord → List ℕ → TraceReply → Bool
 is_compared asked question written reply =
     is_asked_for asked.only question written reply && not (is_left_out asked.skip question written reply)
 
 -- ---- verdicts
 
--- the verdict on an answer, as the verdict on its line
+-- the verdict on a line, given the verdict on its answer
 abbrev pub as_line_verdict : Verdict → LineVerdict
 as_line_verdict answer.Same = Same
 as_line_verdict answer.Allowed = Allowed
@@ -104,12 +104,13 @@ abbrev pub answer_verdict : Comparison → Option Machine → List TraceWord →
 answer_verdict asked m question written reply =
     if is_compared asked question written reply then as_line_verdict (judged m question written reply) else NotCompared
 
--- the verdict on a line that is not a command, which is `Same` only if the written answer is `no command`
+-- the verdict on a line that is not a command: `Same` if the written answer is `no command`, and otherwise `Wrong`
 abbrev pub no_command_verdict : Option (List ℕ) → LineVerdict
 no_command_verdict (Some written) = if bytes_eq written (codes "no command") then Same else Wrong
 no_command_verdict None = Wrong
 
--- the verdict on a question with a written answer; any other line is not compared
+-- the verdict on the written answer of a `Question` line; a line of another kind, or without a written answer, is not
+-- compared
 abbrev pub question_verdict : Comparison → Option Machine → LineKind → List TraceWord → Option (List ℕ) → TraceReply → LineVerdict
 question_verdict asked m Question q (Some written) reply = answer_verdict asked m q written reply
 question_verdict asked m kind q written reply = NotCompared

@@ -1,4 +1,5 @@
--- The output text for a trace line: the line with its answer, or rewritten with the names of commands and outputs.
+-- The text printed for a trace line: the line with the model's answer, or with names in place of a raw SMC call's
+-- numbers.
 use Rattle.std.specs.Prelude.{ℕ, ◌==◌, if◌then◌else◌, List, [], ◌∷◌, ◌++◌, codes, drop, length, Option, Some, None, option_and_then}
 use Rattle.std.specs.List.{slice_split}
 use Rattle.rmm_trace.specs.declared.line.RmmTraceLine.{RmmTraceLine}
@@ -48,12 +49,12 @@ answered_text bytes line reply = answered_text_by line.kind bytes reply
 
 -- ---- names
 
--- the index of the name that is a question's first word, or `DASH` if there is no such name
+-- the index of the name that is the first word of a trace line, or `DASH` if there is no such name
 abbrev pub name_place : List TraceWord → ℕ
 name_place [] = DASH
 name_place (w ∷ ws) = place_of w.value
 
--- the question rewritten with the name of its command, if it is a raw call of a command
+-- the given words rewritten with the command's name, if they are an `smc` call of a command
 abbrev pub raw_call : List TraceWord → Option (List TraceWord)
 raw_call question = if name_place question == SMC then named_question question else None
 
@@ -61,7 +62,7 @@ abbrev pub question_named_by : LineKind → List TraceWord → Option (List Trac
 question_named_by Question q = raw_call q
 question_named_by _ q = None
 
--- the question of a line, rewritten with the name of its command, if the line is a raw call of a command
+-- the words of a trace line rewritten with the command's name, if the line is an `smc` call of a command
 abbrev pub question_named : RmmTraceLine → Option (List TraceWord)
 question_named line = question_named_by line.kind line.words.items
 
@@ -69,7 +70,7 @@ abbrev pub answer_named_by : LineKind → List TraceWord → List ℕ → Option
 answer_named_by Question q written = option_and_then (named_answer q) (read written)
 answer_named_by _ q written = None
 
--- the written answer to a raw call, rewritten with the names of the outputs, if this is possible
+-- the written answer to an `smc` call, rewritten with the names of the outputs, if this is possible
 abbrev pub answer_named : RmmTraceLine → List ℕ → Option (List TraceWord)
 answer_named line written = answer_named_by line.kind line.words.items written
 
@@ -86,7 +87,7 @@ abbrev pub named_by : List ℕ → RmmTraceLine → Option (List TraceWord) → 
 named_by bytes line (Some question) = sentence_text question ++ sign_and_named line (written_in bytes) ++ (tail_of bytes ++ 10 ∷ [])
 named_by bytes line None = bytes ++ 10 ∷ []
 
--- The text of a trace line, with a raw call rewritten with the names of its command and outputs. A line that cannot be
--- rewritten so is as it was.
+-- The text of a trace line, with an `smc` call rewritten with the names of its command and outputs. A line that cannot
+-- be rewritten so is as it was.
 unfoldable pub named_text : List ℕ → RmmTraceLine → List ℕ
 named_text bytes line = named_by bytes line (question_named line)

@@ -1,4 +1,5 @@
--- The run of a trace: the lines read from the input and the text written for them, up to the end or an error.
+-- The lines that a run of a trace reads, and the text that the run writes for them, up to the end of the input or an
+-- error.
 use Rattle.std.specs.Prelude.{◌≡◌, ℕ, ◌<◌, ◌≤◌, Bool, true, false, List, [], ◌∷◌, ◌++◌, length, map, take, Option, ◌⊎◌}
 use Rattle.std.specs.Io.KnownBytes.{Appends, Consumes, IsAtEnd}
 use Rattle.checked_io.specs.Lines.{lines_in, parts_of}
@@ -11,8 +12,8 @@ use Rattle.trace_program.specs.declared.session.Session.{Session}
 use Rattle.trace_program.specs.Counting.{summary_text, trace_verdict}
 use Rattle.trace_program.specs.Session.{IsSession, fresh_session, is_check_done}
 
--- The bytes that a run keeps of a line: 65,537 at most. That is one more than a line with a question may have, so a
--- line that is too long is recognized.
+-- The first 65,537 bytes of a line, which are all that a run keeps of the line. That is one more than a line with a
+-- question may have, so a line that is too long is recognized.
 unfoldable pub kept_of_line : List ℕ → List ℕ
 kept_of_line line = take 65537 line
 
@@ -22,14 +23,14 @@ taken_lines bytes = map kept_of_line (lines_in bytes)
 
 -- ---- bytes that were read
 
--- only the beginning of the next line is left, and `line` has the bytes that are kept of it
+-- only the beginning of the next line is left, and `line` has the bytes that are kept of that line
 pub record HasRest (left : List (List ℕ)) (line : List ℕ) : Type 0 where
   pub rest : List ℕ
   pub alone : left ≡ rest ∷ []
   pub is_kept : line ≡ kept_of_line rest
 
--- A run has taken lines of the bytes that were read, and their output texts are `written` followed by `text`. Unless
--- the check is done, only the beginning of the next line is left.
+-- A run has taken lines that it read from the input, and the output texts of these lines are `written` followed by
+-- `text`. Unless the check is done, only the beginning of the next line is left.
 pub record IsTraceLineTaken (asked : TraceSubcommand) (source read written : List ℕ) (s : Session) (line text : List ℕ) : Type 0 where
   pub lines : List (List ℕ)
   pub left : List (List ℕ)
@@ -38,11 +39,11 @@ pub record IsTraceLineTaken (asked : TraceSubcommand) (source read written : Lis
   pub begun : is_check_done asked s ≡ false → HasRest left line
   pub session : IsSession asked source fresh_session (map kept_of_line lines) (written ++ text) s
 
--- A run has taken all lines of the bytes that were read.
+-- A run has taken the lines that it read, to the last one or until its check was done.
 abbrev pub AreTraceLinesTaken : TraceSubcommand → (source read written : List ℕ) → Session → List ℕ → Type 0
 AreTraceLinesTaken asked source read written s text = IsSession asked source fresh_session (taken_lines read) (written ++ text) s
 
--- a run is under way: it has taken lines of the bytes that the reader gave, and the writer has got their texts
+-- a run under way has taken lines that it read from the input, and has written their output texts
 pub record IsUnderway (asked : TraceSubcommand) (source : List ℕ) (input left old new : Option (List ℕ)) (s : Session) (line : List ℕ) : Type 0 where
   pub read : List ℕ
   pub consumed : Consumes input left read
@@ -62,7 +63,7 @@ pub record HasReadPart (before : List ℕ) (input left : Option (List ℕ)) : Ty
   pub consumed : Consumes input left (before ++ part)
   pub short : length part ≤ 4096
 
--- The last part of the input that was read has at most 4,096 bytes, and the check was not yet done before it.
+-- The last part of the input that was read has at most 4,096 bytes, and the check was not done before that part.
 pub record IsReadToStop (asked : TraceSubcommand) (source : List ℕ) (input left : Option (List ℕ)) : Type 0 where
   pub before : List ℕ
   pub last : HasReadPart before input left
@@ -74,7 +75,7 @@ pub record IsReadToStop (asked : TraceSubcommand) (source : List ℕ) (input lef
 
 -- ---- ends
 
--- A run is over: the input was read to its end, or the check is done.
+-- A run has read the whole input or finished its check, and has written the texts of the lines that it has taken.
 pub record IsOver (asked : TraceSubcommand) (source : List ℕ) (input left old new : Option (List ℕ)) (s : Session) : Type 0 where
   pub read : List ℕ
   pub consumed : Consumes input left read
@@ -83,12 +84,12 @@ pub record IsOver (asked : TraceSubcommand) (source : List ℕ) (input left old 
   pub session : IsSession asked source fresh_session (taken_lines read) text s
   pub written : Appends old new text
 
--- whether there may be more to read: if true, the run is under way and its check is not done; if false, the run is over
+-- if the run reads on, it is under way and its check is not done; otherwise it is over
 abbrev pub ReadsOn : Bool → TraceSubcommand → (source : List ℕ) → (input left old new : Option (List ℕ)) → Session → List ℕ → Type 0
 ReadsOn true asked source input left old new s line = IsUnderway asked source input left old new s line × (is_check_done asked s ≡ false)
 ReadsOn false asked source input left old new s line = IsOver asked source input left old new s
 
--- the text that follows the texts of all lines: the counts if the run is a check, and otherwise nothing
+-- the text after the texts of all lines: the counts for a check, and otherwise nothing
 abbrev pub last_text : TraceSubcommand → Session → List ℕ
 last_text (asks.Check asked) s = summary_text s.counts
 last_text _ s = []
@@ -97,7 +98,7 @@ abbrev pub verdict_asked : TraceSubcommand → Session → TraceVerdict
 verdict_asked (asks.Check asked) s = trace_verdict s.counts
 verdict_asked _ s = Agrees
 
--- A complete run of a trace: its lines are taken in sequence, to the end of the input or until the check is done. The
+-- A complete run of a trace has taken its lines in sequence, to the end of the input or until the check is done. The
 -- texts of these lines are written, and after them the counts if the run is a check.
 pub record IsTraceRun (asked : TraceSubcommand) (source : List ℕ) (input left old new : Option (List ℕ)) (verdict : TraceVerdict) : Type 0 where
   pub read : List ℕ
@@ -109,8 +110,8 @@ pub record IsTraceRun (asked : TraceSubcommand) (source : List ℕ) (input left 
   pub is_verdict : verdict ≡ verdict_asked asked last
   pub written : Appends old new (text ++ last_text asked last)
 
--- A run that stops at an error: a prefix of the text for the first lines was written. For a check, the counts are last
--- in that text.
+-- A run that stops at an error has written the beginning of the text for the first lines of the input. For a check, the
+-- counts are last in that text.
 pub record IsCutShort (asked : TraceSubcommand) (source : List ℕ) (input left old new : Option (List ℕ)) : Type 0 where
   pub read : List ℕ
   pub consumed : Consumes input left read

@@ -1,4 +1,4 @@
--- The text that explains a refused call, which begins with the check that decides the answer.
+-- The text that explains a refused call: the text begins with the check that decides the answer.
 use Rattle.std.specs.Prelude.{◌≡◌, ℕ, Bool, true, false, List, [], ◌++◌, codes, Option, Some, None}
 use Rattle.rmm_model.specs.declared.answer.FailedCondition.{FailedCondition}
 use Rattle.rmm_model.specs.declared.condition.Condition.{Condition}
@@ -24,7 +24,7 @@ abbrev pub decision_text : Option FailedCondition → List ℕ
 decision_text (Some failed) = failed_text true failed.condition
 decision_text None = []
 
--- The reasons for a refusal begin with the first check that failed. Without checks there are no reasons.
+-- The text that explains a refused call begins with the first check that failed. Without checks the text is empty.
 abbrev pub TellsDecision : Option (List EvaluatedCheck) → List ℕ → Type 0
 TellsDecision (Some checks) text = Extends (decision_text (first_failed checks)) text
 TellsDecision None text = text ≡ []

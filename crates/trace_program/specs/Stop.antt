@@ -13,7 +13,7 @@ trace_status_of Memory = 3
 trace_status_of Device = 5
 trace_status_of TooLong = 5
 
--- the exit status for a verdict: 0 if the trace agrees, and 1 otherwise
+-- the exit status for a verdict, 0 if the trace agrees and 1 otherwise
 abbrev pub trace_verdict_status : TraceVerdict → ℕ
 trace_verdict_status Agrees = 0
 trace_verdict_status NothingSame = 1
@@ -22,6 +22,6 @@ trace_verdict_status Differs = 1
 abbrev pub trace_exit_status : Result (Ended TraceVerdict) (Stop TraceError) → ℕ
 trace_exit_status outcome = status_of_end trace_verdict_status trace_status_of outcome
 
--- an exit status of a program that stops without a verdict: 2, 3 or 5
+-- the exit status is that of a program that stops without a verdict: 2, 3 or 5
 abbrev pub IsTraceStatus : ℕ → Type 0
 IsTraceStatus status = (status ≡ 2) ⊎ (status ≡ 3) ⊎ (status ≡ 5)

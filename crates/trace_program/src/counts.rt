@@ -20,7 +20,7 @@ pub enum LineVerdict {
 /// The verdict on a whole trace, from the counts of its lines.
 #[derive(Clone, Copy)]
 pub enum TraceVerdict {
-    /// A trace that agrees with the model: no line is wrong, and at least one line has the model's answer.
+    /// A trace with no wrong line, and with at least one line that has the model's answer.
     Agrees,
     /// A trace in which no line has the verdict `Wrong` or `Same`.
     NothingSame,
@@ -46,7 +46,7 @@ fn one_more(count: u64) -> Result<u64, TraceError>
 }
 
 impl Counts {
-    /// The counts before the first line of a trace: all are 0.
+    /// The counts before the first line of a trace, all 0.
     pub const NONE: Counts = Counts {
         lines: 0,
         same: 0,

@@ -16,7 +16,7 @@ pub enum TraceError {
     /// A failed read or write.
     #[error("device")]
     Device,
-    /// A trace that is too long: it takes more than 2^64 - 1 reads, or a check of it has more than 2^64 - 1 lines.
+    /// A trace that takes more than 2^64 - 1 reads, or has more than 2^64 - 1 lines in a check.
     #[error("the trace is too long")]
     TooLong,
 }

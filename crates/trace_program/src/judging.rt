@@ -86,8 +86,8 @@ pub(crate) fn raw_call(question: &[TraceWord]) -> Option<Sentence>
     }
 }
 
-/// Returns the index of a question's command name in the table of names. For a repeat, or a raw call of a command, the
-/// result is the index of the inner command's name.
+/// Returns the index of a trace line's first word in the table of names. For an `smc` call of a command, the result is
+/// the index of the command's name. For a `repeat`, it is that of the command or `fill` that is repeated.
 #[tactic(auto, unfolding(crate::specs::Judged::command_place))]
 pub(crate) fn command_place(question: &[TraceWord]) -> usize
     ensures { result ≡ specs.command_place question.now }

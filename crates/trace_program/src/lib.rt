@@ -1,5 +1,4 @@
-//! The parts of the program `rmitrace`: the output text for trace lines, the check of a trace, and the outcomes of a
-//! run.
+//! The parts of `rmitrace` that write the output for trace lines, check a trace, and give the outcome of a run.
 //!
 //! A `Session` takes the lines of a trace one after another. It has no RMM before the first `platform`, and a new one
 //! from each of these on. `run` reads the lines and writes their texts.

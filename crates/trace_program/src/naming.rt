@@ -1,4 +1,4 @@
-//! The rewriting of raw SMC calls in a trace with the names of commands and outputs.
+//! Functions that rewrite a raw SMC call of a trace, so that the command and the outputs have their names.
 ghost use Rattle.std.specs.Prelude.{◌≡◌, ◌++◌, OnOk, option_map};
 ghost use Rattle.trace_program.specs.LineText.{answer_named, named_text, question_named};
 
@@ -28,8 +28,8 @@ fn answer_of(line: &RmmTraceLine, written: &[u8]) -> Option<Sentence>
     }
 }
 
-/// Appends a trace line, with a raw call rewritten with the names of its command and outputs. A line that is not raw or
-/// cannot be named is appended as it is.
+/// Appends a trace line, with an `smc` call rewritten with the names of its command and outputs. A line that is no
+/// `smc` call, or whose call cannot be named, is appended as it is.
 #[tactic(auto, unfolding(crate::specs::LineText::named_text))]
 pub(crate) fn push_named(
     text: &mut LineTexts,

@@ -17,9 +17,9 @@ fn first_word(text: &str) -> &str {
     text.split(' ').next().unwrap_or("")
 }
 
-/// Returns the word to suggest in place of a trace line's first word: the nearest of the words that can begin a
-/// question. Returns `None` if the line is not UTF-8, or if its first word is longer than 32 bytes. Also returns `None`
-/// if the first word is one of these words, or is near to none of them.
+/// Returns the word, of those that can begin a trace line, that is nearest to the first word of a given line. Returns
+/// `None` if the line is not UTF-8, or if its first word is longer than 32 bytes. Also returns `None` if the first word
+/// is one of these words, or is near to none of them.
 pub(crate) fn nearest_word(alloc: Global, line: &[u8]) -> Result<Option<&'static str>, AllocError> {
     let Ok(text) = str::from_utf8(line) else {
         return Ok(None);

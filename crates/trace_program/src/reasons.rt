@@ -158,7 +158,7 @@ pub(crate) fn hint(alloc: Global, bytes: &[u8], indent: &str) -> Result<String, 
     }
 }
 
-/// Returns the first line of a note on a trace line: the trace's name, the number of the line, and the verdict.
+/// Returns the first line of a note on a trace line, with the trace's name, the number of the line, and the verdict.
 pub(crate) fn heading(
     alloc: Global,
     source: &str,

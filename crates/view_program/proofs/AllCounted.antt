@@ -1,4 +1,5 @@
--- Proofs that the schedule count of a plan's explored state graph is the number of the plan's schedules.
+-- Proofs that the number of schedules counted on the graph of a plan's explored states is the number of the plan's
+-- schedules.
 use Rattle.std.proofs.Common.{ℕ, Bool, List, [], map, length, sym, ◌∙◌}
 use Rattle.std.proofs.lemmas.List.{length-map}
 use Rattle.realm_plan.specs.Plan.{Plan}

@@ -84,7 +84,8 @@ module _ (first : List ℕ) (o : Opening) (opens : IsOpeningText first o) where
 -- ---- the end
 
 module _ (erase : Option ℕ) (unread : Bool) (input : Option (List ℕ)) where
-  -- if there is no history, an end of `apply` that writes nothing is correct
+  -- if the error is a reason why no history was read, nothing was written, and a read failed if the error is `Device`,
+  -- then `IsApplyEnd` holds of the error
   pub no_history : (output : Option (List ℕ)) (fault : ViewError) → IsNoHistoryIn input fault → (fault ≡ Device → unread ≡ true) → IsApplyEnd erase unread input output output (Err fault)
   no_history output (NoPlan errors) none read = absurd none
   no_history output (Plan fault) none read = absurd none
@@ -96,7 +97,7 @@ module _ (erase : Option ℕ) (unread : Bool) (input : Option (List ℕ)) where
   no_history output Memory none read = keeps_same output
   no_history output Device none read = rw (read refl) (keeps_same output)
 
-  -- if there is a history but no map of it, an end of `apply` that writes nothing is correct
+  -- if the input is a history of which no map was made, and nothing was written, `IsApplyEnd` holds of the reason
   pub no_map : (output : Option (List ℕ)) (o : Opening) (host : HostView) (fault : ViewError) → IsHistoryIn input o host → HasNoMap erase o fault → IsApplyEnd erase unread input output output (Err fault)
   no_map output o host (NoPlan errors) history none = absurd none
   no_map output o host (Plan fault) history none = absurd none
@@ -108,17 +109,17 @@ module _ (erase : Option ℕ) (unread : Bool) (input : Option (List ℕ)) where
   no_map output o host Memory history none = keeps_same output
   no_map output o host Device history none = absurd none
 
-  -- if no read failed, an end of `apply` that writes a prefix of the map is correct after a failed write
+  -- if no read failed, and a prefix of the history's map was written, `IsApplyEnd` holds of the error `Device`
   pub cut_map : (old new : Option (List ℕ)) (o : Opening) (host : HostView) (text : List ℕ) → unread ≡ false → IsHistoryIn input o host → IsMap erase o host text → AppendsFront old new text
       → IsApplyEnd erase unread input old new (Err Device)
   cut_map old new o host text read history map written = rw read (record { text = text; map = record { o = o; host = host; history = history; map = map }; written = written })
 
-  -- if the input is a history and its whole map was written, the map is printed
+  -- if the input is a history and its whole map was written, `IsMapPrinted` holds
   pub printed_map : (old new : Option (List ℕ)) (o : Opening) (host : HostView) (text : List ℕ) → IsHistoryIn input o host → IsMap erase o host text
       → Appends old new text → IsMapPrinted erase input old new
   printed_map old new o host text history map written = record { text = text; map = record { o = o; host = host; history = history; map = map }; written = written }
 
--- if a history was read, no read failed
+-- if the outcome is `Ok`, and a read failed exactly if the outcome is the error `Device`, no read failed
 pub read_well : {A : Type 0} (failed : Bool) (it : A) → (failed ≡ true) ↔ (Ok it ≡ Err Device) → failed ≡ false
 read_well false it told = refl
 read_well true it told = let failed = told.0 refl in absurd (cc)

@@ -14,7 +14,8 @@ use Rattle.realm_plan.specs.declared.step.PlanStep.{PlanStep}
 use Rattle.plan_replay.specs.Run.{Position, Turn, place_of, step_after, turn_text, IsTurn, IsTurnOf}
 use Rattle.view_program.specs.Calls.{comment_start, is_refused_by_rmm, AppendsCallsOfTurn, AppendsCallsOfEvent, AppendsTurnAndCalls, AreCallsOfEvent}
 
--- if the call succeeds, the new text is `whole`
+-- if `new` is `whole` for an `Ok` result, and `old` for an error, `OnOk` holds of the result and the statement that
+-- `new` is `whole`
 pub if_ok : {T E : Type 0} (result : Result T E) (new whole old : List ℕ) → new ≡ (if is_ok result then whole else old) → OnOk result (new ≡ whole)
 if_ok (Ok done) new whole old is = is
 if_ok (Err error) new whole old is = tt

@@ -15,7 +15,7 @@ use Rattle.view_program.specs.Stop.{view_fault_of_read}
 use Rattle.view_program.specs.Checked.{verdict_of, IsReportOn, IsVerdictOn, AreErrorsOf, AreErrorsOfBytes, IsCheckEnd}
 use Rattle.view_program.specs.declared.fault.ViewError.TheVariants.{Device}
 
--- a report on the bytes that were kept of an input is a report on the input
+-- a report on the bytes that the program keeps of an input, `kept_of`, is a report on the input
 pub report_from_kept : (source : List ℕ) (known : Option (List ℕ)) (bytes : List ℕ) (report : LintReport) → IfSome known (λ xs. bytes ≡ kept_of xs) → IsReport source bytes report
     → IsReportOn source known report
 report_from_kept source None bytes report kept is = tt
@@ -29,7 +29,7 @@ pub verdict_from_kept : (source : List ℕ) (known : Option (List ℕ)) (bytes :
     → IsVerdictOn known (verdict_of report.is_plan)
 verdict_from_kept source known bytes report kept is = verdict_from_plan known bytes report.is_plan kept is.is_plan
 
--- the errors of the bytes that were kept are those of the input
+-- if `errors` lists the errors in the bytes that the program keeps of an input, `errors` lists those of the input
 pub errors_from_kept : (source : List ℕ) (known : Option (List ℕ)) (bytes errors : List ℕ) → IfSome known (λ xs. bytes ≡ kept_of xs) → AreErrorsOfBytes source bytes errors
     → AreErrorsOf source known errors
 errors_from_kept source known bytes errors kept are = record {
@@ -39,13 +39,14 @@ errors_from_kept source known bytes errors kept are = record {
   no_plan = verdict_from_plan known bytes false kept (sym are.no_plan);
 }
 
--- if an error ends the reading of the input, an end of `check` that writes nothing is correct
+-- if the error is a failed allocation, or is `Device` after a failed read, and nothing was written, `IsCheckEnd` holds
+-- of the error
 pub unreported : (source : List ℕ) (unread : Bool) (input output : Option (List ℕ)) (error : ReadError) → (error ≡ read_error.Device → unread ≡ true)
     → IsCheckEnd source unread input output output (Err (view_fault_of_read error))
 unreported source unread input output read_error.Memory read = keeps_same output
 unreported source unread input output read_error.Device read = rw (read refl) (keeps_same output)
 
--- if no read failed, an end of `check` that writes a prefix of the report is correct after a failed write
+-- if no read failed, and a prefix of the report on the input was written, `IsCheckEnd` holds of the error `Device`
 pub cut_report : (source : List ℕ) (unread : Bool) (input old new : Option (List ℕ)) (report : LintReport) → unread ≡ false → IsReportOn source input report → AppendsFront old new (string_bytes report.text)
     → IsCheckEnd source unread input old new (Err Device)
 cut_report source unread input old new report read of_input written = rw read (record { report = report; of_input = of_input; written = written })

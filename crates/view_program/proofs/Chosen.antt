@@ -1,5 +1,5 @@
--- Lemmas about chosen builds: a build that can be chosen for a turn has a step left, and one more choice extends a run
--- by a turn.
+-- Lemmas about the builds that are chosen for turns. A build that can be chosen has a step left, and one more choice
+-- extends a run by a turn.
 use Rattle.std.proofs.Common.{◌≡◌, ℕ, zero, suc, ◌<◌, Bool, true, false, List, [], ◌∷◌, ◌++◌, length, ◌+◌, Some, refl, sym, subst, ◌∙◌, cond, arith}
 use Rattle.std.specs.List.{find, range_with_len}
 use Rattle.std.proofs.lemmas.List.FromFn.{get_or-map-range_with_len}
@@ -23,7 +23,7 @@ found_is p (y ∷ xs) x is =
       | false ↦ λ not_here there. found_is p xs x there
     ] refl is
 
--- a build that could have the turn has a step left
+-- if the flags of `builds_left` allow a build the turn, the build's number is below 8 and the build has a step left
 pub could_is : (plan : Plan) (places : List PlanCursor) (left : List Bool) (build : ℕ) → left ≡ builds_left plan places → could left build ≡ true → (build < 8) ×
     (has_left plan places build ≡ true)
 unfolding builds_left

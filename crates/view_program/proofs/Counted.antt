@@ -47,7 +47,7 @@ module _ {K : Type 0} (same : K → K → Bool) where
       ∙ ap (λ es. firsts same earlier (t ∷ seen) ++ (if is_shown same es s.outcome then [] else s ∷ [])) (append_assoc earlier (t ∷ []) seen)
 
   module _ (equal : IsEquivalence same) where
-    -- of two outcomes that are the same, one is shown exactly if the other is
+    -- if the equivalence test `same` equates two outcomes, a list of sightings has either both or neither of them
     shown_alike : (x y : K) → same x y ≡ true → (earlier : List (Sighting K)) → is_shown same earlier x ≡ is_shown same earlier y
     shown_alike x y is [] = refl
     shown_alike x y is (e ∷ earlier) =

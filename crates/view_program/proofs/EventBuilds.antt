@@ -11,7 +11,7 @@ use Rattle.realm_model.specs.Step.{step}
 use Rattle.realm_model.specs.History.{after, replay, IsLegal}
 use Rattle.realm_model.proofs.StepSays.{step_is}
 
--- each event that is replayed is of a build of the machine
+-- each event that is replayed belongs to a build of the machine
 event_after : (limits : Limits) (events : List Event) (place : ℕ) (event : Event) (w v : World) → slice_get events place ≡ Some event
     → after limits events w ≡ Some v → event.build < limits.builds
 unfolding after
@@ -34,21 +34,21 @@ event_of_build limits history seen place event legal same inside is = of_world (
 
 -- ---- a place of a history, which is read as `seen`
 
--- a property of the event that is read at an index holds of the history's event at this index
+-- if a list of events equals the history, what holds of the list's event at an index holds of the history's event there
 pub at_event : (P : Event → Type 0) (history seen : List Event) (place : ℕ) (event : Event) → seen ≡ history → place < length seen
     → event ≡ get_or seen place event → P event → IfSome (slice_get history place) P
 at_event P history seen place event same inside is holds =
     subst (λ (them : List Event). IfSome (slice_get them place) P) same
     (subst (λ (it : Option Event). IfSome it P) (sym (slice_get_read seen (length seen) place event refl inside is)) holds)
 
--- a place that has an event is not past the end
+-- if a list of events equals the history, an index of one of its events is not past the end of the history
 pub has_event : {P : Type 0} (history seen : List Event) (place : ℕ) → seen ≡ history → place < length seen → length history ≤ place → P
 has_event history seen place same inside few = let long : length seen ≡ length history = ap length same in absurd (omega arith)
 
 few_events : (history seen : List Event) (place : ℕ) → seen ≡ history → false ≡ ltb place (length seen) → length history ≤ place
 few_events history seen place same past = let long : length seen ≡ length history = ap length same in grind (arith, nat_tests)
 
--- past the end of the history there is no event, so any property holds of the event there, if any
+-- if an index is past the end of the history, there is no event at the index, so that `IfSome` holds with any property
 pub at_no_event : (P : Event → Type 0) (history seen : List Event) (place : ℕ) → seen ≡ history → false ≡ ltb place (length seen)
     → IfSome (slice_get history place) P
 at_no_event P history seen place same past =

@@ -1,4 +1,4 @@
--- Proofs that a failed allocation or read is a correct reason not to apply the lines of a history.
+-- Proofs that a failed allocation, or a failed read, can be the reason why the lines of a history are not applied.
 use Rattle.std.proofs.Common.{List, ℕ, Option}
 use Rattle.host_ledger.specs.View.{HostView}
 use Rattle.checked_io.specs.declared.told.ReadError.{ReadError}

@@ -43,8 +43,8 @@ pub GoesOnTo-whole :
 GoesOnTo-whole plan from front choices to left is same none =
     record { more = is.more; appended = is.appended; lowest = is.lowest; chosen = is.chosen; whole = subst (λ l. lowest_of l ≡ None) same none }
 
--- turns that the lowest build with a step left takes, from the first stage until no build has a step left, are a whole
--- run, one build after another
+-- if `GoesOnTo` holds from the first stage on, with no earlier choices, the choices make a complete run, one build
+-- after another
 pub IsChosenRun-lowest :
     (plan : Plan) (host : HostView) (places : List PlanCursor) (noted : List EndOfStep) (before choices : List Choice) (to : Stage)
     → places ≡ replicate 8 first_place → noted ≡ [] → before ≡ []

@@ -1,4 +1,4 @@
--- A proof that the lines of a history that a host accepts are the text of a legal history.
+-- A proof that lines which a host accepts as a history are the text of a legal history.
 use Rattle.std.proofs.Common.{◌≡◌, ℕ, List, [], ◌∷◌, ◌++◌, refl, sym, ap, ◌∙◌, append_assoc, subst}
 use mathlib.Core.List.{append-nil}
 use Rattle.realm_model.specs.declared.act.Event.{Event}
@@ -17,7 +17,7 @@ legal_taken old [] new legal taken = subst (λ (it : HostView). IsLegal it.limit
 legal_taken old (line ∷ more) new legal taken =
     legal_taken taken.0 more new (subst (λ (it : HostView). IsLegal it.limits it.history) (sym taken.1.grows) taken.1.can.legal) taken.2
 
--- the events that lines add
+-- the lines are the texts of the events that the history of `new` has beyond that of `old`
 record Added (old : HostView) (lines : List (List ℕ)) (new : HostView) : Type 0 where
   events : List Event
   texts : AreTexts lines events

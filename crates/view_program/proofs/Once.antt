@@ -29,7 +29,7 @@ record IsNext (host : HostView) (line : List ℕ) : Type 0 where
   new : HostView
   taken : IsLineTaken host line new
 
--- if a list of lines is taken, each line can be applied after the lines before it
+-- if lines are applied one after another, each line can be applied to the host that the lines before it lead to
 next : (old : HostView) (before : List (List ℕ)) (line : List ℕ) (after : List (List ℕ)) (last mid : HostView) → AreTaken old (before ++ line ∷ after) last → AreTaken old before mid → IsNext mid line
 next old [] line after last mid taken here = record { new = taken.0; taken = subst (λ (host : HostView). IsLineTaken host line taken.0) (sym here) taken.1 }
 next old (first ∷ more) line after last mid taken here =

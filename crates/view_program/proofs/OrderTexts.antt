@@ -42,7 +42,7 @@ cut_twice bytes until front removed back to from until_is back_is front_is remov
     sym (sym (append_assoc front removed back) ∙ ap (λ part. part ++ back) (joined ∙ until_is) ∙ ap (λ part. take to bytes ++ part) back_is
     ∙ take-append-drop to bytes)
 
--- appending three parts one after another to an empty text gives the three parts in sequence
+-- a text that was empty before three parts were appended consists of these parts in sequence
 pub three_parts : (none one two three front shown part back : List ℕ) → none ≡ [] → one ≡ none ++ front → two ≡ one ++ shown → three ≡ two ++ back
     → shown ≡ part → three ≡ front ++ (part ++ back)
 three_parts none one two three front shown part back none_is one_is two_is three_is shown_is =
@@ -57,8 +57,7 @@ too_long_for_plan : (bytes : List ℕ) (plan : Plan) → ltb 1048576 (length byt
 unfolding plan_of
 too_long_for_plan bytes plan long is = let other = rw long at is in cc
 
--- if the bytes that were kept of an input are a plan, they are the whole input, and what holds of them holds of the
--- input
+-- if the bytes that the program keeps of an input are a plan, what holds of these bytes holds of the whole input
 pub input_has : (P : List ℕ → Type 0) (input : Option (List ℕ)) (bytes : List ℕ) (plan : Plan) → IfSome input (λ xs. bytes ≡ kept_of xs)
     → plan_of bytes ≡ Ok plan → P bytes → IfSome input P
 unfolding kept_of

@@ -39,13 +39,14 @@ not_whole turns read bytes order text Memory is_order is_text is = tt
 not_whole turns read bytes order text Device is_order is_text is = absurd is
 
 module _ (turns : SchedulingPolicy) (source : List ℕ) (unread : Bool) (input : Option (List ℕ)) where
-  -- if an error ends the reading of the input, an end of `order` that writes nothing is correct
+  -- when nothing was written, `IsReorderEnd` holds of a failed allocation, and of `Device` after a failed read
   pub unread_order : (output : Option (List ℕ)) (error : ReadError) → (error ≡ read_error.Device → unread ≡ true)
       → IsReorderEnd turns source unread input output output (Err (view_fault_of_read error))
   unread_order output read_error.Memory read = keeps_same output
   unread_order output read_error.Device read = rw (read refl) (keeps_same output)
 
-  -- if the bytes that were kept give no plan, an end of `order` that writes nothing is correct
+  -- if no plan is read from the bytes that the program keeps of an input, and nothing is written, `IsReorderEnd` holds
+  -- of the reason
   pub no_plan_to_order : (output : Option (List ℕ)) (bytes : List ℕ) (fault : ViewError) → IfSome input (λ xs. bytes ≡ kept_of xs) → GivesNoPlan source bytes fault
       → IsReorderEnd turns source unread input output output (Err fault)
   no_plan_to_order output bytes (NoPlan errors) kept gives = (errors_from_kept source input bytes (string_bytes errors) kept gives, keeps_same output)
@@ -58,7 +59,8 @@ module _ (turns : SchedulingPolicy) (source : List ℕ) (unread : Bool) (input :
   no_plan_to_order output bytes Memory kept gives = keeps_same output
   no_plan_to_order output bytes Device kept gives = absurd gives
 
-  -- if the plan of the bytes that were kept gets no new schedule, neither does the input, for the same reason
+  -- if the plan in the bytes that the program keeps of an input gets no new schedule, `HasNoOrder` holds of the input
+  -- with the same reason
   no_order : (bytes : List ℕ) (plan : Plan) (fault : ViewError) → IfSome input (λ xs. bytes ≡ kept_of xs) → plan_of bytes ≡ Ok plan
       → IsNotReordered turns plan bytes fault → HasNoOrder turns input fault
   no_order bytes plan fault kept is_plan is = record {
@@ -67,7 +69,7 @@ module _ (turns : SchedulingPolicy) (source : List ℕ) (unread : Bool) (input :
     not_reordered = input_has (λ (them : List ℕ). IsNotReordered turns plan them fault) input bytes plan kept is_plan is;
   }
 
-  -- if the plan gets no new schedule, an end of `order` that writes nothing is correct
+  -- if the plan read from the input gets no new schedule, and nothing is written, `IsReorderEnd` holds of the reason
   pub not_reordered : (output : Option (List ℕ)) (bytes : List ℕ) (plan : Plan) (fault : ViewError) → IfSome input (λ xs. bytes ≡ kept_of xs)
       → plan_of bytes ≡ Ok plan → IsNotReordered turns plan bytes fault → IsReorderEnd turns source unread input output output (Err fault)
   not_reordered output bytes plan (NoPlan errors) kept is_plan is = absurd is
@@ -85,7 +87,8 @@ module _ (turns : SchedulingPolicy) (source : List ℕ) (unread : Bool) (input :
   not_reordered output bytes plan Memory kept is_plan is = keeps_same output
   not_reordered output bytes plan Device kept is_plan is = absurd is
 
-  -- a reordered text of the bytes that were kept is a reordered text of the input
+  -- if a text is the plan from the bytes that the program keeps of an input, with a new schedule, `IsReorderedIn` holds
+  -- of the text
   pub reordered_in : (bytes text : List ℕ) (plan : Plan) → IfSome input (λ xs. bytes ≡ kept_of xs) → plan_of bytes ≡ Ok plan → IsWholeText turns text
       → IsReorderedText turns plan bytes text → IsReorderedIn turns input text
   reordered_in bytes text plan kept is_plan whole is = record {
@@ -95,7 +98,7 @@ module _ (turns : SchedulingPolicy) (source : List ℕ) (unread : Bool) (input :
     is_reordered = input_has (λ (them : List ℕ). IsReorderedText turns plan them text) input bytes plan kept is_plan is;
   }
 
-  -- if no read failed, an end of `order` that writes a prefix of the new text is correct after a failed write
+  -- if no read failed, and a prefix of the plan's new text was written, `IsReorderEnd` holds of the error `Device`
   pub cut_reordered : (old new : Option (List ℕ)) (text : List ℕ) → unread ≡ false → IsReorderedIn turns input text
       → AppendsFront old new text → IsReorderEnd turns source unread input old new (Err Device)
   cut_reordered old new text read is_text written = rw read (record { text = text; is_text = is_text; written = written })

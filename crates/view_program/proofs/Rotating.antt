@@ -39,7 +39,7 @@ none_lowest from left none = none_of (lowest_from from left) (lowest_of left) no
 
 -- ---- so far
 
--- the number that the rotation has reached after these turns
+-- the build number from which the rotation goes on after these turns
 abbrev pub reached : ℕ → List Choice → ℕ
 reached from [] = from
 reached from (choice ∷ choices) = reached (choice.build + 1) choices

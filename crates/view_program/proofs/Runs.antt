@@ -1,5 +1,5 @@
--- Proofs that a plan's run in a chosen schedule is a run of the plan with that schedule as its own, and that its turns
--- have the recorded step outcomes.
+-- Proofs that a plan's run in a chosen schedule is a run of the plan with this schedule as its `order`. The step
+-- outcomes recorded in the run are those of its turns.
 use Rattle.std.proofs.Common.{◌≡◌, ◌<◌, subst, None, inl, inr, ℕ, ◌==◌, Bool, true, false, if◌then◌else◌, List, [], ◌∷◌, ◌++◌, map, All, append_assoc, append-nil, refl, sym, ap, ◌∙◌}
 use Rattle.std.proofs.lemmas.List.Elements.{All-nil, All-cons}
 use Rattle.std.specs.List.{flat_map}

@@ -38,7 +38,8 @@ IsSampling-more plan stream count now after old new so_far is = record {
   so_many = (let so_many = so_far.so_many in omega (arith, length-append so_far.visits (is.visit ∷ [])));
 }
 
--- If a run on a fresh host, in a schedule drawn from the stream, is added to the totals, it is drawn and counted.
+-- If a run on a fresh host, in a schedule drawn from the stream, is added to the totals, `IsDrawnAndCounted` holds of
+-- the totals.
 pub IsDrawnAndCounted-run :
     (plan : Plan) (stream after : Stream) (fresh to : HostView) (choices cs : List Choice) (ends es : List EndOfStep) (old new : Totals)
     → fresh ≡ opening_host plan → cs ≡ choices → es ≡ ends

@@ -1,5 +1,6 @@
--- Proofs that one more build is added to the sightings if and only if it passes the test, and that one more step
--- outcome is added after those before it.
+-- Proofs about lists to which one more sighting is added; a sighting is an outcome with a schedule that has it. The
+-- sighting of a build is added if and only if the build has the given property. The sighting of a step outcome comes
+-- after those of earlier outcomes.
 use Rattle.std.proofs.Common.{◌≡◌, ℕ, ◌+◌, ◌<◌, Bool, true, false, if◌then◌else◌, List, [], ◌∷◌, ◌++◌, length, get_or, map, take, ap, sym, ◌∙◌, append_assoc, append-nil, arith}
 use Rattle.std.specs.Prelude.{filter}
 use Rattle.std.specs.List.{range_with_len}
@@ -29,7 +30,8 @@ pub those_without : (p : ℕ → Bool) (choices : List Choice) (n : ℕ) (seen :
 those_without p choices n seen is =
     ap (λ rest. seen ++ rest) (sym (those_more p choices n ∙ ap (λ b. those p choices n ++ map (sighting_in choices) (if b then n ∷ [] else [])) is ∙ append-nil (those p choices n)))
 
--- the sightings of the first `place` outcomes, with that of the next one appended, are those of the first `place + 1`
+-- the sightings of the first `place` outcomes, followed by a sighting of the next outcome, are the sightings of the
+-- first `place + 1`
 pub seen_more : (choices : List Choice) (seen : List (Sighting EndOfStep)) (ends : List EndOfStep) (place : ℕ) (here : EndOfStep) → place < length ends
     → here ≡ get_or ends place here
     → (seen ++ map (sighting_in choices) (take place ends)) ++ sighting_in choices here ∷ [] ≡ seen ++ map (sighting_in choices) (take (place + 1) ends)

@@ -127,7 +127,7 @@ module _ (start now : Option (List ℕ)) (old mid : HostView) (s : SoFar start n
   pub too_long : (number : ℕ) → IfSome now (HasLongLine 256) → number ≡ length mid.history + 2 → AreNotTaken start old (NoEvent number)
   too_long number is same = cut_long start now number s.took is same
 
--- if there is a result, no read failed
+-- if the outcome is `Ok`, and a read failed exactly if the outcome is `error`, no read failed
 pub unfailed : {A E : Type 0} (failed : Bool) (it : A) (error : E) → (failed ≡ true) ↔ (Ok it ≡ Err error) → failed ≡ false
 unfailed false it error told = refl
 unfailed true it error told = let failed = told.0 refl in absurd (cc)

@@ -28,7 +28,8 @@ use Rattle.view_program.specs.TurnsLeft.{is_of_many, AreSteady, steps_left, turn
 
 -- ---- a step's turn
 
--- The turn leaves the build at the same step, with fewer undos of it left, unless none is left or none was left before.
+-- Both cursors are at the same step. No undos of the step are left at `before`, none are left at `after`, or fewer are
+-- left at `after` than at `before`.
 record IsLess (before after : PlanCursor) : Type 0 where
   done : after.done ≡ before.done
   less : (after.left ≡ 0) ⊎ ((before.left ≡ 0) ⊎ (after.left < before.left))
@@ -43,7 +44,7 @@ zero_or_not n = elim (eqb_tells n 0) as (λ _. ((n == 0) ≡ true) × (n ≡ 0) 
   | inr more ↦ inr (more.0, (let some : n ≢ 0 = more.1 in omega arith))
 ]
 
--- if the cursor has undos left, `count` is their number
+-- if the cursor has undos left, the result `count` is `Ok` of their number
 abbrev Counts : Result ℕ Refusal → PlanCursor → Type 0
 Counts count place = OnFalse (place.left == 0) (count ≡ Ok place.left)
 
@@ -131,7 +132,7 @@ less_step host build place (WidthLeftOut rd root) answer new after steady is =
 
 -- ---- fewer turns
 
--- a build that has given up has a step only at the number `giving_up`
+-- if a build that has given up has a step at `number`, then `number` is `giving_up`
 fewer_beyond : (number : ℕ) (step : PlanStep) → given_up number ≡ Some step → number ≡ giving_up
 fewer_beyond number step is = elim (eqb_tells number giving_up) as (λ _. number ≡ giving_up) [
   | inl same ↦ same.1
@@ -145,7 +146,7 @@ below_or_not n m = elim (cases_Bool (nat_lt n m)) as (λ _. (nat_lt n m ≡ true
   | inr past ↦ inr (past, ltb-false n m past)
 ]
 
--- for a build that gives up but has not yet done so, the bound is its remaining steps and an abort
+-- for a build that gives up, and that has not reached `giving_up`, the bound is its remaining steps plus an abort
 left_below : (steps : List PlanStep) (number : ℕ) → number < giving_up → steps_left true steps number ≡ length steps - number + 1
 left_below steps number below = rw (lt-ltb number giving_up below) refl
 
@@ -155,7 +156,7 @@ left_beyond steps number past = elim (below_or_not number giving_up) as (λ _. s
   | inr beyond ↦ rw beyond.0 refl
 ]
 
--- after one of the plan's steps, a build that gives up has at least one step fewer left, by the bound
+-- in a build that gives up, each step of the plan lowers the bound on the steps left
 next_below : (steps : List PlanStep) (number next : ℕ) → number < length steps → number < giving_up → (next ≡ giving_up) ⊎ (next ≡ number + 1)
     → steps_left true steps next + 1 ≤ steps_left true steps number
 next_below steps number next there below (inl gives_up) =
@@ -230,7 +231,7 @@ is_below before after (inl none) some more = absurd (omega arith)
 is_below before after (inr (inl none)) some more = absurd (omega arith)
 is_below before after (inr (inr less)) some more = less
 
--- A turn of a step, after which the step is used up or has undos left.
+-- A turn in which a build takes a step, after which the step is finished or has undos left.
 module _ (gives_up : Bool) (steps : List PlanStep) (answer : TurnAnswer) (before after : PlanCursor) (step : PlanStep) (is : step_numbered gives_up steps before.done ≡ Some step) where
   abbrev moved : PlanCursor
   moved = moved_on gives_up answer after
@@ -321,7 +322,7 @@ moved_left gives_up answer after =
 stays_at : (gives_up : Bool) (answer : TurnAnswer) (after : PlanCursor) → (after.left == 0) ≡ false → moved_on gives_up answer after ≡ after
 stays_at gives_up answer after some = rw some refl
 
--- The cursors after a turn: that of the turn's build is the new one, and those of other builds are as they were.
+-- After a turn, the turn's build has the new cursor, and every other build has the cursor that it had before.
 module _ (places : List PlanCursor) (build : ℕ) (after : PlanCursor) (new : List PlanCursor) (inside : build < length places) (is_new : new ≡ slice_set places build after) where
   place_of-same : place_of new build ≡ after
   place_of-same = ap (λ ps. place_of ps build) is_new ∙ get_or-set_same places build after first_place inside
@@ -382,7 +383,8 @@ pub steady_after :
 steady_after plan from turn to steady inside is =
     steady_of plan from turn to (step_after plan turn.build (place_of from.places turn.build).done) steady inside refl is
 
--- if an optional list of steps gives a step at a number, the list is there and gives this step
+-- if `step_numbered` finds a step in an optional list of steps, the list is there, and `step_numbered` finds the same
+-- step in it
 of_build :
     (gives_up : Bool) (steps : Option (List PlanStep)) (done : ℕ) (step : PlanStep)
     → option_and_then (λ ss. step_numbered gives_up ss done) steps ≡ Some step

@@ -25,7 +25,8 @@ opens_same plan fresh to choices ends opens is =
     let told = run_of_plan plan fresh choices to ends is in
     ap fresh_like (sym opens) ∙ fresh_like-run (record plan { order = chosen_schedule choices }) fresh to [] told.0 told.1
 
--- if a run and the host's final map are counted for `n` builds, and the plan has `n`, the run is added to the totals
+-- if the totals `new` count one run and its final map more than `old`, for as many builds as the plan has, `IsAdded`
+-- holds of both
 pub IsAdded-run :
     (plan : Plan) (host : HostView) (choices : List Choice) (ends : List EndOfStep) (map_of_it : String Global) (old new : Totals) (n : ℕ)
     → n ≡ length plan.builds → string_bytes map_of_it ≡ map_text host

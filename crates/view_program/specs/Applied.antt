@@ -116,7 +116,8 @@ abbrev pub IsMap : Option ℕ → Opening → HostView → List ℕ → Type 0
 IsMap None o host text = text ≡ map_text host
 IsMap (Some build) o host text = IsMapOfHistoryWithout o host build text
 
--- The reason why there is no map: allocation failed, or the build to be left out is not one of the machine's.
+-- The error is a reason why there is no map: allocation failed, or the build to be left out is not one of the
+-- machine's.
 abbrev pub HasNoMap : Option ℕ → Opening → ViewError → Type 0
 HasNoMap erase o Memory = Unit {0}
 HasNoMap (Some build) o EraseNamesNoBuild = o.builds ≤ build

@@ -22,7 +22,7 @@ use Rattle.plan_replay.specs.declared.answer.TurnAnswer.{TurnAnswer}
 use Rattle.plan_replay.specs.declared.answer.TurnAnswer.TheVariants.{Refused}
 use Rattle.realm_program.specs.Replay.{opening_host}
 
--- the beginning of a comment that extends to the end of the line
+-- the characters with which a comment begins: `# ` in a trace, and `// ` in a C table
 abbrev pub comment_start : CallsForm → List ℕ
 comment_start Trace = codes "# "
 comment_start Rows = codes "// "
@@ -33,8 +33,8 @@ comment_start Rows = codes "// "
 abbrev pub action_lines : List HostAction → List ℕ
 action_lines actions = flat_map (λ action. action_line action None) actions
 
--- The trace lines of the actions for an event that a host has recorded. The run pages are `runs` before it, and `next`
--- after it.
+-- The text consists of the trace lines of the actions for an event that a host has recorded. The run pages are `runs`
+-- before it, and `next` after it.
 pub record AreEventLines (frame : Place) (runs next : List (Option ℕ)) (host : HostView) (event : Event) (text : List ℕ) : Type 0 where
   pub place : RealmAndRec
   pub is_place : IsPlaceOf (world_of host) event.build event.act place
@@ -51,7 +51,8 @@ pub record IsNoWrite (runs next : List (Option ℕ)) (event : Event) (text : Lis
   pub comment : text ≡ codes "# no call: the RIPAS there is not RAM, and in RMM 1.0 the guest's write is refused\n"
   pub pages : next ≡ runs
 
--- the text for an event of a host: the lines of the event's actions, or the comment in place of a guest's write
+-- the text consists of the trace lines of an event's actions, or of the comment in place of a guest's write that RMM
+-- 1.0 refuses
 abbrev pub AreCallsOfEvent : Place → (runs next : List (Option ℕ)) → HostView → Event → List ℕ → Type 0
 AreCallsOfEvent frame runs next host event text = AreEventLines frame runs next host event text ⊎ IsNoWrite runs next event text
 
@@ -71,9 +72,9 @@ abbrev pub is_refused_by_rmm : Option (PlanStep × TurnAnswer) → Bool
 is_refused_by_rmm None = false
 is_refused_by_rmm (Some told) = is_refusal_of_rmm told.1
 
--- The text that belongs below the line of a turn. The history had `before` events before the turn. If the turn has
--- added an event, a trace has the text of that event. If not, the text is empty, unless the RMM has refused the
--- command.
+-- The text belongs below the turn's line: in a trace, it is the text of the event that the turn has added. The history
+-- had `before` events before the turn. If the turn has added no event, the text is empty, unless the RMM has refused
+-- the command.
 pub record IsBelowTurn (form : CallsForm) (frame : Place) (runs next : List (Option ℕ)) (before : ℕ) (host : HostView) (turn : Turn) (below : List ℕ) : Type 0 where
   pub event : form ≡ Trace → IfSome (slice_get host.history before) (λ event. AreCallsOfEvent frame runs next host event below)
   pub nothing : length host.history ≤ before → is_refused_by_rmm turn.told ≡ false → below ≡ []
@@ -107,8 +108,8 @@ AppendsCallsOfTurns form frame plan (build ∷ order) runs next from to old new 
 abbrev pub frame_of : ℕ → Plan → Place
 frame_of base plan = record { base = base; pages = plan.pages }
 
--- The text of the RMM calls of some run of the plan: an opening, then the line of each turn as a comment, with the text
--- below it. A trace opens with the line that describes the machine.
+-- The text shows the RMM calls of some run of the plan: an opening, then each turn's line as a comment, followed by the
+-- text that belongs below this line. A trace opens with the line that describes the machine.
 pub record IsCallsText (form : CallsForm) (base : ℕ) (plan : Plan) (text : List ℕ) : Type 0 where
   pub opening : List ℕ
   pub of_machine : form ≡ Trace → opening ≡ platform_line (frame_of base plan) plan.aux

@@ -15,7 +15,7 @@ abbrev pub verdict_of : Bool → ViewOutcome
 verdict_of true = Done
 verdict_of false = HasErrors
 
--- if the input is known, the report is on the bytes that are kept of it: at most one byte more than a plan can have
+-- if the input is known, the report is on the input's first bytes, at most one more than a plan can have
 abbrev pub IsReportOn : List ℕ → Option (List ℕ) → LintReport → Type 0
 IsReportOn source input report = IfSome input (λ bytes. IsReport source (kept_of bytes) report)
 
@@ -65,7 +65,7 @@ pub record AreErrorsOfBytes (source bytes errors : List ℕ) : Type 0 where
   pub text : errors ≡ string_bytes report.text
   pub no_plan : is_ok (plan_of bytes) ≡ false
 
--- the reason why no plan is read from some bytes: the errors in them, or a failed allocation
+-- the error is a reason why no plan is read from the bytes: the errors in them, or a failed allocation
 abbrev pub GivesNoPlan : List ℕ → List ℕ → ViewError → Type 0
 GivesNoPlan source bytes (NoPlan errors) = AreErrorsOfBytes source bytes (string_bytes errors)
 GivesNoPlan source bytes Memory = Unit {0}

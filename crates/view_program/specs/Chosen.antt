@@ -14,7 +14,7 @@ use Rattle.plan_states.specs.declared.step_end.EndOfStep.{EndOfStep}
 
 -- ---- the possible choices
 
--- the build can have the turn: the flags, one for each build, say that it has a step left
+-- the build can have the turn: the flags, one for each build, say that the build has a step left
 abbrev pub could : List Bool → ℕ → Bool
 could left build = slice_index_or left build false
 
@@ -25,11 +25,11 @@ has_left plan places build = is_some (step_after plan build (place_of places bui
 unfoldable pub builds_left : Plan → List PlanCursor → List Bool
 builds_left plan places = map (has_left plan places) (range_with_len 0 8)
 
--- the lowest build that has a step left, if there is one
+-- the lowest-numbered build that has a step left, if there is one
 unfoldable pub lowest_of : List Bool → Option ℕ
 lowest_of left = find (could left) (range_with_len 0 8)
 
--- The choice says which builds have a step left, given how far each has come, and selects one of them.
+-- The choice's flags say which builds have a step left at these cursors, and the chosen build is one of them.
 pub record IsOpen (plan : Plan) (places : List PlanCursor) (choice : Choice) : Type 0 where
   pub left : choice.left ≡ builds_left plan places
   pub could : could choice.left choice.build ≡ true
@@ -76,8 +76,8 @@ AreChosen plan from (choice ∷ choices) to =
 abbrev pub first_stage : HostView → Stage
 first_stage host = record { at = start host; ends = [] }
 
--- A run of the plan in the schedule of these choices, until no build has a step left. It leads to `to`, and the steps
--- ended as noted.
+-- A run of the plan whose turns go to the chosen builds leads from `from` to `to`, and no build has a step left at the
+-- run's end. The outcomes of the run's steps are `noted`.
 pub record IsChosenRun (plan : Plan) (from : HostView) (choices : List Choice) (to : HostView) (noted : List EndOfStep) : Type 0 where
   pub last : Stage
   pub chosen : AreChosen plan (first_stage from) choices last
@@ -85,8 +85,8 @@ pub record IsChosenRun (plan : Plan) (from : HostView) (choices : List Choice) (
   pub host : last.at.host ≡ to
   pub ends : last.ends ≡ noted
 
--- From this stage on, each turn goes to the lowest build with a step left, until no build has a step left. `choices` is
--- `front`, and then the choices of these turns.
+-- From this stage on, each turn goes to the lowest-numbered build with a step left, until no build has a step left.
+-- `choices` is `front`, and then the choices of these turns.
 pub record GoesOnTo (plan : Plan) (from : Stage) (front choices : List Choice) (to : Stage) : Type 0 where
   pub more : List Choice
   pub appended : choices ≡ front ++ more

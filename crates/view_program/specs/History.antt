@@ -16,7 +16,7 @@ abbrev pub IsBuildOfPlan : Option ℕ → Plan → Type 0
 IsBuildOfPlan None plan = Unit {0}
 IsBuildOfPlan (Some build) plan = build < length plan.builds
 
--- The text of the history of some run of the plan, complete or without one build's events.
+-- The text is the history of some run of the plan, complete or without one build's events.
 pub record IsHistoryText (erase : Option ℕ) (plan : Plan) (text : List ℕ) : Type 0 where
   pub of_plan : IsBuildOfPlan erase plan
   pub last : HostView

@@ -6,8 +6,7 @@ use Rattle.realm_program.specs.Replay.{opening_host}
 use Rattle.run_json.specs.Document.{IsDocument}
 use Rattle.run_json.specs.declared.document.Document.{Document}
 
--- Some run of the plan has a JSON document; nothing is said about the text. That the text is what JSON writes for it is
--- tested, and no clause states it.
+-- A document describes some run of the plan; that `text` is this document in JSON is tested, and not stated here.
 pub record IsJsonText (plan : Plan) (text : List ℕ) : Type 0 where
   pub last : HostView
   pub document : Document

@@ -13,7 +13,7 @@ use Rattle.view_program.specs.declared.schedules.totals.Totals.{Totals}
 abbrev pub drawn_line : ℕ → List ℕ
 drawn_line schedule_count = codes "schedules drawn " ++ (numeral schedule_count ++ 10 ∷ [])
 
--- the lines for a final map: how many of the schedules end with it, and then the map
+-- lines that say how many schedules end with a final map, followed by the lines of the map
 abbrev pub map_lines : ℕ → PathTally (String Global) → List ℕ
 map_lines schedule_count tally = map_shown schedule_count (string_bytes tally.outcome) tally.first.items tally.count
 

@@ -42,8 +42,7 @@ line_break_after (byte ∷ bytes) = if ends_with nat_eq (byte ∷ bytes) (10 ∷
 abbrev pub order_line : List ℕ → List ℕ → List ℕ
 order_line front order = line_break_after front ++ (codes "order = " ++ (order_array order ++ codes "\n"))
 
--- the text to put after `front`: the schedule alone if it replaces the key's value, and otherwise a line with the key
--- and the schedule
+-- the schedule alone if it replaces the value of the key `order`, and otherwise a line with the key and the schedule
 abbrev pub order_part : Bool → List ℕ → List ℕ → List ℕ
 order_part is_value front order = if is_value then order_array order else order_line front order
 

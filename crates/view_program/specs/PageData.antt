@@ -22,15 +22,15 @@ pub record IsWithoutWorld (host : HostView) (build : ℕ) (world : WorldItem) : 
 abbrev pub AreWorldsWithout : HostView → ℕ → List WorldItem → Type 0
 AreWorldsWithout host count worlds = AllZip (IsWithoutWorld host) (range_with_len 0 count) worlds
 
--- the data are the document of some run of the plan and, for each build, the world that the run's history leads to
--- without the build's events
+-- The page's data are the document of some run of the plan, with one world for each build. A build's world is what the
+-- run's history leads to without the build's events.
 pub record IsPageData (plan : Plan) (shown : PageData) : Type 0 where
   pub last : HostView
   pub is_document : IsDocument plan (opening_host plan) last shown.run
   pub are_worlds : AreWorldsWithout last (length plan.builds) shown.without.items
 
--- The text is the browser page with some bytes put in, and some run of the plan has page data. That the bytes are what
--- JSON writes for these data is tested, and no clause states it.
+-- The text is the browser page with the data bytes `json`, and `shown` is the page data of some run of the plan. That
+-- `json` is what JSON writes for `shown` is tested, and no clause states it.
 pub record IsPageText (plan : Plan) (text : List ℕ) : Type 0 where
   pub shown : PageData
   pub is_data : IsPageData plan shown

@@ -26,7 +26,7 @@ use Rattle.command_line.specs.declared.realmview.ViewSubcommand.{ViewSubcommand}
 use Rattle.command_line.specs.declared.realmview.ViewSubcommand.TheVariants.{History, Apply, Calls, Json, Page, Why, Explore, Order, Check}
 use Rattle.view_program.specs.declared.fault.ViewError.TheVariants.{NoPlan, Plan, NoOpening, NoEvent, Refused, EraseNamesNoBuild, Memory, Device}
 
--- the input is a history with this map
+-- the input is a history, and the text is its map, without the events of the build `erase` if there is one
 pub record HasMap (erase : Option ℕ) (input : Option (List ℕ)) (text : List ℕ) : Type 0 where
   pub o : Opening
   pub host : HostView
@@ -70,15 +70,16 @@ IsApplyEnd erase unread input old new (Err fault) = ⊥
 
 -- ---- the request
 
--- this text may be printed for the plan, which was parsed from the input (from some bytes, if the input is unknown)
+-- The text is one that `texts` allows for the bytes of a plan and the plan itself. If the input is known, the bytes are
+-- the input's.
 pub record IsTextFrom (texts : List ℕ → plan.Plan → List ℕ → Type 0) (input : Option (List ℕ)) (it : plan.Plan) (text : List ℕ) : Type 0 where
   pub bytes : List ℕ
   pub of_input : IfSome input (λ known. bytes ≡ known)
   pub is_plan : plan.plan_of bytes ≡ Ok it
   pub is_text : texts bytes it text
 
--- The end of a request for a plan's text: the text is printed whole or not at all, unless a write fails on the way. For
--- an input that is not a plan, the fault has the errors.
+-- A text requested for a plan is printed whole or not at all, unless a write fails on the way. For an input that is not
+-- a plan, the fault has the errors.
 abbrev pub IsPlanEnd : (List ℕ → plan.Plan → List ℕ → Type 0) → (plan.Plan → plan_fault.Fault → Type 0) → List ℕ → Bool → Option (List ℕ) → Option (List ℕ) → Option (List ℕ) → Result (Unit {0}) ViewError → Type 0
 IsPlanEnd texts without source unread input old new (Ok done) = IsPrinted (IsTextFrom texts input) input old new
 IsPlanEnd texts without source unread input old new (Err (NoPlan errors)) = AreErrorsOf source input (string_bytes errors) × Keeps old new
@@ -87,12 +88,12 @@ IsPlanEnd texts without source unread input old new (Err Memory) = Keeps old new
 IsPlanEnd texts without source unread input old new (Err Device) = IsEndOfDevice (IsTextFrom texts input) unread input old new
 IsPlanEnd texts without source unread input old new (Err fault) = ⊥
 
--- the outcome of a request other than `check`, by the end of its work
+-- `Done` if a subcommand other than `check` succeeds, and otherwise the fault
 abbrev pub outcome_after : Result (Unit {0}) ViewError → Result ViewOutcome ViewError
 outcome_after (Ok done) = Ok Done
 outcome_after (Err fault) = Err fault
 
--- the end of a request other than `check`: its verdict is never `HasErrors`
+-- the result of a subcommand other than `check` is not `HasErrors`, and `IsEndOf` holds of this result
 abbrev pub EndsAs : (Result (Unit {0}) ViewError → Type 0) → Result ViewOutcome ViewError → Type 0
 EndsAs IsEndOf (Ok Done) = IsEndOf (Ok tt)
 EndsAs IsEndOf (Ok HasErrors) = ⊥
@@ -109,13 +110,14 @@ IsRunEnd (Explore schedules after) source unread input old new result = EndsAs (
 IsRunEnd (Order turns) source unread input old new result = EndsAs (IsReorderEnd turns source unread input old new) result
 IsRunEnd Check source unread input old new result = IsCheckEnd source unread input old new result
 
--- A plan is read from an input with at most 1,048,578 read calls. For a history there is no bound.
+-- A subcommand that reads a plan makes at most 1,048,578 read calls. For `apply`, which reads a history, there is no
+-- bound.
 abbrev pub AreFewReads : ViewSubcommand → (old new : ℕ) → Type 0
 AreFewReads (Apply erase) old new = Unit {0}
 AreFewReads asked old new = new ≤ old + 1048578
 
--- A known input is read once: at most one read for each byte, and one for its end. For a history, no clause states
--- that.
+-- A subcommand that reads a plan from a known input makes at most one read call for each byte, and one for the end. For
+-- `apply`, which reads a history, no clause states that.
 abbrev pub ReadsOnceFor : ViewSubcommand → Option (List ℕ) → (old new : ℕ) → Type 0
 ReadsOnceFor (Apply erase) input old new = Unit {0}
 ReadsOnceFor asked input old new = ReadsOnce input old new

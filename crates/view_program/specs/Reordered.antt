@@ -24,8 +24,8 @@ abbrev pub rule_of : SchedulingPolicy → List Choice → Type 0
 rule_of InRotation = AreInRotation 0
 rule_of OneByOne = AreOneByOne
 
--- The schedule of a complete run of the plan under the policy. Each turn is of a build that has a step left, and in the
--- end no build has one.
+-- The schedule is that of a complete run of the plan under the policy. Each turn is of a build that has a step left,
+-- and in the end no build has one.
 abbrev pub IsOrderOf : SchedulingPolicy → plan.Plan → List ℕ → Type 0
 IsOrderOf turns it order = IsWholeSchedule (rule_of turns) it (opening_host it) order
 
@@ -37,7 +37,7 @@ pub record IsWholeText (turns : SchedulingPolicy) (text : List ℕ) : Type 0 whe
   pub is_plan : plan.plan_of text ≡ Ok it
   pub whole : IsOrderOf turns it it.order
 
--- The text of a plan that was read, with the schedule of a complete run of the plan put in. Read back, the text is the
+-- The text is that of the plan that was read, with the schedule of a complete run put in. Read back, the text is the
 -- plan with this schedule.
 pub record IsReorderedText (turns : SchedulingPolicy) (read : plan.Plan) (bytes text : List ℕ) : Type 0 where
   pub order : List ℕ
@@ -47,8 +47,8 @@ pub record IsReorderedText (turns : SchedulingPolicy) (read : plan.Plan) (bytes 
 
 -- ---- the reasons why there is none
 
--- the reason why a reordered text is not accepted: it exceeds a plan's limits, there is a mismatch, or allocation
--- failed
+-- The error is a reason why a plan's new text is not accepted: exceeded limits, a failed allocation, or `Mismatch`. No
+-- clause states the cause of `Mismatch`: the text is not read back as that plan, or a second run has another schedule.
 abbrev pub IsNotWhole : List ℕ → ViewError → Type 0
 IsNotWhole text OrderOutsideLimits = plan.plan_of text ≡ Err plan_fault.Limit
 IsNotWhole text (Plan run_fault.Mismatch) = Unit {0}
@@ -60,8 +60,8 @@ abbrev pub IsOutsideLimits : List ℕ → List ℕ → Type 0
 IsOutsideLimits order bytes =
     (16384 < length order) ⊎ ((text : List ℕ) × IsWithOrder order bytes text × (plan.plan_of text ≡ Err plan_fault.Limit))
 
--- The reason why a plan gets no new schedule: a mismatch, a failed allocation, or limits that the plan would exceed
--- with the schedule of a complete run.
+-- The error is a reason why a plan gets no new schedule: exceeded limits, a failed allocation, or `Mismatch` as in
+-- `IsNotWhole`. The limits are exceeded by the schedule of a complete run, or by the text with that schedule.
 abbrev pub IsNotReordered : SchedulingPolicy → plan.Plan → List ℕ → ViewError → Type 0
 IsNotReordered turns read bytes OrderOutsideLimits = (order : List ℕ) × IsOrderOf turns read order × IsOutsideLimits order bytes
 IsNotReordered turns read bytes (Plan run_fault.Mismatch) = Unit {0}

@@ -12,8 +12,8 @@ pub record Line : Type 0 where
   pub turn : Turn
   pub noted : List EndOfStep
 
--- Either no step outcome is noted and the turn is not refused, or one outcome is noted, with the turn's build and its
--- refusal, if any.
+-- The line notes one step outcome if its turn is refused, and otherwise at most one. The outcome has the turn's build,
+-- and the refusal, if any.
 abbrev pub IsEndOfTurn : Line → Type 0
 IsEndOfTurn line = ((line.noted ≡ []) × (refusal_of_turn line.turn.told ≡ None))
     ⊎ ((step : ℕ) × (line.noted ≡ record { build = line.turn.build; step = step; refusal = refusal_of_turn line.turn.told } ∷ []))

@@ -1,4 +1,4 @@
--- The condition that exactly a given number of schedules have a given property.
+-- Definition of the number of schedules that have a given property.
 use Rattle.std.specs.Prelude.{◌≡◌, ℕ, true, List, All, AllPairs, Contains, length}
 use Rattle.plan_states.specs.Tallies.{is_before}
 

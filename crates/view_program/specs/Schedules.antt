@@ -23,19 +23,20 @@ use Rattle.command_line.specs.declared.realmview.Schedules.TheVariants.{All, Dra
 abbrev pub random_numbers : ℕ → Stream
 random_numbers seed = stream_of (steps_u64_high plus_plus) (of_seed (splitmix_seed 32 seed))
 
--- the text of the outcomes of `count` schedules, drawn with the random numbers from a seed
+-- the text shows the outcomes of `count` schedules, drawn with the random numbers from a seed
 pub record IsDrawnText (count seed : ℕ) (plan : Plan) (text : List ℕ) : Type 0 where
   pub totals : Totals
   pub sampled : IsSampled plan (opening_host plan) (random_numbers seed) count totals
   pub whole : text ≡ drawn_text plan totals
 
--- the text for the requested schedules of a plan that was read from `source`
+-- the text shows the requested schedules of a plan that was read from `source`
 abbrev pub IsSchedulesText : Schedules → (source : List ℕ) → Plan → List ℕ → Type 0
 IsSchedulesText (All most) source plan text = IsStatesText most plan text
 IsSchedulesText (Drawn count seed) source plan text = IsDrawnText count seed plan text
 IsSchedulesText (Shortest most question) source plan text = IsAnswerText most question source plan text
 
--- the reason why there is no text: allocation failed, or, unless schedules are drawn, there is a mismatch
+-- the fault is a reason why there is no text: `Memory` for any schedules, and `Mismatch` for all schedules or a
+-- shortest one
 abbrev pub IsWithoutSchedules : Schedules → Plan → Fault → Type 0
 IsWithoutSchedules (All most) plan fault = HasNoGraph fault
 IsWithoutSchedules (Shortest most question) plan fault = HasNoGraph fault

@@ -1,4 +1,5 @@
--- The result of applying the remaining lines of a history to a host: all are applied, or there is a reason why not.
+-- The result of applying the remaining lines of a history to a host: all are applied, or there is a reason why some
+-- line is not.
 use Rattle.std.specs.Prelude.{◌≡◌, ◌+◌, ℕ, List, ◌∷◌, ◌++◌, length, Option, IfSome}
 use Rattle.host_ledger.specs.View.{HostView}
 use Rattle.checked_io.specs.Lines.{lines_in}
@@ -28,7 +29,7 @@ pub record AreCutShort (old : HostView) (lines : List (List ℕ)) (fault : ViewE
   pub taken : AreTaken old before mid
   pub untaken : IsUntaken mid line fault
 
--- the reason why not all remaining lines of the input are applied to the host
+-- the error is a reason why some of the input's remaining lines are not applied to the host
 abbrev pub AreNotTaken : Option (List ℕ) → HostView → ViewError → Type 0
 AreNotTaken input old (NoEvent number) = IfSome input (λ bytes. AreCutShort old (lines_in bytes) (NoEvent number))
 AreNotTaken input old (Refused number why words) = IfSome input (λ bytes. AreCutShort old (lines_in bytes) (Refused number why words))

@@ -1,4 +1,5 @@
--- The text of a plan with the shortest schedule that answers a question, or the line that says why none is given.
+-- A plan's text with a shortest schedule at whose end a given condition holds, or a line that says why no schedule is
+-- given.
 use Rattle.std.specs.Prelude.{◌≡◌, ◌⊎◌, ℕ, List, [], ◌∷◌, ◌++◌, codes, Ok}
 use Rattle.std.specs.Fmt.{decimal}
 use Rattle.realm_plan.specs.Plan.{Plan, plan_of}
@@ -10,7 +11,7 @@ use Rattle.command_line.specs.declared.realmview.ScheduleQuestion.{ScheduleQuest
 use Rattle.command_line.specs.declared.realmview.ScheduleQuestion.TheVariants.{Refused, Waiting, Leased}
 use Rattle.view_program.specs.OrderText.{with_schedule, IsWithOrder}
 
--- the question that the search gets for a question on the command line
+-- a condition from the command line, in the form that the search for a schedule takes
 abbrev pub question_of_options : ScheduleQuestion → TurnQuestion
 question_of_options (Refused place) = search.Refused place.build place.step
 question_of_options (Waiting build) = search.Waiting build
@@ -35,21 +36,21 @@ never_line (Leased granules) = never_leased_line granules
 
 -- ---- texts
 
--- The text is the plan's source text with this schedule put in. Read back, it is the plan with this schedule, whose
--- last turn answers the question.
+-- The text is the plan's source text with this schedule put in. Read back, it is the plan with this schedule, at whose
+-- end the condition holds.
 pub record IsPlanTo (question : TurnQuestion) (source : List ℕ) (plan : Plan) (schedule text : List ℕ) : Type 0 where
   pub is_text : IsWithOrder schedule source text
   pub is_plan : plan_of text ≡ Ok (with_schedule schedule plan)
   pub answers : EndsWithAnswer (with_schedule schedule plan) question schedule
 
--- the text is the plan's source text, with the first of the shortest schedules that answer the question
+-- the text is the plan's source text, with the first of the shortest schedules at whose end the condition holds
 pub record IsShortestPlan (most : ℕ) (question : TurnQuestion) (source : List ℕ) (plan : Plan) (text : List ℕ) : Type 0 where
   pub schedule : List ℕ
   pub shortest : IsShortest plan most question schedule
   pub is_plan : IsPlanTo question source plan schedule text
 
--- The text is the plan's source text with the first of the shortest schedules that answer the question, or a line that
--- says why none is given. The line says that no schedule answers it, or that there are more than `most` states.
+-- `IsShortestPlan` holds of the text, or the text is a line that says why no schedule is given. The line says that the
+-- condition holds at the end of no schedule, or that there are more than `most` states.
 abbrev pub IsAnswerText : ℕ → ScheduleQuestion → (source : List ℕ) → Plan → List ℕ → Type 0
 IsAnswerText most asked source plan text =
     IsShortestPlan most (question_of_options asked) source plan text

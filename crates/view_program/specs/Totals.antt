@@ -1,4 +1,4 @@
--- The condition that totals are the counts of step outcomes and of final host maps over several runs of a plan.
+-- Definitions of the totals of several runs of a plan, which count step outcomes and final host maps.
 use mathlib.Core.Bool.{beq}
 use Rattle.std.specs.Prelude.{◌≡◌, ℕ, ◌==◌, nat_eq, Bool, not, ◌&&◌, List, map, filter, length, is_some, string_bytes}
 use Rattle.std.specs.List.{flat_map, list_any, range_with_len}
@@ -12,7 +12,7 @@ use Rattle.view_program.specs.declared.schedules.choice.Choice.{Choice}
 use Rattle.plan_states.specs.declared.step_end.EndOfStep.{EndOfStep}
 use Rattle.view_program.specs.declared.schedules.totals.Totals.{Totals}
 
--- The outcome of a run: its schedule, the outcomes of its steps, and its final map.
+-- A run's schedule, the outcomes of the run's steps, and the host's final map.
 pub record Visit : Type 0 where
   pub choices : List Choice
   pub ends : List EndOfStep

@@ -11,18 +11,19 @@ use Rattle.explain.specs.declared.explained.ExplainedTurn.{ExplainedTurn}
 use Rattle.explain.specs.declared.explained.Explanation.{Explanation}
 use Rattle.realm_program.specs.Replay.{opening_host}
 
--- the lines of a reason, including the checks that passed if these are requested; no lines if there is no reason
+-- the text consists of the lines of a reason, including the checks that passed if these are requested; it is empty if
+-- there is no reason
 abbrev pub AreLinesBelow : Bool → Option Explanation → List ℕ → Type 0
 AreLinesBelow all None below = below ≡ []
 AreLinesBelow all (Some reason) below = AreReasonLines reason all below
 
--- the line of a turn, and below it the lines of the reason for its refusal, if it is refused
+-- the text is the line of a turn, followed by the lines of the reason for the refusal, if the turn is refused
 pub record IsTurnText (all : Bool) (turn : ExplainedTurn) (text : List ℕ) : Type 0 where
   pub below : List ℕ
   pub of_reason : AreLinesBelow all turn.reason below
   pub whole : text ≡ string_bytes turn.line ++ below
 
--- the texts of turns, one after another
+-- the text consists of the texts of the turns, one after another
 abbrev pub AreTurnTexts : Bool → List ExplainedTurn → List ℕ → Type 0
 AreTurnTexts all [] text = text ≡ []
 AreTurnTexts all (turn ∷ turns) text =
@@ -32,8 +33,8 @@ AreTurnTexts all (turn ∷ turns) text =
 abbrev pub unfinished_lines : HostView → List ℕ
 unfinished_lines host = flat_map abort_lines (filter_map (unfinished_abort host) (range_with_len 0 8))
 
--- The text of some run of the plan: the line of each turn and, below the line of a refused turn, the reason. Then the
--- map of the world that the run ends in, and the lines of the aborts that are under way.
+-- The text shows some run of the plan: the line of each turn and, below the line of a refused turn, the reason. Then
+-- the map of the world that the run ends in, and the lines of the aborts that are under way.
 pub record IsWhyText (all : Bool) (plan : Plan) (text : List ℕ) : Type 0 where
   pub last : HostView
   pub turns : List ExplainedTurn

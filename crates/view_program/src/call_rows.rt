@@ -1,5 +1,5 @@
-//! The actions of a host as rows of a C table. `examples/c/table.h` has the form of a row, and `examples/c/table.c`
-//! runs the rows.
+//! The actions of a host on an RMM, as rows of a C table. `examples/c/table.h` has the form of a row, and
+//! `examples/c/table.c` runs the rows.
 use history_calls::{Frame, HostAction};
 use realm_model::Rmi;
 use rmi_abi::{Call, encode_call};
@@ -13,7 +13,7 @@ const WRITE: u64 = 0;
 
 const SPIN: u64 = 12;
 
-/// A piece of a row's text.
+/// A piece of the text of a row in a C table.
 #[derive(Clone, Copy)]
 enum Piece<'a> {
     Text(&'a str),

@@ -6,8 +6,8 @@ ghost use Rattle.history_text.specs.declared.opening.Opening.{Opening};
 ghost use Rattle.realm_host.specs.declared.why_not.WhyNot.{WhyNot};
 ghost use Rattle.view_program.specs.Applied.{IsHistory, IsLegalText, OpensNone, IsNoEvent, IsEventRefused, StopsAt};
 
-/// Proves that any history a host accepts is legal in the realm model. The history's lines after the first are the
-/// texts of the host's events, in sequence.
+/// Proves that any history that a host accepts is legal. The history's lines after the first are the texts of the
+/// host's events, in sequence.
 pub fn what_is_applied_is_legal()
     ensures { (lines : List (List ℕ)) (o : Opening) (host : HostView) → IsHistory lines o host → IsLegalText lines host }
 {}

@@ -13,8 +13,8 @@ use toml_parser::{Key, ParseError, dotted_key, quoted, starts_string, unquoted};
 pub struct OrderPlace {
     pub from: usize,
     pub to: usize,
-    /// Whether this part is the value of the key `order` in a plan's text. If not, a line with the key can be put at
-    /// the place of this part.
+    /// A flag that says whether the replaced part is the value of the key `order`. If not, a line with the key can be
+    /// put there.
     pub is_value: bool,
 }
 

@@ -1,4 +1,4 @@
-//! The text of a schedule: the value of a plan's key `order`.
+//! The text of a schedule, which is the value of a plan's key `order`.
 ghost use Rattle.std.specs.Prelude.{◌≡◌, ◌++◌, IfOk, OnOk, string_bytes};
 ghost use Rattle.view_program.specs.OrderText.{order_array, turn_in_lines, turns_in_lines, turns_on_one_line};
 

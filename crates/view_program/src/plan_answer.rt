@@ -14,7 +14,7 @@ use realm_plan::{Plan, PlanError};
 use realm_program::Fault;
 use std::alloc::{AllocError, Global};
 
-// The question from the command line, in the form that the search takes.
+// The condition from the command line, in the form that the search takes.
 fn question_of_options(asked: ScheduleQuestion) -> TurnQuestion
     ensures { result ≡ question_of_options asked }
 {
@@ -32,7 +32,7 @@ fn question_of_options(asked: ScheduleQuestion) -> TurnQuestion
     }
 }
 
-// Whether the plan `read` is `plan` with this schedule, whose last turn answers the question.
+// Whether the plan `read` is `plan` with this schedule, at whose end the condition holds.
 fn ends_with_answer(
     alloc: Global,
     read: &Plan,
@@ -52,7 +52,7 @@ fn ends_with_answer(
 }
 
 // The text `source` of a plan, with `schedule` in place of its own. Read back, the text has to be the plan with this
-// schedule, whose last turn answers the question.
+// schedule, at whose end the condition holds.
 fn plan_to(
     alloc: Global,
     plan: &Plan,
@@ -71,8 +71,8 @@ fn plan_to(
     }
 }
 
-// The line that says that no schedule answers the question. Each schedule accepts the step, lets the build wait only
-// while another build holds something, or leases fewer granules at a time.
+// The line that says that the condition holds at the end of no schedule. No schedule refuses the step, lets the build
+// wait while another build leases no page, or leases as many granules at a time.
 fn never_text(alloc: Global, asked: ScheduleQuestion) -> Result<String, AllocError>
     ensures { IfOk result (λ text. string_bytes text ≡ never_line asked) }
 {
@@ -85,7 +85,7 @@ fn never_text(alloc: Global, asked: ScheduleQuestion) -> Result<String, AllocErr
     }
 }
 
-/// Returns a plan's text with the shortest schedule whose last turn answers the question `asked`. If there is no such
+/// Returns a plan's text with the shortest schedule at whose end the condition `asked` holds. If there is no such
 /// schedule, or if there are more than `most` states, returns a line that says so.
 ///
 /// Errors. `Memory`: allocation failed. `Mismatch`: with its new schedule the plan has too many turns or bytes. Or a

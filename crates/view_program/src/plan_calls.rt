@@ -269,9 +269,9 @@ fn calls_text(
     Ok(calls.text)
 }
 
-/// The text of the calls that a plan's run makes to an RMM. The text has a description of the machine, and each turn of
-/// the run as a comment. Below a turn are the calls for its event, or the call that the RMM refused. The text is
-/// missing only if allocation failed.
+/// A kind of text for a plan: the calls that the plan's run makes to an RMM. The text has a description of the machine,
+/// and each turn of the run as a comment. Below a turn are the calls for its event, or the call that the RMM refused.
+/// The text is missing only if allocation failed.
 #[derive(Drop)]
 pub struct Calls {
     /// The address of granule 0, in bytes.

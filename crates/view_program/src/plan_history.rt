@@ -69,8 +69,8 @@ fn run_text(alloc: Global, plan: &Plan, erase: Option<BuildId>) -> Result<String
     text_after_run(alloc, plan, &mut host, erase)
 }
 
-/// The text of the history of a plan's run, complete or without one build's events. The text is missing only if
-/// allocation failed, or for `EraseNamesNoBuild`: the build is not one of the plan's.
+/// A kind of text for a plan: the history of the plan's run, complete or without one build's events. The text is
+/// missing only if allocation failed, or for `EraseNamesNoBuild`: the build is not one of the plan's.
 #[derive(Drop)]
 pub struct Histories {
     /// The build whose events the history leaves out, if any.

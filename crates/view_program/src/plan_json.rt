@@ -22,7 +22,8 @@ pub(crate) fn run_of(alloc: Global, plan: &Plan) -> Result<(Document, HostLedger
     Ok((document, host.into_ledger()))
 }
 
-/// The JSON document that describes the run of a plan. The text is missing only if allocation failed.
+/// A kind of text for a plan: the JSON document that describes the plan's run. The text is missing only if allocation
+/// failed.
 #[derive(Drop)]
 pub struct Documents;
 

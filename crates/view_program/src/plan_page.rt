@@ -112,9 +112,9 @@ fn page_data(alloc: Global, plan: &Plan, source: &[u8]) -> Result<PageData, Allo
     })
 }
 
-/// Browser pages that show runs of plans. A page has the document of the run, the refused turns, and the plan's title.
-/// For each build, it also has the machine of a fresh host after the history without that build. The page is missing
-/// only if allocation failed.
+/// A kind of text for a plan: the browser page that shows the plan's run. The page has the document of the run, the
+/// refused turns, and the plan's title. For each build, it also has the machine of a fresh host after the history
+/// without that build. The page is missing only if allocation failed.
 #[derive(Drop)]
 pub struct Pages;
 

@@ -73,9 +73,9 @@ fn why_text(alloc: Global, plan: &Plan, all: bool) -> Result<String, AllocError>
     Ok(text)
 }
 
-/// The text of a plan's run, with the reason for each refusal. The text has the line of each turn, and the failed check
-/// below the line of a refused turn. Then it has the final map, and what each unfinished abort lacks. The text is
-/// missing only if allocation failed.
+/// A kind of text for a plan: the lines of the plan's run, with the reason for each refusal. The text has the line of
+/// each turn, and the failed check below the line of a refused turn. Then it has the final map, and what each
+/// unfinished abort lacks. The text is missing only if allocation failed.
 #[derive(Drop)]
 pub struct Reasons {
     /// Whether the checks that passed before the failed check are listed too.

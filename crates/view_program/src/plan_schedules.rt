@@ -69,8 +69,8 @@ fn plan_after(after: AfterRefusal, plan: Plan) -> Plan
     }
 }
 
-/// The text that `explore` prints about a plan's schedules: counts of their outcomes, or a plan with a shortest
-/// schedule. The plan's own schedule has no effect on the outcomes.
+/// A kind of text for a plan: counts of its schedules' outcomes, or the plan with a shortest schedule. The plan's own
+/// schedule has no effect on the outcomes.
 ///
 /// The schedules are all of the plan's, or some that are drawn at random. The text has the number of schedules, and
 /// counts of the steps' outcomes, of builds without a refusal, and of final maps. Each outcome that some but not all

@@ -1,4 +1,4 @@
-//! The title of a plan: the comment at the beginning of the plan's text.
+//! The title of a plan, which is the comment at the beginning of the plan's text.
 use std::alloc::{AllocError, Global};
 use std::str::from_utf8;
 

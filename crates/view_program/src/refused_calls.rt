@@ -1,4 +1,4 @@
-//! The host's actions, such as RMI calls, for a command that the RMM refuses.
+//! The actions of a host on an RMM, such as RMI calls, for a command that the RMM refuses.
 //!
 //! This project's RMM refuses some commands that RMM 1.0 accepts. Others it refuses with another result word.
 use buddy::BuddyArena;

@@ -1,4 +1,4 @@
-//! Schedules of a plan: drawn at random, in rotation, or one build after another.
+//! Schedules of a plan in which builds are drawn at random, take turns in rotation, or run one after another.
 mod add;
 mod choice;
 mod count;

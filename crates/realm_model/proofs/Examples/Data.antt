@@ -1,4 +1,4 @@
--- Examples of data pages under a table of level 3: one is measured and written by a guest, and all are destroyed.
+-- Examples of data pages under a table of level 3: one is measured, a guest writes to it, and all are destroyed.
 use Rattle.std.proofs.Common.{◌≡◌, ℕ, true, false, cond, ◌&&◌, List, [], ◌∷◌, ◌++◌, Some, None, set, refl, ap, ◌∙◌, lit≤}
 use Rattle.std.specs.FinMap.{get, insert, empty, get-insert, get-remove}
 use Rattle.std.specs.Cmp.{nat_cmp_total}
@@ -49,7 +49,7 @@ assigned ripas granule = record { state = Assigned; ripas = ripas; granule = Som
 pub put_here : (rows : Rows) (ipa : ℕ) (row : Row) → get (insert rows (3, ipa) row) (3, ipa) ≡ Some row
 put_here rows ipa row = get-insert place_total rows (3, ipa) row (3, ipa) ∙ ap (λ t. cond t (Some row) (get rows (3, ipa))) (place_self (3, ipa))
 
--- the rows with granule 4 mapped as a page, and (`without_page`) with that page unmapped again
+-- the rows after granule 4 is mapped as a page; `without_page` gives the rows after that page is unmapped again
 abbrev with_page : Rows → ℕ → RipasOf → Rows
 with_page rows ipa ripas = put_row rows 3 ipa (assigned ripas 4)
 
@@ -92,7 +92,7 @@ abbrev begun : List Event
 begun = by 0 (Take 3 0) ∷ by 0 (Fill 5 7) ∷ by 0 (Delegate 0) ∷ by 0 (Delegate 1) ∷ by 0 (Delegate 2) ∷ by 0 (Delegate 3) ∷ by 0 (Delegate 4)
     ∷ by 0 (Delegate 6) ∷ by 0 (Delegate 7) ∷ by 0 (Realm 0 start 2) ∷ []
 
--- the realm, with VMID 2
+-- the row of this example's realm at its creation, with VMID 2
 abbrev second : RealmRow
 second = record fresh { vmid = 2 }
 
@@ -130,7 +130,7 @@ rammed = step_by eight _ _ (by 0 (Ripas 8 4)) _ refl
     ∙ check_true _ _ _ refl ∙ check_true _ _ _ all_free)
     refl
 
--- the worlds after both tables are created, given the realm's row and the cells of granules 4, 6 and 7
+-- the world after the tables of levels 2 and 3 are created, given the realm's row and the cells of granules 4, 6 and 7
 abbrev late : RealmRow → Cell → Cell → Cell → World
 late realm fourth sixth seventh = world_of (rd realm ∷ table_page ∷ table_page ∷ table_page ∷ fourth ∷ source ∷ sixth ∷ seventh ∷ [])
 
@@ -169,7 +169,7 @@ entered : step eight (with_rec_pages (active with_data ready) (page_of 7)) (by 0
 unfolding named outcome_of fits updated_all check realm_from with_realm starting_tables
 entered = step_by eight _ _ (by 0 (Enter 0)) _ refl (rec_there (active with_data ready) 0 _ (rec Ready) (latest empty (rec Ready))) refl
 
--- the bytes of the page after the guest has written the last one
+-- the bytes of the page after the guest has written the page's last byte
 abbrev written : List ℕ
 written = set (page_of 7) 4095 1
 
@@ -193,8 +193,8 @@ unmade = step_by eight _ _ (by 0 (UnRec 6 (record { items = 7 ∷ [] }) 0)) _
     (ap (λ o. elim o [ Some r ↦ r.granule == 6 && bytes_eq r.auxiliaries (7 ∷ []) | None ↦ false ]) (latest (running rec) (rec Ready)))
     (rec_there (active with_data stopped) 0 _ (rec Ready) (latest (running rec) (rec Ready))) refl
 
--- A page is destroyed: if its RIPAS was RAM, it becomes DESTROYED. A page of zeros is mapped, and the RIPAS stays; the
--- realm is ACTIVE, and is not measured.
+-- The destruction of a page leaves its IPA DESTROYED if the RIPAS was RAM. A page of zeros is mapped, and the RIPAS
+-- stays; the realm is ACTIVE, and is not measured.
 module _ (rows : Rows) (ipa : ℕ) (ripas : RipasOf) (inside : is_protected_at ipa 39 ≡ true) where
   emptied : (bytes : List ℕ) → step eight (late (active (with_page rows ipa ripas) gone) (of_realm InData bytes) delegated delegated) (by 0 (UnData 4 ipa))
       ≡ Some (late (active (without_page rows ipa ripas) gone) delegated delegated delegated)

@@ -50,7 +50,7 @@ cleared-state : states (replay (machine_of 1) cleared) ≡ Some (Undelegated ∷
 unfolding after step named outcome_of fits updated_all check
 cleared-state = refl
 
--- the page is zero afterwards, whatever was filled in
+-- a page that was filled, delegated and undelegated is zero
 cleared-zero : pages_seen (replay (machine_of 1) cleared) ≡ Some (zero_page ∷ [])
 unfolding after step named outcome_of fits updated_all check
 cleared-zero = refl
@@ -72,7 +72,7 @@ filled-world : step (machine_of 2) bare (by 0 (Fill 1 255)) ≡ Some (record bar
 unfolding step named outcome_of fits updated_all check
 filled-world = refl
 
--- the world after page 1 is filled with 255; a Peek of page 1 must give this value, and it changes nothing
+-- the world after granule 1 is filled with the value 255; a Peek that reads another value there is not allowed
 abbrev filled : World
 filled = record bare { machine = page zero_page ∷ page (page_of 255) ∷ [] }
 
@@ -101,7 +101,7 @@ untaken-world : step (machine_of 2) filled (by 0 (UnTake 0 1)) ≡ Some (opening
 unfolding step named outcome_of fits updated_all check
 untaken-world = refl
 
--- all of these operations in sequence lead back to the opening world
+-- taking, filling, reading, delegating, undelegating and giving back a page lead back to the opening world
 in_turn-world : replay (machine_of 2) (by 0 (Take 0 1) ∷ by 0 (Fill 1 255) ∷ by 0 (Peek 1 4095 255) ∷ by 0 (Delegate 1) ∷ by 0 (Undelegate 1) ∷ by 0 (UnTake 0 1) ∷ [])
     ≡ Some (opening (machine_of 2))
 unfolding step named outcome_of fits updated_all check
@@ -147,7 +147,7 @@ unleased : replay (machine_of 2) (by 0 (Take 0 0) ∷ by 0 (Delegate 1) ∷ []) 
 unfolding after step named outcome_of fits updated_all check
 unleased = refl
 
--- a byte has eight bits, and a page 4,096 bytes
+-- a Fill with the value 256 is refused; by `too_far`, so is a Peek of byte 4096
 too_much : is_some (replay (machine_of 1) (by 0 (Take 0 0) ∷ by 0 (Fill 0 256) ∷ [])) ≡ false
 unfolding after step named outcome_of fits updated_all check
 too_much = refl

@@ -1,4 +1,4 @@
--- Examples of realm measurements, and of the bytes of the events that extend them.
+-- Examples of realm measurements, and of the bytes of the measurement events that extend them.
 use Rattle.std.proofs.Common.{◌≡◌, ℕ, List, [], ◌∷◌, ◌++◌, refl}
 use Rattle.std.specs.Prelude.{replicate}
 use Rattle.sha2.specs.Sha256.{sha256}

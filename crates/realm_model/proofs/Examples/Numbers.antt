@@ -56,7 +56,7 @@ rec_page = held InRec 1
 abbrev data_page : List ℕ → Cell
 data_page bytes = record (held InData 1) { bytes = bytes }
 
--- the worlds of this example, given the realm's row and the cells of granules 2, 3, 4, 6 and 7
+-- the world of this example, given the realm's row and the cells of granules 2, 3, 4, 6 and 7
 abbrev world : RealmRow → Cell → Cell → Cell → Cell → Cell → World
 world realm g2 g3 g4 g6 g7 = record { machine = cells; leases = map (λ _. Some 1) cells }
   where
@@ -140,7 +140,7 @@ with_both = record third { rows = with_data; measurement = m3; next = 2; recs = 
 abbrev active : Rows → Recs → RealmRow
 active rows recs = record with_both { state = Active; rows = rows; recs = recs }
 
--- the worlds with both tables, given the realm's row and the cells of the data page and of the RECs
+-- the world with the tables of levels 2 and 3, given the realm's row and the cells of the data page and of the two RECs
 abbrev whole : RealmRow → Cell → Cell → Cell → World
 whole realm g4 g6 g7 = world realm table_page table_page g4 g6 g7
 
@@ -163,7 +163,7 @@ entered : step (machine_of 8) (whole (active with_data both) (data_page (page_of
 unfolding named outcome_of fits updated_all check realm_from with_realm starting_tables
 entered = step_by (machine_of 8) _ _ (by 1 (Enter 1)) _ refl (rec_there (active with_data both) 1 _ (rec 7 Ready) (latest_second one (rec 7 Ready))) refl
 
--- the bytes of the page after the guest has written the one at 4094
+-- the bytes of the page after the guest has written byte 4094
 abbrev written : List ℕ
 written = set (page_of 7) 4094 9
 

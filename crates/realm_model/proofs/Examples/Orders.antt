@@ -1,4 +1,5 @@
--- Examples of the same events of two builds in different schedules.
+-- Examples of two builds: the same events in two sequences lead to the same world, but a page cannot be taken before it
+-- is given back.
 use Rattle.std.proofs.Common.{◌≡◌, zero, suc, List, [], ◌∷◌, Some, None, inl, inr, refl, sym, ◌∙◌, arith}
 use Rattle.granule_addr.specs.Page.{zero_page, page_of}
 use Rattle.realm_model.specs.declared.act.Act.TheVariants.{Take, UnTake, Fill, Delegate, Realm, UnRealm}
@@ -23,7 +24,7 @@ in_turns = by 0 (Take 0 0) ∷ by 1 (Take 0 1) ∷ by 0 (Fill 0 7) ∷ by 1 (Del
 abbrev one_by_one : List Event
 one_by_one = by 1 (Take 0 1) ∷ by 1 (Delegate 1) ∷ by 0 (Take 0 0) ∷ by 0 (Fill 0 7) ∷ []
 
--- the world with page 0 as build 0 filled it, and page 1 as build 1 delegated it
+-- the world in which build 0 has filled granule 0, and build 1 has delegated granule 1
 abbrev both : World
 both = record { machine = page (page_of 7) ∷ delegated ∷ []; leases = Some 0 ∷ Some 1 ∷ [] }
 
@@ -65,6 +66,6 @@ too_early : replay (machine_of 1) (by 0 (Take 0 0) ∷ by 1 (Take 0 0) ∷ by 0 
 unfolding after step named outcome_of fits updated_all check
 too_early = refl
 
--- the VMID of a realm that is destroyed is given back too
+-- the destruction of a realm gives back a VMID that the creation of another realm takes
 vmid_given : GivesTo (UnRealm 0 start 1) (Realm 2 start 1)
 vmid_given = inr (1, Contains-from_in (1 ∷ []) 1 refl, Contains-from_in (1 ∷ []) 1 refl)

@@ -78,7 +78,7 @@ entered-world : replay (machine_of 4) entered ≡ Some (world ready (of_realm In
 unfolding after step named outcome_of fits updated_all check realm_from with_realm new_realm starting_tables
 entered-world = refl
 
--- the REC runs
+-- the READY REC runs after its enter
 runs : step (machine_of 4) (world ready (of_realm InRec zero_page)) (by 0 (Enter 0)) ≡ Some (world running (of_realm InRec zero_page))
 unfolding named outcome_of fits updated_all check realm_from with_realm starting_tables
 runs = step_by (machine_of 4) _ _ (by 0 (Enter 0)) _ refl (rec_there (realm ready) 0 _ (rec Ready) (latest empty (rec Ready))) refl
@@ -96,12 +96,12 @@ runs-refused : outcome_in (machine_of 4) (world running (of_realm InRec zero_pag
 unfolding named outcome_of check realm_from with_realm starting_tables
 runs-refused = rec_there (realm running) 0 _ (rec Running) (latest (ready rec) (rec Running))
 
--- the REC stops
+-- the running REC is READY after its exit
 stops : step (machine_of 4) (world running (of_realm InRec zero_page)) (by 0 (Exit 0)) ≡ Some (world stopped (of_realm InRec zero_page))
 unfolding named outcome_of fits updated_all check realm_from with_realm starting_tables
 stops = step_by (machine_of 4) _ _ (by 0 (Exit 0)) _ refl (rec_there (realm running) 0 _ (rec Running) (latest (ready rec) (rec Running))) refl
 
--- the REC is destroyed, and its granule is DELEGATED
+-- after RMI_REC_DESTROY the REC is gone, and the REC's granule is DELEGATED
 goes : step (machine_of 4) (world stopped (of_realm InRec zero_page)) (by 0 unmade) ≡ Some (world gone delegated)
 unfolding named outcome_of fits updated_all check realm_from with_realm starting_tables
 goes = step_by (machine_of 4) _ _ (by 0 unmade) _
@@ -181,7 +181,7 @@ marked-legal = record {
   in_turn = joined [] stopped_again (by 0 unmade ∷ []) (forward [] stopped_again refl) (λ r. refl, tt);
 }
 
--- the rolled-back history without the build's events after the mark is the history at the mark: the REC, its runs and
+-- without the build's events after the mark, the rolled-back history is the history at the mark: the REC, its runs and
 -- the activation are left out
 marked-left : erase_after 0 (mark_at 0 on_four).place (stopped_again ++ by 0 unmade ∷ []) ≡ on_four
 marked-left = refl

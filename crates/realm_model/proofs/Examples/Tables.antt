@@ -1,4 +1,4 @@
--- An example of a table that is created, destroyed and created again, with the rows of the realm after each of these.
+-- An example of a table that is created, destroyed and created again, with the realm's rows after each command.
 use Rattle.std.proofs.Common.{◌≡◌, ℕ, ◌+◌, ◌-◌, ◌*◌, ◌<◌, true, false, cond, not, Some, None, Err, List, [], ◌∷◌, ◌++◌, refl, ap, ◌∙◌, arith, lit≤}
 use Rattle.std.specs.FinMap.{get, empty, get-insert, get-empty}
 use Rattle.std.specs.Option.{option_eq}
@@ -33,7 +33,7 @@ use Rattle.realm_model.proofs.Walks.{walk_there, walk_above}
 use Rattle.realm_model.proofs.Examples.Worlds.{machine_of, page, delegated, rd, table_page, start_rows, fresh, world_of, step_by, and_then, at_end, forward, joined}
 use Rattle.realm_model.proofs.Examples.Realms.{on_four, on_four-world}
 
--- an UNASSIGNED row with the given RIPAS, and (`leads`) a TABLE row that leads to the given granule
+-- an UNASSIGNED row with the given RIPAS; `leads` is a TABLE row that leads to the given granule
 abbrev pub vacant : Ripas → Row
 vacant ripas = record { state = Unassigned; ripas = ripas; granule = None }
 

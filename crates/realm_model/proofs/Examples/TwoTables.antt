@@ -21,11 +21,11 @@ use Rattle.realm_model.proofs.Walks.{walk_there}
 use Rattle.realm_model.proofs.Examples.Worlds.{machine_of, delegated, rd, table_page, start_rows, fresh, world_of, step_by}
 use Rattle.realm_model.proofs.Examples.Tables.{vacant, leads, apart, within_table, beside_table, without, tabled, tabled-above, tabled-beside, tabled-first, tabled-last}
 
--- the worlds of a realm on four granules, given its rows and the cells of the third and fourth granule
+-- the world of a realm on four granules, given the realm's rows and the cells of granules 2 and 3
 abbrev world : Rows → Cell → Cell → World
 world rows third fourth = world_of (rd (record fresh { rows = rows }) ∷ table_page ∷ third ∷ fourth ∷ [])
 
--- a table of level 2 for the first GiB, and one for the second
+-- the rows with two tables of level 2, one for the first GiB and one for the second
 abbrev two : Rows
 two = with_table tabled 2 262144 3 Empty
 

@@ -21,7 +21,8 @@ root_at first width = record { first = first; width = width }
 
 -- ---- a realm of four starting tables
 
--- a build of eight delegated granules makes a realm
+-- the events in which a build delegates eight granules and asks for a realm with the given RD, first starting table and
+-- IPA width
 abbrev wide : ℕ → ℕ → ℕ → List Event
 wide rd first width = by 0 (Take 3 0) ∷ map (λ g. by 0 (Delegate g)) (0 ∷ 1 ∷ 2 ∷ 3 ∷ 4 ∷ 5 ∷ 6 ∷ 7 ∷ []) ++ by 0 (Realm rd (root_at first width) 1) ∷ []
 
@@ -44,7 +45,8 @@ rd_apart : (is_some (replay (machine_of 8) (wide 4 4 41)) ≡ false) × (is_some
 unfolding after step named outcome_of fits updated_all check realm_from starting_tables
 rd_apart = (refl, refl)
 
--- a creation of a realm without the delegation of granule `g`; each granule that it names must be DELEGATED
+-- the events in which a build delegates the granules of a realm, except `g`, and asks for the realm; RMI_REALM_CREATE
+-- is refused if `g` is the first or the last starting table
 abbrev but_one : ℕ → List Event
 but_one g = by 0 (Take 3 0) ∷ map (λ k. by 0 (Delegate k)) (filter (λ k. not (k == g)) (0 ∷ 4 ∷ 5 ∷ 6 ∷ 7 ∷ [])) ++ by 0 (Realm 0 (root_at 4 41) 1) ∷ []
 

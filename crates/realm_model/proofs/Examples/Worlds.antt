@@ -29,7 +29,7 @@ machine_of pages = record { pages = pages; vmids = 8; aux = 0; builds = 2 }
 
 -- ---- cells and worlds
 
--- the cell of a page of the host with the given bytes
+-- the cell of an UNDELEGATED granule with the given bytes
 abbrev pub page : List ℕ → Cell
 page bytes = record { state = Undelegated; realm = None; bytes = bytes; descriptor = None }
 
@@ -37,36 +37,38 @@ page bytes = record { state = Undelegated; realm = None; bytes = bytes; descript
 abbrev pub delegated : Cell
 delegated = record { state = Delegated; realm = None; bytes = zero_page; descriptor = None }
 
--- the cell of the RD, granule 0, and (`of_realm`) of another granule of its realm
+-- the cell of granule 0 as the RD of the given realm; `of_realm` is the cell of another granule of that realm
 abbrev pub rd : RealmRow → Cell
 rd realm = record { state = Rd; realm = Some 0; bytes = zero_page; descriptor = Some realm }
 
 abbrev pub of_realm : GranuleState → List ℕ → Cell
 of_realm state bytes = record { state = state; realm = Some 0; bytes = bytes; descriptor = None }
 
--- the cell of a table of this realm
+-- the cell of a table of the realm whose RD is granule 0
 abbrev pub table_page : Cell
 table_page = of_realm InRtt zero_page
 
--- a single starting table, at granule 1, and (`start_rows`) the rows of a new realm with it
+-- the root of a realm with a single starting table, at granule 1; `start_rows` are the rows of a new realm with this
+-- root
 abbrev pub start : Root
 start = record { first = 1; width = 39 }
 
 abbrev pub start_rows : Rows
 start_rows = root_rows 39
 
--- a realm with VMID 1 that has just been made
+-- the row of a new realm with VMID 1
 abbrev pub fresh : RealmRow
 fresh = record { state = New; vmid = 1; root = start; next = 0; measurement = zero_measurement; recs = empty; rows = start_rows }
 
--- the RECs of a realm, by number; the REC last put at number 0 is the one found there (`latest`)
+-- the type of a realm's RECs by number; by `latest`, a REC that is put at number 0 is found there
 abbrev pub Recs : Type 0
 Recs = FinMap nat_cmp RecRow
 
 pub latest : (recs : Recs) (rec : RecRow) → get (insert recs 0 rec) 0 ≡ Some rec
 latest recs rec = get-insert nat_cmp_total recs 0 rec 0
 
--- the RECs of a realm in which REC 0 is created, runs, stops and is destroyed, given the REC's row in each state
+-- the type of `ready`, `running`, `stopped` and `gone`, each of which gives a realm's RECs, given the row of REC 0 in
+-- each state
 abbrev pub OneRec : Type 0
 OneRec = (RecState → RecRow) → Recs
 
@@ -100,15 +102,14 @@ pages_seen w = option_map (λ (w : World). map (λ (c : Cell). c.bytes) w.machin
 
 -- ---- steps
 
--- an allowed event whose outcome is a list of updates is a step to the world that the updates lead to; the outcome may
--- depend on rows or RECs
+-- if an event is allowed and its outcome is a list of updates, the event leads to the world after these updates
 pub step_by : (limits : Limits) (w v : World) (e : Event) (us : List Update) → is_allowed limits w e ≡ true → outcome_in limits w e ≡ Ok us → updated_all e.build us w ≡ Some v
     → step limits w e ≡ Some v
 unfolding step
 step_by limits w v e us allowed outcome did =
     ap (λ t. cond t (after_outcome e.build (outcome_in limits w e) w) None) allowed ∙ ap (λ o. after_outcome e.build o w) outcome ∙ did
 
--- if the first event leads to world `x`, all events lead where the remaining ones lead from `x`
+-- if a history's first event leads to `x`, the history leads to where its other events lead from `x`
 pub and_then : (limits : Limits) (w x : World) (o : Option World) (e : Event) (es : List Event) → step limits w e ≡ Some x → after limits es x ≡ o → after limits (e ∷ es) w ≡ o
 unfolding after
 and_then limits w x o e es stepped rest = ap (option_and_then (after limits es)) stepped ∙ rest

@@ -1,5 +1,5 @@
 -- The checks and look-ups that commands make in sequence, the refusals that these give, and the updates that write a
--- realm's row.
+-- realm's attributes.
 use Rattle.std.specs.Prelude.{ℕ, ◌==◌, List, [], ◌∷◌, Bool, true, false, cond, not, ◌&&◌, Some, None, Err}
 use Rattle.std.specs.List.{list_any}
 use Rattle.std.specs.FinMap.{get, insert}
@@ -55,7 +55,7 @@ is_delegated g = elim g.cell.state [ Delegated ↦ true | _ ↦ false ]
 abbrev pub is_in : ℕ → List ℕ → Bool
 is_in number others = list_any (λ other. number == other) others
 
--- the number is not among the others
+-- the number is not in the list
 abbrev pub is_apart_from : ℕ → List ℕ → Bool
 is_apart_from number others = not (is_in number others)
 
@@ -102,10 +102,10 @@ with_granule row f = elim row.granule [ Some granule ↦ f granule | None ↦ Er
 
 -- ---- the updates of a realm
 
--- the update that writes a realm's row to the cell of its RD
+-- the update that writes a realm's attributes to the cell of its RD
 abbrev pub put_realm : Seen → RealmRow → Update
 put_realm rd realm = Put rd.number (record rd.cell { descriptor = Some realm })
 
--- the update that sets the row of the realm's REC with the given number
+-- the update that sets the attributes of the realm's REC with the given number
 abbrev pub put_rec : Seen → RealmRow → ℕ → RecRow → Update
 put_rec rd realm number rec = put_realm rd (record realm { recs = insert realm.recs number rec })

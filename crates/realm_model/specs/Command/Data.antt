@@ -9,7 +9,8 @@ use Rattle.realm_model.specs.Update.{Outcome, Put}
 use Rattle.realm_model.specs.Command.Check.{check, error_input, error_realm, is_undelegated, is_delegated, is_new, is_protected, with_realm, with_granule, put_realm}
 use Rattle.realm_model.specs.Command.Found.{with_free_page, with_mapped_page}
 
--- A DELEGATED granule becomes a page of a NEW realm, with the bytes of an UNDELEGATED one. RMM 1.0, RMI_DATA_CREATE.
+-- A DELEGATED granule becomes a DATA granule of a NEW realm, with the bytes of an UNDELEGATED granule. RMM 1.0,
+-- RMI_DATA_CREATE.
 abbrev pub data_create : Seen → Seen → ℕ → Seen → Outcome
 data_create rd g ipa source =
     with_realm rd (λ realm.
@@ -22,8 +23,8 @@ data_create rd g ipa source =
       measurement = measurement_after realm.measurement (data_event ipa source.cell.bytes);
     }) ∷ [])))))
 
--- A DELEGATED granule becomes a page of a realm, filled with zeros; the RIPAS of its IPA does not change. RMM 1.0,
--- RMI_DATA_CREATE_UNKNOWN.
+-- A DELEGATED granule becomes a DATA granule of a realm, filled with zeros; the RIPAS of its IPA does not change. RMM
+-- 1.0, RMI_DATA_CREATE_UNKNOWN.
 abbrev pub data_create_unknown : Seen → Seen → ℕ → Outcome
 data_create_unknown rd g ipa =
     with_realm rd (λ realm.
@@ -32,8 +33,8 @@ data_create_unknown rd g ipa =
     Ok (Put g.number (held Data rd.number)
     ∷ put_realm rd (record realm { rows = put_row realm.rows 3 ipa (assigned row.ripas g.number) }) ∷ []))))
 
--- A page leaves its realm and becomes DELEGATED; if its IPA had the RIPAS RAM, it now has DESTROYED. RMM 1.0,
--- RMI_DATA_DESTROY.
+-- A DATA granule leaves its realm and becomes DELEGATED; if its IPA had the RIPAS RAM, the IPA now has DESTROYED. RMM
+-- 1.0, RMI_DATA_DESTROY.
 abbrev pub data_destroy : Seen → ℕ → Outcome
 data_destroy rd ipa =
     with_realm rd (λ realm.

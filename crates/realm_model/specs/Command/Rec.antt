@@ -51,8 +51,8 @@ rec_destroy rd number =
     (Ok (Put rec.granule left ∷ map (λ a. Put a left) rec.auxiliaries
     ++ put_realm rd (record realm { recs = remove realm.recs number }) ∷ []))))
 
--- A RUNNING REC writes a byte of a page of its realm, whatever the RIPAS of the IPA. This profile's own, for guest
--- instructions.
+-- A RUNNING REC writes a byte of a DATA granule of its realm, whatever the RIPAS of the IPA. This profile's own, for
+-- guest instructions.
 abbrev pub guest_write : Seen → ℕ → ℕ → ℕ → ℕ → Outcome
 guest_write rd number ipa offset value =
     with_realm rd (λ realm. with_rec realm number (λ rec.

@@ -25,8 +25,8 @@ rtt_destroy rd ipa level =
     (with_unused_table realm.rows ipa level (λ above. with_granule above (λ granule.
     Ok (Put granule left ∷ put_realm rd (record realm { rows = without_table realm.rows level ipa }) ∷ [])))))
 
--- UNASSIGNED pages of one table of a NEW realm become RAM, all or none. RMM 1.0, RMI_RTT_INIT_RIPAS.
--- A count of pages, and level 3 alone, is this profile's own.
+-- In a NEW realm, adjacent UNASSIGNED entries of one table of level 3 get the RIPAS RAM, all or none. RMM 1.0,
+-- RMI_RTT_INIT_RIPAS. A count of pages, and level 3 alone, is this profile's own.
 abbrev pub rtt_init_ripas : Seen → ℕ → ℕ → Outcome
 rtt_init_ripas rd ipa count =
     with_realm rd (λ realm.

@@ -14,7 +14,7 @@ abbrev pub with_wiped_if : Machine → Option ℕ → RmmGranule → Machine
 with_wiped_if m (Some granule) kept = with_wiped m granule kept
 with_wiped_if m None kept = m
 
--- the granule number of a REC's auxiliary granule k, if the address that the REC's page has for it is in the machine
+-- the granule that is a REC's auxiliary granule k, or `None` if the address stored for it is outside the machine
 abbrev pub aux_granule : Machine → ℕ → ℕ → Option ℕ
 aux_granule m rec k = granule_named m (aux_of (page_in m rec) k)
 

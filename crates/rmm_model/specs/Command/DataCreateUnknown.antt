@@ -11,7 +11,7 @@ use Rattle.rmm_model.specs.Machine.{Machine, number_of, with_granule, with_page}
 use Rattle.rmm_model.specs.Walk.{entry_at, with_entry, walk}
 use Rattle.rmm_model.specs.Command.Operand.{delegated_checks, rd_checks, realm_at, page_checks, entry_checks}
 
--- A DELEGATED granule becomes a zero page of a realm, and the RIPAS at the IPA is kept. RMM 1.0,
+-- A DELEGATED granule becomes a page of zeros in a realm, and the RIPAS of the page's IPA stays as it was. RMM 1.0,
 -- RMI_DATA_CREATE_UNKNOWN.
 unfoldable pub data_create_unknown : ℕ → ℕ → ℕ → Machine → Command
 data_create_unknown rd page ipa m =

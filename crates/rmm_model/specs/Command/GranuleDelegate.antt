@@ -7,7 +7,7 @@ use Rattle.rmm_model.specs.Granule.{is_undelegated}
 use Rattle.rmm_model.specs.Machine.{Machine, number_of, is_secure, state_at, with_blank}
 use Rattle.rmm_model.specs.Command.Operand.{address_checks}
 
--- An UNDELEGATED granule becomes DELEGATED, and its page is wiped. RMM 1.0, RMI_GRANULE_DELEGATE.
+-- An UNDELEGATED granule becomes DELEGATED, and its contents are wiped. RMM 1.0, RMI_GRANULE_DELEGATE.
 unfoldable pub granule_delegate : ℕ → Machine → Command
 granule_delegate address m = record {
   checks = address_checks GranAlign GranBound m address

@@ -6,7 +6,7 @@ use Rattle.rmm_model.specs.Check.{Command, success}
 use Rattle.rmm_model.specs.Machine.{Machine, number_of, with_blank}
 use Rattle.rmm_model.specs.Command.Operand.{delegated_checks}
 
--- A DELEGATED granule becomes UNDELEGATED, and its page is wiped. RMM 1.0, RMI_GRANULE_UNDELEGATE.
+-- A DELEGATED granule becomes UNDELEGATED, and its contents are wiped. RMM 1.0, RMI_GRANULE_UNDELEGATE.
 unfoldable pub granule_undelegate : ℕ → Machine → Command
 granule_undelegate address m = record {
   checks = delegated_checks GranAlign GranBound GranState m address;

@@ -16,11 +16,11 @@ use Rattle.rmm_model.specs.Rec.{no_rec}
 
 -- ---- granules
 
--- checks that a granule of the machine begins at an address
+-- checks that a granule of the machine begins at the given address
 abbrev pub address_checks : Condition → Condition → Machine → ℕ → List Check
 address_checks align bound m address = check align [] (not (is_aligned address)) error_input ∷ check bound (align ∷ []) (not (is_inside m address)) error_input ∷ []
 
--- checks that a DELEGATED granule begins at an address
+-- checks that a DELEGATED granule begins at the given address
 abbrev pub delegated_checks : Condition → Condition → Condition → Machine → ℕ → List Check
 delegated_checks align bound state m address =
     address_checks align bound m address ++ check state (bound ∷ []) (not (is_delegated (state_at m address))) error_input ∷ []
@@ -29,14 +29,14 @@ delegated_checks align bound state m address =
 abbrev pub is_host_s : Machine → ℕ → Bool
 is_host_s m address = is_undelegated (state_at m address) && not (is_secure m address)
 
--- checks that a page of the host begins at an address
+-- checks that a page of the host begins at the given address
 abbrev pub host_checks : Condition → Condition → Condition → Machine → ℕ → List Check
 host_checks align bound pas m address =
     address_checks align bound m address ++ check pas (bound ∷ []) (not (is_host_s m address)) error_input ∷ []
 
 -- ---- realms
 
--- checks that there is an RD at an address
+-- checks that there is an RD at the given address
 abbrev pub rd_checks : Machine → ℕ → List Check
 rd_checks m rd = address_checks RdAlign RdBound m rd ++ check RdState (RdBound ∷ []) (is_none (realm_of (state_at m rd))) error_input ∷ []
 
@@ -50,7 +50,7 @@ new_checks realm = check RealmState (RdState ∷ []) (not (is_new realm.state)) 
 
 -- ---- RECs
 
--- checks that there is a REC at an address
+-- checks that there is a REC at the given address
 abbrev pub rec_checks : Condition → Condition → Condition → Machine → ℕ → List Check
 rec_checks align bound state m rec =
     address_checks align bound m rec ++ check state (bound ∷ []) (is_none (rec_of (state_at m rec))) error_input ∷ []
@@ -61,7 +61,7 @@ rec_at m rec = unwrap_or (rec_of (state_at m rec)) no_rec
 
 -- ---- addresses of a realm
 
--- a level is between the least allowed one and 3
+-- a level is at least `least` and at most 3
 abbrev pub is_level : ℕ → ℕ → Bool
 is_level least level = nat_le least level && nat_le level 3
 
@@ -92,8 +92,8 @@ unprotected_checks s realm level ipa =
 
 -- ---- walks
 
--- checks that a walk reached a level, and that the entry there is as required. A failure is answered with the level at
--- which the walk ended.
+-- checks that a walk reached the given level, and that a test of the entry there succeeded. A failure is answered with
+-- the level at which the walk ended.
 abbrev pub entry_checks : List Condition → Walked → ℕ → Bool → (ℕ → SmcResult) → List Check
 entry_checks more found level is answer =
     check RttWalk (RdState ∷ IpaAlign ∷ IpaBound ∷ more) (not (found.level == level)) (answer found.level)

@@ -52,7 +52,7 @@ can_be_denied _ = false
 abbrev pub is_status : PsciRequest → ℕ → Bool
 is_status request status = status == psci_success || (status == psci_denied && can_be_denied request)
 
--- the PSCI result of a request, given whether its target is on and the host's status
+-- the PSCI result of a request, given the host's status and whether the request's target is on
 abbrev pub psci_result : PsciRequest → Bool → ℕ → ℕ
 psci_result (CpuOn target entry_point context) on status = if on then psci_already_on else status
 psci_result _ on status = if on then psci_success else psci_off

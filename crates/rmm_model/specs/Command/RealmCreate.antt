@@ -29,8 +29,8 @@ use Rattle.rmm_model.specs.Command.Operand.{host_checks, delegated_checks}
 unfoldable pub params_at : Machine → ℕ → RealmParams
 params_at m params = realm_params_in (page_in m (number_of m params))
 
--- the parameters of a realm ask for no more breakpoints and watchpoints than feature register 0 has, and their sve_vl
--- is 0
+-- the parameters of a realm ask for no more breakpoints and watchpoints than feature register 0 allows, and their
+-- sve_vl is 0
 abbrev pub fits_features : RmmSettings → RealmParams → Bool
 fits_features s p = nat_le p.num_bps s.bps && nat_le p.num_wps s.wps && p.sve_vl == 0
 
@@ -54,12 +54,12 @@ params_checks s p rd =
 
 -- ---- starting tables
 
--- each of a number of adjacent granules, from the given one on, is DELEGATED
+-- `count` adjacent granules, from granule `first` on, are all DELEGATED
 unfoldable pub are_delegated : Machine → ℕ → ℕ → Bool
 are_delegated m first zero = true
 are_delegated m first (suc count) = is_delegated (granule_at m first).state && are_delegated m (first + 1) count
 
--- a number of adjacent granules, from an address on, are all in the machine
+-- `count` adjacent granules, from address `base` on, are all in the machine
 abbrev pub is_range_inside : Machine → ℕ → ℕ → Bool
 is_range_inside m base count = is_inside m base && nat_le (number_of m base + count) (granule_count m)
 
@@ -71,7 +71,7 @@ can_start m p = is_range_inside m p.rtt_base p.rtt_num_start && are_delegated m 
 unfoldable pub is_vmid_valid : Machine → ℕ → Bool
 is_vmid_valid m vmid = nat_lt vmid (2 ^ m.settings.vmid_bits) && not (is_vmid_used m vmid)
 
--- checks that the starting tables can be used, and that the VMID is free
+-- checks that each starting table is a DELEGATED granule of the machine, and that the VMID is in range and free
 abbrev pub free_checks : Machine → RealmParams → List Check
 free_checks m p =
     check RttState (RttAlign ∷ []) (not (can_start m p)) error_input
@@ -102,7 +102,7 @@ realm_for m p = record {
 abbrev pub start_entry : RmmRealm → ℕ → RmmRttEntry
 start_entry realm n = if is_protected realm (n * entry_size realm.start_level) then Unassigned Empty else UnassignedNs
 
--- the page of starting table k of a new realm
+-- the contents of starting table k of a new realm
 unfoldable pub start_page : RmmRealm → ℕ → List ℕ
 start_page realm k = with_words 512 (λ i. entry_word (start_entry realm (k * 512 + i))) zero_page
 

@@ -8,7 +8,7 @@ use Rattle.rmm_model.specs.Machine.{Machine, number_of, page_in, with_blank, wit
 use Rattle.rmm_model.specs.Table.{has_live}
 use Rattle.rmm_model.specs.Command.Operand.{rd_checks, realm_at}
 
--- at least one of a number of adjacent tables, from the given one on, has a live entry
+-- at least one of `count` tables, in adjacent granules from `first` on, has a live entry
 unfoldable pub has_live_table : Machine → ℕ → ℕ → Bool
 has_live_table m first zero = false
 has_live_table m first (suc count) = has_live (page_in m first) || has_live_table m (first + 1) count

@@ -56,15 +56,15 @@ number_checks s page realm =
     ∷ check RealmState (RdState ∷ []) (not (is_new realm.state)) error_realm
     ∷ check NumRecs (RdState ∷ []) (not (nat_lt realm.rec_count (2 ^ s.max_recs_order))) error_realm ∷ []
 
--- word k of the page of a new REC. General-purpose registers 0 to 7, the pc and the addresses of the auxiliary granules
--- are those of its parameters, and all else is 0.
+-- word k of a new REC's granule. General-purpose registers 0 to 7, the pc and the addresses of the auxiliary granules
+-- are those of the REC's parameters, and all else is 0.
 abbrev pub rec_word : List ℕ → ℕ → ℕ
 rec_word page k =
     if nat_lt k 8 then gpr_in page k else
     (if k == 31 then pc_in page else
     (if nat_le 32 k then aux_in page (k - 32) else 0))
 
--- the page of a new REC, given the page of its parameters
+-- the contents of a new REC's granule, given the bytes that hold the REC's parameters
 unfoldable pub rec_page : List ℕ → List ℕ
 rec_page page = with_words 48 (rec_word page) zero_page
 

@@ -1,4 +1,5 @@
--- The command RMI_REC_ENTER: its checks, its answer and its effect, with the guest's steps and the host's interrupts.
+-- The command RMI_REC_ENTER: its checks, its answer and its effect, with the steps of the guest's program and the
+-- host's interrupts.
 use Rattle.std.specs.Prelude.{ℕ, zero, suc, ◌+◌, ◌-◌, ◌==◌, ◌&&◌, Bool, true, false, not, List, [], ◌∷◌, ◌++◌, Option, Some, None, if◌then◌else◌}
 use Rattle.page_arena.specs.Word.{word_of_page}
 use Rattle.rmi_abi.specs.declared.rec_run.ExitReason.{ExitReason}
@@ -79,13 +80,14 @@ is_emulatable _ = false
 
 -- ---- registers that are kept in pages
 
--- the machine after `count` words are copied from one granule's page to another's. The source begins at word `first`,
--- the target at word `place`.
+-- the machine after `count` words are copied from one granule to another. The source begins at word `first`, the target
+-- at word `place`.
 unfoldable pub with_copied : Machine → ℕ → ℕ → ℕ → ℕ → ℕ → Machine
 with_copied m from first to place count =
     with_page m to (with_words_from place count (λ i. word_of_page (page_in m from) (first + (i - place))) (page_in m to))
 
--- the machine after a REC gets general-purpose registers 0 to 30 from a run page. RMM 1.0, RmiRecEnter.gprs.
+-- the machine after a REC gets general-purpose registers 0 to 30 from the run page of RMI_REC_ENTER. RMM 1.0,
+-- RmiRecEnter.gprs.
 abbrev pub with_gprs : Machine → ℕ → ℕ → Machine
 with_gprs m g page = with_copied m page 64 g 0 31
 
@@ -101,7 +103,7 @@ with_exit_gic m g page = if m.settings.checks_gic then with_copied m g 192 page 
 
 -- ---- exits
 
--- the machine after the fields of an exit are written to the upper half of a page
+-- the machine after the fields of an exit are written to the upper half of a run page
 unfoldable pub with_exit_words : Machine → ℕ → RecExit → Machine
 with_exit_words m page exit = with_page m page (with_words_from 256 256 (exit_word exit) (page_in m page))
 
@@ -129,7 +131,8 @@ abbrev pub emulated : GuestStep → ℕ → StepResult
 emulated (Read ipa size) gpr0 = IsRead (low_bytes size gpr0)
 emulated _ gpr0 = Done
 
--- the machine after the step that caused the last exit ends with a result
+-- the machine after the guest's step that caused the last exit gets the given result, and the guest goes on to its next
+-- step
 abbrev pub with_step_ended : Machine → ℕ → StepResult → Machine
 with_step_ended m g r = with_result (past_step m g) g r
 
@@ -137,7 +140,7 @@ abbrev pub with_psci_result : Machine → ℕ → PsciRequest → Machine
 with_psci_result m g (Complete value) = with_result (with_rec m g (record (rec_in m g) { psci = NoRequest })) g (Psci value)
 with_psci_result m g _ = m
 
--- The machine after the guest gets the host's answer to its last exit. RMM 1.0, RmiRecEnter.
+-- The machine after a guest gets the host's answer to the guest's last exit. RMM 1.0, RmiRecEnter.
 abbrev pub with_host_answer : Machine → ℕ → LastExit → ℕ → ℕ → Machine
 with_host_answer m g RipasChange page flags =
     with_result (with_rec m g (record (rec_in m g) { ripas = no_request })) g (ripas_result (rec_in m g).ripas flags)
@@ -149,7 +152,7 @@ with_host_answer m g EmulatableAbort page flags =
     (if emulates_mmio flags then with_step_ended m g (emulated (first_step m g) (entry_gpr_in (page_in m page) 0)) else m)
 with_host_answer m g Other page flags = with_psci_result m g (rec_in m g).psci
 
--- the attributes of a REC once it runs, with the address of its run page
+-- the attributes of a REC after it is entered, with its run page at the given address
 abbrev pub running_at : Attributes → ℕ → Attributes
 running_at rec address = record rec { state = Running; run = address; exit = Other; result_count = 0 }
 
@@ -172,7 +175,7 @@ abbrev pub with_exit_of : Machine → ℕ → GuestStep → Bool → Machine
 with_exit_of m g step true = with_rec m g (rec_after_exit (rec_in m g) step)
 with_exit_of m g step false = m
 
--- the machine after the effect of a guest's step
+-- the machine after a guest's step takes effect, with the step still in the guest's ring of steps
 unfoldable pub after_step : Machine → RmmRealm → ℕ → GuestStep → StepOutcome → Machine
 after_step m realm g (Write ipa value size) outcome = after_write m ipa size value (access m realm ipa true size (low_bytes size value))
 after_step m realm g (Read ipa size) outcome = m
@@ -189,8 +192,8 @@ abbrev pub is_done : LastExit → Bool
 is_done SystemRegister = true
 is_done _ = false
 
--- the machine after a guest goes past a step and gets the step's result, if any. A step with a SYNC exit is tried
--- again, unless it writes a system register.
+-- the machine after a step of a guest's program: the step is removed unless it is to be tried again, and its result, if
+-- any, is added. A step with a SYNC exit is tried again, unless it writes a system register.
 abbrev pub with_step_passed : Machine → ℕ → StepOutcome → Machine
 with_step_passed m g (IsResult r) = with_result (past_step m g) g r
 with_step_passed m g (IsExit exit last) = if is_sync exit.reason && not (is_done last) then m else past_step m g
@@ -209,7 +212,7 @@ after_step_in m (Some realm) g flags =
     with_step_passed (after_step m realm g (first_step m g) (step_outcome m realm g flags (first_step m g))) g (step_outcome m realm g flags (first_step m g))
 after_step_in m None g flags = m
 
--- The outcome of the first step in a guest's ring, or an IRQ exit if the ring is empty.
+-- The outcome of the first step that is queued for a guest, or an IRQ exit if no step is queued.
 unfoldable pub first_step_outcome : Machine → ℕ → ℕ → StepOutcome
 first_step_outcome m g flags = if (rec_in m g).step_count == 0 then no_step else step_outcome_in m (owner_realm m g) g flags
 
@@ -221,8 +224,8 @@ continued (IsResult r) m g rest = rest
 continued (IsExit exit last) m g rest = (true, after_exit m g exit last)
 continued Spins m g rest = (false, m)
 
--- Whether a REC exits, and the machine after its guest performs at most a given number of steps. The first step that
--- causes an exit or spins is the last. If there is none, an IRQ exit follows.
+-- The machine after at most the given number of steps of a REC's guest, and `true` if the REC exits. The first step
+-- that causes an exit or spins is the last. If there is none, an IRQ exit follows.
 unfoldable pub after_steps : Machine → ℕ → ℕ → ℕ → Bool × Machine
 after_steps m g flags zero = (true, after_exit m g (only_reason Irq) Other)
 after_steps m g flags (suc count) = continued (first_step_outcome m g flags) (after_first_step m g flags) g (after_steps (after_first_step m g flags) g flags count)
@@ -273,8 +276,8 @@ rec_enter rec address m =
 abbrev pub runs_at : Machine → ℕ → Bool
 runs_at m address = is_rec_named m address && is_running (rec_at m address).state
 
--- An interrupt for the host makes the REC at an address exit if it is RUNNING; otherwise nothing changes, and there is
--- no answer. The answer is RMI_ERROR_INPUT if the REC's run page is no longer the host's.
+-- If the REC at the given address is RUNNING, an interrupt for the host makes the REC exit; otherwise nothing changes,
+-- and there is no answer. The answer is RMI_ERROR_INPUT if the REC's run page is no longer the host's.
 unfoldable pub interrupted : Machine → ℕ → Option Word × Machine
 interrupted m address =
     if runs_at m address then

@@ -20,7 +20,8 @@ use Rattle.rmm_model.specs.Command.Operand.{is_multiple}
 abbrev pub size_checks : ℕ → ℕ → List Check
 size_checks base top = check Size [] (nat_le top base) error_input ∷ []
 
--- checks that a range begins where an entry begins, that this entry can be changed, and that the range has all of it
+-- checks that a range begins at the start of an entry, that this entry can be changed, and that the range covers the
+-- whole entry
 abbrev pub progress_checks : List Condition → Machine → Changeable → Walked → ℕ → ℕ → List Check
 progress_checks after m changeable found base top =
     check BaseAlign after (not (is_multiple base (entry_size found.level))) (error_rtt found.level)

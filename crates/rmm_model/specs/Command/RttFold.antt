@@ -13,12 +13,13 @@ use Rattle.rmm_model.specs.Table.{entry_in_page, has_parts}
 use Rattle.rmm_model.specs.Walk.{entry_at, with_entry, table_below, walk}
 use Rattle.rmm_model.specs.Command.Operand.{rd_checks, realm_at, is_multiple, ipa_checks, entry_checks}
 
--- an entry can be moved one level up: if it is a mapping, its address is aligned to an entry of the level above
+-- if an entry leads to a page or a block, the address of the page or block is aligned to an entry of the level above
 abbrev pub is_aligned_above : RmmRttEntry → ℕ → Bool
 is_aligned_above entry level = not (is_mapping entry) || is_multiple (descriptor_of entry / 4096 * 4096) (entry_size (level - 1))
 
--- A table is homogeneous: its entries are the children of one entry, which is the table's first entry moved one level
--- up. That entry leads to no table, and can be moved up.
+-- A table is homogeneous: its entries are the children that its first entry would have if that entry were one level up.
+-- The first entry leads to no table. If the first entry is a mapping, the address to which it leads is aligned to an
+-- entry of the level above.
 unfoldable pub is_homogeneous : List ℕ → ℕ → Bool
 is_homogeneous page level =
     let first = entry_in_page page 0 in
@@ -35,7 +36,7 @@ fold_checks m found parent level =
     ++ check RttHomo (RtteState ∷ []) (not (is_homogeneous (page_in m (unwrap_or (table_below m parent) 0)) level)) (error_rtt level)
     ∷ check RttBlock (RttHomo ∷ []) (is_block_too_high m.settings (page_in m (unwrap_or (table_below m parent) 0)) level) (error_rtt (level - 1)) ∷ []
 
--- A homogeneous table is replaced by one entry of the level above, and its granule becomes DELEGATED. RMM 1.0,
+-- A homogeneous table is replaced by one entry of the level above, and the table's granule becomes DELEGATED. RMM 1.0,
 -- RMI_RTT_FOLD.
 unfoldable pub rtt_fold : ℕ → ℕ → ℕ → Machine → Command
 rtt_fold rd ipa level m =

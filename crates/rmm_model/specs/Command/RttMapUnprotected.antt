@@ -10,7 +10,7 @@ use Rattle.rmm_model.specs.Machine.{Machine}
 use Rattle.rmm_model.specs.Walk.{entry_at, with_entry, walk}
 use Rattle.rmm_model.specs.Command.Operand.{rd_checks, realm_at, is_multiple, unprotected_checks, entry_checks}
 
--- the field SH of a descriptor, bits 9:8, is valid: it is 0, or any value but 0b01 if the host may choose it
+-- the field SH of a descriptor, bits 9:8, is valid: it is 0, or the settings let the host choose it and it is not 0b01
 abbrev pub is_shareability : RmmSettings → ℕ → Bool
 is_shareability s desc = desc / 2 ^ 8 % 4 == 0 || (s.takes_shareability && not (desc / 2 ^ 8 % 4 == 1))
 

@@ -27,7 +27,8 @@ abbrev pub is_within : RmmRealm → RmmRec → Bool → ℕ → ℕ → Bool
 is_within realm asking is_owner base top =
     nat_le top asking.ripas.top && (not is_owner || (nat_le top base || is_protected realm base))
 
--- checks that a REC belongs to the realm and is not RUNNING, and that a range continues the REC's RIPAS request
+-- checks that a REC belongs to the realm and is not RUNNING, and that a range lies in the REC's RIPAS request. The
+-- range begins at the base of the request, and ends at or below its top.
 unfoldable pub ripas_request_checks : RmmRealm → RmmRec → Bool → ℕ → ℕ → List Check
 ripas_request_checks realm asking is_owner base top =
     check TopGranAlign [] (not (is_multiple top 4096)) error_input

@@ -17,10 +17,10 @@ ghost use Rattle.plan_states.specs.declared.graph.Graph.{Graph};
 ghost use Rattle.plan_states.specs.declared.tally.Outcomes.{Outcomes};
 ghost use Rattle.plan_states.specs.declared.step_end.EndOfStep.{EndOfStep};
 
-/// Proves that the schedule count of a plan's explored state graph is the number of the plan's schedules. A plan's
-/// schedules are those that a rule allows. The rule may be any that agrees with the paths of the graph. It says which
-/// of eight builds have a step left after which turns. In a plan without aborts and rollbacks that does not give up, a
-/// build has a step left if it had fewer turns than steps.
+/// Proves that the number of schedules counted on the graph of a plan's explored states is the number of the plan's
+/// schedules. A plan's schedules are those that a rule allows. The rule may be any that agrees with the paths of the
+/// graph. It says which of eight builds have a step left after which turns. In a plan without aborts and rollbacks that
+/// does not give up, a build has a step left if it had fewer turns than steps.
 pub fn all_schedules_are_counted()
     ensures by_rule { (plan : Plan) (most : ℕ) (graph : Graph) (outcomes : Outcomes) (left : List ℕ → ℕ → Bool)
         → IsGraphWithin plan most graph → AreOutcomes (length plan.builds) graph outcomes → IsRuleOf plan graph left

@@ -3,7 +3,8 @@ use Rattle.std.specs.List.{All}
 use Rattle.build_seats.specs.Seats.{SeatView}
 use Rattle.build_seats.proofs.close.audit.Given as goal
 
--- the books and the seats are unchanged, and each seat so far has the event count of its build in the books
+-- Each seat audited so far is of a build below 8, and its event count is the one that `books` has for that build.
+-- `books` and `seats` are unchanged.
 abbrev pub invariant-loop-seat : goal.invariant-loop-seat
 invariant-loop-seat g l =
     (l.books ≡ l.initial.books) × (l.seats ≡ l.initial.seats)

@@ -5,8 +5,8 @@ use Rattle.build_seats.specs.Passes.{unused}
 use Rattle.build_seats.specs.Seats.{new_seat}
 use Rattle.build_seats.proofs.seat.seats_of_trails.Given as goal
 
--- new seats for the first builds, unused passes for the other builds, an empty trail for each seat still to make, and
--- memory for all seats
+-- The seats made so far are those of builds 0, 1 and so on, with no event counted. An unused `Pass` is left for each
+-- other build, and an empty event list for each seat still to make. There is memory for all seats.
 abbrev pub invariant-loop-trail : goal.invariant-loop-trail
 invariant-loop-trail g l =
     (l.seats.items ≡ map new_seat (range_with_len 0 (vec_len l.seats)))

@@ -3,7 +3,7 @@ use Rattle.std.proofs.lemmas.Bool.{false≢true}
 use Rattle.decimal_text.proofs.Decimals.{plain_decimal, found_from_parse, none_from_parse}
 use Rattle.decimal_text.proofs.number.number_of.Goals as goal
 
--- a text that is not plain is the decimal text of no number
+-- a text that `is_plain` refuses, such as one with leading zeros, is the decimal text of no 32-bit number
 pub returns-then-not-is_plain-clause-none : goal.returns-then-not-is_plain-clause-none
 returns-then-not-is_plain-clause-none c = λ n small same.
     let wide : n < 2 ^ 64 = omega arith in

@@ -4,7 +4,8 @@ use Rattle.explain.specs.Explained.{up_to_failing}
 use Rattle.explain.specs.declared.check.Check.{Check}
 use Rattle.explain.proofs.explaining.up_to_failing.Goals as goal
 
--- the invariant of the loop holds after one more check is appended; if that check fails, it is the last one
+-- after the next check is appended, the loop invariant of `up_to_failing` still holds; if that check fails, the list of
+-- checks is complete
 with_check : (checks front new : List Check) (check : Check) (i : ℕ) (fails : Bool)
     → i < length checks → check ≡ get_or checks i check → check.fails ≡ fails → new ≡ front ++ check ∷ []
     → front ++ up_to_failing (drop i checks) ≡ up_to_failing checks

@@ -10,7 +10,7 @@ use Rattle.realm_host.specs.Refusals.{refusal_of}
 use Rattle.history_calls.specs.Prepared.{IsUndoPrepared, unless_refused, actions_of_back, newest_back}
 use Rattle.history_calls.proofs.law.undo_as_prepared.Goals as goal
 
--- if actions are prepared, there is no refusal
+-- if the result of `unless_refused` is a list of actions, its argument `refusal` is None
 not_refused : (refusal : Option Refusal) (rest : Result (ArrayVec HostAction) Refusal) (actions : ArrayVec HostAction) → unless_refused refusal rest ≡ Ok actions → refusal ≡ None
 not_refused None rest actions e = refl
 not_refused (Some refusal) rest actions e = cc

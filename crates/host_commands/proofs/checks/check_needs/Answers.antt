@@ -8,7 +8,7 @@ use Rattle.host_commands.specs.Checks.{Check, checked, first_that_holds, build_c
 use Rattle.host_commands.proofs.Refused.{none_of, some_of, is_checked_none, is_checked_some, by_first, by_second, by_third, by_last, all_there}
 use Rattle.host_commands.proofs.checks.check_needs.Goals as goal
 
--- a refusal by one of the first three lists of checks is that of the command, if the lists before it find nothing
+-- if one of the first three lists of checks gives a refusal, and no earlier list does, the command gets this refusal
 module _ (view : BuildsSummary) (build : ℕ) (cmd : Cmd) (refusal : Refusal) where
   abbrev pages : List Check
   pages = page_checks view build (operands cmd)

@@ -1,4 +1,4 @@
--- The proof of `allocate`, which returns an empty row in a new allocation, with the right to free the memory. Assumes
+-- The proof of `allocate`, which returns an empty array in a new allocation, with the right to free the memory. Assumes
 -- the separation logic `Logic`.
 use Rattle.page_arena.proofs.Steps.{◌*◌, ◌<◌, ◌^◌, ◌∷◌, ◌∵◌, ◌⊛◌, ◌$◌, !, Ended, Stays, Val, [], agg, ap, arith, align_word, alloc_all, and_then}
 use Rattle.page_arena.proofs.Steps.{at_ret, await, bin, block_ptr, done, drop, ends_at, enter, env, exec, fact, first, fjoin, flft, fld, framed}
@@ -95,7 +95,7 @@ allocate_spec 𝓤 𝓛 𝓜 𝓡 wired X W LX LW g d dd met md =
     sets ! (agg ! (and_then ! (get ! refl) (and_then ! (get ! refl) (no_more !)))) refl typed $
     sets_last ! (agg ! (and_then ! (lit ! tt) (and_then ! (get ! refl) (no_more !)))) refl ok $
     exec ! 𝓣.C 𝓣.Λ En (after 3 fn.body) (at_ret En (W'.post y)) $ sets ! (of_opd ! (get ! refl)) refl ok $
-    -- [the room; the right to give it back; the token; the other tokens]
+    -- [the unused memory; the right to free it; the token; the other tokens]
     use2 𝓛 (‵ (All E 𝓛 (right E by) b o room [])) (fresh E 𝓛 (right E by) b o room) $ use0 𝓛 (‵ (Mark E row (mark ∷ []))) (mark_made E 𝓛 row) $ fjoin ! $
     use0 𝓛 (‵ ((Starts E).own_val start (word (block_ptr b o) ∷ []))) (start_made E 𝓛 start) $
     use2 𝓛 (‵ ((Both E).own_val (start, row) (made ∷ []))) (pair_of 𝓛 (Starts E) (Owner E) start row (word (block_ptr b o)) mark) $

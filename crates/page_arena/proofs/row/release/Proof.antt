@@ -1,4 +1,4 @@
--- The proof of `release`, which frees the memory of a row without dropping the row's items. Assumes the separation
+-- The proof of `release`, which frees the memory of an array without dropping the array's items. Assumes the separation
 -- logic `Logic`.
 use Rattle.page_arena.proofs.Steps.{◌*◌, ◌<◌, ◌≤◌, ◌^◌, ◌≡◌, ◌∙◌, ◌∷◌, ◌∵◌, ◌⊛◌, ◌$◌, !, Ended, List, Stays, Val, [], ap, arith, align_word, alloc_all}
 use Rattle.page_arena.proofs.Steps.{and_then, at_ret, await, bin, block_ptr, blocks, done, drop, ends_at, enter, env, exec, fact, feq_i, first, fjoin}

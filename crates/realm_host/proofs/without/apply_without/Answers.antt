@@ -8,7 +8,7 @@ use Rattle.realm_host.proofs.without.apply_without.Goals as goal
 pub loop-event-init : goal.loop-event-init
 loop-event-init g c = nothing_yet c.args.ledger.now c.args.build c.args.fresh.now c.requires
 
--- no event of another build is refused
+-- the fresh host refuses no event of the other builds
 pub unreachable-requires : goal.unreachable-requires
 unreachable-requires g c =
     let items = c.history-event-items.ensures.events in

@@ -5,7 +5,7 @@ use Rattle.realm_plan.specs.PlanView.{plan_view}
 use Rattle.realm_program.specs.Workers.{new_worker}
 use Rattle.realm_program.proofs.new_workers.workers_of.Given as goal
 
--- each seat taken so far has its new worker, in sequence of the builds
+-- the workers created so far are the new workers of the builds from 0 on, one for each seat taken
 abbrev pub invariant-loop-seat : goal.invariant-loop-seat
 invariant-loop-seat g l =
     (l.yielded ++ into_iter_items l.seat-iterator ≡ into_iter_items l.initial.seat-iterator)

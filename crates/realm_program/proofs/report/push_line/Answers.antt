@@ -8,7 +8,7 @@ use Rattle.build_seats.specs.declared.report.ReportLine.{ReportLine}
 use Rattle.realm_program.specs.Report.{step_of_line, line_text}
 use Rattle.realm_program.proofs.report.push_line.Goals as goal
 
--- if two steps are equal, the text of a line with one step is also its text with the other
+-- if `step` equals `its`, and a text grew by a line for the step `its`, then the text grew by the same line for `step`
 of_step : {T E : Type 0} (result : Result T E) (new old : List ℕ) (build : ℕ) (line : ReportLine) (next : Option ReportLine) {step its : Option PlanStep}
     → step ≡ its
     → OnOk result (new ≡ old ++ line_text build its line next)

@@ -8,7 +8,7 @@ use Rattle.host_ledger.specs.View.{HostView}
 use Rattle.rhm_c.specs.Undoing.{refusal_without_mark}
 use Rattle.rhm_c.proofs.marks.refusal_without_mark.Goals as goal
 
--- the result of a sequence of checks, given the refusal of the first that holds: this refusal, or success if none holds
+-- the result of a sequence of checks: the refusal of the first failed check, if there is one, and otherwise success
 abbrev result_of : Option Refusal → Result (Unit {0}) Refusal
 result_of o = elim o [ Some refusal ↦ Err refusal | None ↦ Ok tt ]
 

@@ -12,7 +12,7 @@ zero_either : (b : Bool) (n : ℕ) → n ≡ 0 → cond b 0 n ≡ 0
 zero_either true n none = refl
 zero_either false n none = none
 
--- a function that is 0 at each index, with a case for each word of the list
+-- the constant function 0, after its value at each index of a list is replaced by 0
 abbrev zero_fields : List ℕ → ℕ → ℕ
 zero_fields [] i = 0
 zero_fields (j ∷ js) i = but j 0 (zero_fields js) i

@@ -5,7 +5,8 @@ use Rattle.rmm_model.specs.Realm.{is_protected}
 use Rattle.rmm_granules.proofs.Widths.{space_fits, half_fits}
 use Rattle.rmm.proofs.set_ripas.check_request.Goals as goal
 
--- if the REC belongs to the realm and the range is not empty, the range begins at a protected address
+-- the range begins at a protected address, as is known for a range that is not empty and a REC that belongs to the
+-- realm
 protected : (is_owner none is : Bool) → is_owner ≡ true → none ≡ false → (not is_owner || (none || is)) ≡ true → is ≡ true
 protected true false true owned some either = either
 protected true false false owned some either = either

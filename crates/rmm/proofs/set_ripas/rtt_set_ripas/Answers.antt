@@ -15,12 +15,12 @@ use Rattle.rmm_model.specs.Command.RttSetRipas.{rtt_set_ripas, set_changeable}
 use Rattle.rmm.proofs.set_ripas.rtt_set_ripas.Goals as goal
 
 module _ (m : Machine) (base top : ℕ) where
-  -- the machine after the REC gets the given request, with its base moved to `count` entries after `base`
+  -- the machine after a REC gets the given RIPAS request with the base `base + count * size`
   abbrev asks : RipasRequest → ℕ → ℕ → ℕ → Machine → Machine
   asks request g count size now = with_rec now g (record (rec_in now g) { ripas = record request { base = base + count * size } })
 
-  -- the machine after `count` entries of the found table, from entry `first` on, get the requested RIPAS, and the base
-  -- of the request is moved to `count` entries after `base`
+  -- the machine after `count` entries of the found table, from `first` on, get the requested RIPAS, and the request's
+  -- base is `base + count * size`
   abbrev changed : Walked → RipasRequest → ℕ → ℕ → ℕ → ℕ → Machine
   changed found request g first count size = asks request g count size (with_ripas_from m found.table first request.ripas count)
 

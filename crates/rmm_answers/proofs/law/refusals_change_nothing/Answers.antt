@@ -36,7 +36,7 @@ use Rattle.rmm_model.specs.Machine.{Machine, number_of, page_in}
 use Rattle.rmm_answers.specs.Call.{is_refused}
 use Rattle.rmm_answers.proofs.law.refusals_change_nothing.Goals as goal
 
--- the answer for an entered REC is no refusal, whether the REC leaves or runs on
+-- the answer for an entered REC is no refusal, whether the REC exits or runs on
 entered : (leaves : Bool) → is_refused (number (entered_answer leaves).word) ≡ false
 entered true = refl
 entered false = refl

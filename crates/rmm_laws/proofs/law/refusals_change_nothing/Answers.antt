@@ -88,7 +88,7 @@ running_word ErrorRec is = absurd (omega arith)
 running_word (ErrorRtt index) is = absurd (omega arith)
 running_word Running is = refl
 
--- no check is refused with the word of a REC that runs on
+-- no check of a list refuses with the word for a REC that runs on
 abbrev none_runs : List Check → Bool
 none_runs [] = true
 none_runs (c ∷ cs) = not (runs c.refusal.answer.word) && none_runs cs

@@ -8,8 +8,8 @@ use Rattle.schedule_graph.proofs.number.push_digits.Goals as goal
 abbrev code : ℕ → ℕ
 code digit = 48 + digit
 
--- a text of the first `done` digits, from the highest on, becomes that of the first `done + 1` once the next digit is
--- appended
+-- if a text ends with the first `done` digits, from the highest on, it ends with the first `done + 1` once the next
+-- digit is appended
 more : (digits : List ℕ) (done digit : ℕ) (old between new : List ℕ) → done < length digits → digit ≡ get_or digits (length digits - 1 - done) 0 → digit < 10
     → between ≡ old ++ map code (take done (reverse digits)) → new ≡ between ++ decimal digit → new ≡ old ++ map code (take (done + 1) (reverse digits))
 more digits done digit old between new inside is small so_far then =

@@ -86,7 +86,7 @@ module _ (E : Bx) where
         sets ! (of_opd ! (get_in ! (fld ! refl (stop !)) (sub ! 0 refl (whole !)))) refl (tt, tt) $ sets ! (of_opd ! (get_in ! (fld ! refl (stop !)) (sub ! 1 refl (whole !)))) refl fa $
         first ! $ blocks ! $ sets ! (of_opd ! (get ! refl)) refl fa $
         move ! (4 ∷ []) $ split3 ! $ move ! (2 ∷ []) $ drop ! $ move ! (1 ∷ 2 ∷ []) $ join ! $ move ! (1 ∷ 0 ∷ []) $ join ! $
-        -- [what `from_raw` requires; the allocator's handle; true; the lifetime tokens]
+        -- [what `from_raw` requires; the allocator's handle; the trivial fact; the lifetime tokens]
         move ! (2 ∷ []) $ feq_i ! (List Val) (vptr b o ∷ []) (vptr b o ∷ []) refl $ fjoin ! $ move ! (2 ∷ 0 ∷ []) $ fjoin ! $ move ! (2 ∷ 0 ∷ []) $ join ! $ join ! $
         use1 𝓛 (raw (Shuts.pre y)) (id⊢ 𝓤 _) $
         calls_at_last ! (fm_of 𝓤 H 𝓛.laws 𝓣) Shuts kn y (and_then ! (get ! refl) (and_then ! (get ! refl) (no_more !))) (λ u.

@@ -7,7 +7,8 @@ use Rattle.buddy.proofs.Linking.{take_between, take_last, take_front, take_only,
 use Rattle.buddy.proofs.links.Links.take_out.Goals as goal
 use Rattle.buddy.proofs.links.Links.take_out.Goals.{then-prev-len, else-prev-len}
 
--- The lists after a granule is removed, in the four cases of its neighbours: both, a previous one, a next one, none.
+-- The lists are linked after the block at granule `g` is removed, whether it has both neighbours, only a previous one,
+-- only a next one, or none.
 record Without (heads next prev firsts : List ℕ) (g k p n : ℕ) : Type 0 where
   between : p < length heads → n < length heads → IsLinked (length (set heads g 0)) (set heads g 0) (set next p n) (set prev n p) firsts
   last : p < length heads → length heads ≤ n → IsLinked (length (set heads g 0)) (set heads g 0) (set next p n) prev firsts

@@ -2,7 +2,7 @@ use Rattle.std.proofs.Common.{ℕ, set, sym, ap, ◌∙◌, add-zero}
 use Rattle.std.proofs.lemmas.List.{set-get_or}
 use Rattle.build_seats.proofs.ledgers.Books.audit.Goals as goal
 
--- adding 0 leaves the books and the pass as they are
+-- adding 0 to a build's event count leaves `books` and the `Pass` unchanged
 pub returns-clause-same : goal.returns-clause-same
 returns-clause-same g c =
     let pass = c.args.pass.now in

@@ -3,8 +3,8 @@ use Rattle.std.proofs.lemmas.List.{set-append_left, set-append_right, get_or_app
 use Rattle.page_arena.specs.Page.{page_at}
 use Rattle.page_arena.proofs.plain.pages.copy_page.Goals as goal
 
--- if the pages are split at the higher of target and source, writing the source's bytes to the target in its part
--- copies the page
+-- if the list of pages is cut before the higher of the pages `target` and `source`, a copy from one part to the other
+-- is a copy in the whole list
 module _ (pages front back : List (List ℕ)) (target source : ℕ) (page : List ℕ) (value : pages ≡ front ++ back) where
   copied_up : length front ≡ source → target < source → page ≡ get_or back 0 [] → set front target page ++ back ≡ set pages target (page_at pages source)
   copied_up long below is =

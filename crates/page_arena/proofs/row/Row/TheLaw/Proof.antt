@@ -1,4 +1,4 @@
--- The proof that a shared borrow of a row consists of the shared borrows of its items. The unused capacity and the
+-- The proof that a shared borrow of a `Row` consists of the shared borrows of its items. The unused capacity and the
 -- right to free the memory are not borrowed. Assumes the separation logic `Logic`.
 use mathlib.Core.Path.{sym, subst}
 use mathlib.Core.List.{[], ◌++◌}

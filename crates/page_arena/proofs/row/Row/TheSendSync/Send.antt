@@ -1,4 +1,4 @@
--- The proof that a row is `Send` if its items and its allocator are `Send`.
+-- The proof that a `Row` is `Send` if its items and its allocator are `Send`.
 use base.Shift.{Keyless}
 use mir.Syntax.{Ty, ty_array}
 use mir.Raw.{raw}

@@ -1,4 +1,4 @@
--- The proof of `get`, which returns a shared reference to one item of a row. Assumes the separation logic `Logic`.
+-- The proof of `get`, which returns a shared reference to one item of an array. Assumes the separation logic `Logic`.
 use Rattle.page_arena.proofs.Steps.{◌+◌, ◌*◌, ◌∙◌, ◌∷◌, ◌∵◌, ◌⊛◌, ◌$◌, !, Ended, List, Ptr, ShrRef, Stays, Val, [], addr, alloc_all, at_ret, bin, blocks, done}
 use Rattle.page_arena.proofs.Steps.{drop, ends_at, enter, env, exec, fact, fat, feq_i, first, fjoin, fld, free_all, fsplit, full_share, get, get_in, get_or}
 use Rattle.page_arena.proofs.Steps.{give_at, Goes-dropped, heard, hide, in_a_block, inst_fn, join, keep, layout, length, look_at, move, named, no, nothing}

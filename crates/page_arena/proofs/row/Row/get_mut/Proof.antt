@@ -1,5 +1,5 @@
--- The proof of `get_mut`, which returns a mutable reference to one item of a row. A write through the reference changes
--- the row. Assumes the separation logic `Logic`.
+-- The proof of `get_mut`, which returns a mutable reference to one item of an array. A write through the reference
+-- changes the array. Assumes the separation logic `Logic`.
 use Rattle.page_arena.proofs.Steps.{◌+◌, ◌*◌, ◌∙◌, ◌∷◌, ◌∵◌, ◌⊛◌, ◌$◌, !, Ended, GName, MutRef, Ptr, Stays, [], addr, alloc_all, at_ret, await, bin}
 use Rattle.page_arena.proofs.Steps.{blocks, done, drop, ends_at, enter, env, exec, fact, fat, fjoin, first, flft, fld, frame, free_all, fsplit, fsplit3}
 use Rattle.page_arena.proofs.Steps.{full_share, get, get_in, get_or, give_at, Goes-dropped, Goes-spent_ref, group, heard, id⊢, in_a_block, inst_fn}

@@ -1,4 +1,5 @@
--- The proof of `put`, which replaces an item of a row or adds an item at the end. Assumes the separation logic `Logic`.
+-- The proof of `put`, which replaces an item of an array or adds an item at the end. Assumes the separation logic
+-- `Logic`.
 use Rattle.page_arena.proofs.Steps.{◌+◌, ◌*◌, ◌<◌, ◌≤◌, ◌≡◌, ◌∙◌, ◌∷◌, ◌++◌, ◌∵◌, ◌⊛◌, ◌$◌, !, Ended, List, Ptr, SProp, Stays, Val, [], alloc_all, assigns_last}
 use Rattle.page_arena.proofs.Steps.{at_ret, bin, blocks, closes, done, drop, ends_at, ent, enter, env, exec, fact, fat, feq_i, first, fjoin, fjoin3, flft}
 use Rattle.page_arena.proofs.Steps.{fld, free_all, froom, fsplit, fsplit3, full_share, get, get_in, give_at, Goes-dropped, Goes-ref, heard, in_a_block, init}

@@ -1,5 +1,5 @@
--- The proof of `two`, which returns a shared reference to one item of a row and a mutable one to another. A write
--- through the mutable one changes the row. Assumes the separation logic `Logic`.
+-- The proof of `two`, which returns a shared reference to one item of an array, and a mutable reference to another. A
+-- write through the mutable reference changes the array. Assumes the separation logic `Logic`.
 use Rattle.page_arena.proofs.Steps.{◌+◌, ◌*◌, ◌∙◌, ◌∷◌, ◌∵◌, ◌⊛◌, ◌$◌, !, Ended, GName, List, Logic, MutRef, Ptr, ShrRef, Stays, Val, [], addr, agg}
 use Rattle.page_arena.proofs.Steps.{alloc_all, and_then, at_ret, await, bin, blocks, done, drop, ends_at, enter, env, exec, fact, fat, fbor, feq_i, first}
 use Rattle.page_arena.proofs.Steps.{fjoin, fjoin3, flft, fld, fobs, frame, free_all, fsep, fsplit, fsplit3, ftrue, full_share, get, get_in, get_or}
@@ -76,7 +76,8 @@ two_spec 𝓤 𝓛 𝓜 𝓡 wired X W LX LW g d dd met md =
     use1 𝓛 (‵ (part_at (R E) full_share x b from) ⊛ ‵ (part_at (R E) full_share z b to) ⊛ ‵ both.besides) (both.out shown.0) $ split3 ! $
     let Mine = written E 𝓛 row rb ro us b o e write in let Beside = PairRest E 𝓛 row rb ro us b o e read write both in
     let way = pair_back E 𝓛 row rb ro us b o e read write both shown.0 in let Qs = part_at (R E) full_share x b from ∷ [] in
-    -- [the first; the second; besides; the mark; the row's cell; the open borrow; obs; auth; the other tokens]
+    -- [the first item; the second item; the rest of the array; the mark; the row's cell; the open borrow; obs; auth;
+    -- the other tokens]
     move ! (3 ∷ 4 ∷ []) $ fjoin ! $ move ! (3 ∷ 0 ∷ []) $ fjoin ! $ nothing ! $ move ! (2 ∷ 0 ∷ []) $ fjoin ! $ use1 𝓛 (‵ (fseps Qs)) (kept 𝓛 (part_at (R E) full_share x b from)) $
     move ! (3 ∷ 4 ∷ 5 ∷ 2 ∷ 0 ∷ 1 ∷ []) $ group ! 6 $
     use1 𝓛 (later (some (λ (δ : GName). ‵ (fobs δ ((R E).coded.code z)) ⊛ ‵ (fbor κ (Borrowed (mem (R E)) b to δ)) ⊛ ‵ (flft κ q) ⊛ ‵
@@ -84,7 +85,7 @@ two_spec 𝓤 𝓛 𝓜 𝓡 wired X W LX LW g d dd met md =
     (takes_beside 𝓛 (mem (Owner E)) (mem (R E)) Mine κ q rb ro b to γ Qs (sem 𝓛 Beside) way coded coded z) $ await ! tt $ pick ! (λ δ.
     let r : (ShrRef (named 0) κ (R E)).Denot = record { ref_ptr = (b, from); now = x } in let w : (MutRef (named 0) κ (R E)).Denot = record { ref_ptr = (b, to); ghost_name = δ; now = z } in
     split3 ! $ move ! (2 ∷ []) $ split3 ! $ move ! (2 ∷ []) $ split ! $ move ! (1 ∷ []) $ drop ! $
-    -- [the borrow of the first; the token; what follows; obs and the borrow of the second; the other tokens]
+    -- [the borrow of the first item; the token; what follows; obs and the borrow of the second item; the other tokens]
     use2 𝓛 (later (‵ (hidden_shr (R E) κ x b from) ⊛ ‵ (flft κ q))) ((param_laws 0 X LX).shares 𝓛 x κ ((κ, q) ∷ []) b from (Incl-trans bounds.0 lives) (Incl-refl κ)) $ await ! tt $ split ! $
     feq_i ! (List Val) (vptr b from ∷ []) (vptr b from ∷ []) refl $ fjoin ! $ move ! (3 ∷ 4 ∷ []) $ feq_i ! (List Val) (vptr b to ∷ []) (vptr b to ∷ []) refl $ fjoin3 ! $ move ! (1 ∷ 0 ∷ []) $
     use2 𝓛 (‵ ((Tuple (ShrRef (named 0) κ (R E) ∷ MutRef (named 0) κ (R E) ∷ [])).own_val (r, w) (pair_val (vptr b from) (vptr b to) ∷ [])))

@@ -35,7 +35,7 @@ fill-requires-clause-taken g c =
     ∙ c.requires.backed.taken (c.args.self.now.root.first + c.loop-number.number) (omega arith)
     (λ free. c.requires.used (sym (c.requires.state c.loop-number.number (omega arith)) ∙ free))
 
--- each granule that is still to move is as it was
+-- the next starting table that the loop changes still has the state `from`
 was : (g : Over) (c : goal.After-shift g) → (granule_at c.loop-number.granules c.starting_table-table.result).state ≡ c.args.from
 was g c =
     ap (λ (k : ℕ). (granule_at c.loop-number.granules k).state) c.starting_table-table.ensures
