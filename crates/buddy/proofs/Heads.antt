@@ -31,7 +31,7 @@ module _ (heads : List ℕ) (flags : List Bool) (lists : AreMaximal heads flags)
             clash (is_free flags granule) (first_flag true flags (head_at heads granule - 1) granule maximal.free) taken
       ]
 
-  -- if no free block of order `order` or above is listed, no block of order `order` is free
+  -- if no free block of order `order` or above is listed, no block of order `order`, at most 9, is free
   pub none_free : (order : ℕ) → order ≤ 9 → ((k g : ℕ) → order ≤ k → k ≤ 9 → ¬ (head_at heads g ≡ k + 1)) → (first : ℕ) → ¬ (IsFreeBlock flags order first)
   none_free order low none first free =
       let h = holder flags order first low free in

@@ -1,5 +1,5 @@
--- Lemmas on appending the granules of a block, one by one, to a build's stack of leased pages, while the other builds'
--- stacks stay as they are.
+-- Lemmas on a build's stack of leased pages: the granules of a block are appended one by one. Writing a changed stack
+-- back leaves the other builds' stacks as they are.
 use Rattle.std.proofs.Common.{◌≡◌, ℕ, ◌+◌, ◌<◌, ◌≤◌, List, [], ◌∷◌, ◌++◌, length, take, get_or, set, vec_len, vec_capacity}
 use Rattle.std.proofs.Common.{sym, ap, ◌∙◌, subst, arith, append_assoc}
 use Rattle.std.proofs.lemmas.List.{length-map, get_or-map, map-set, take_more_set}

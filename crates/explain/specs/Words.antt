@@ -42,7 +42,7 @@ abbrev pub earlier_checks : List Check → List Check
 earlier_checks checks = take (length checks - 1) checks
 
 -- The text is the error line, the help line, the line that counts the passed checks and, if `all` is true, a line for
--- each passed check.
+-- each passed check. An empty message has no line, and no line counts zero checks.
 pub record AreReasonLines (reason : Explanation) (all : Bool) (text : List ℕ) : Type 0 where
   pub sentences : List (List ℕ)
   pub each : length sentences ≡ (if all then length (earlier_checks reason.checks.items) else 0)

@@ -103,7 +103,8 @@ others_open build other history (act ∷ acts) not =
     ∙ others_open build other (history ++ by other act ∷ []) acts not
     ∙ open_entries-other build history (by other act) not
 
--- the invariant that calls keep after an abort of the build has begun at the host `old`
+-- the invariant that calls keep from the begin of the build's abort at the host `old` to its end; no recorded operation
+-- is applied for the build meanwhile
 pub record Going (old : HostView) (build : ℕ) (host : HostView) : Type 0 where
   pub there : build < old.limits.builds
   pub rest : IsAtRest (realm_of build (world_of old))

@@ -216,7 +216,8 @@ destroyed limits w sound rd root v realm = Yields-with_realm P _ _ (λ d is. Yie
     P us = ((k : ℕ) (e : RealmRow) → (put_at us k (cell_at w.machine k)).descriptor ≡ Some e → ⊥) × ((k : ℕ) (d : RealmRow) → (cell_at w.machine k).descriptor ≡ Some d → running d.recs d.next ≡ 0)
 
 -- After a step that creates a realm where there was none, no granule has a realm's row other than the new realm's.
--- After a step that destroys a realm (`realm_gone_step`), no realm is left, and no REC of the realm was running.
+-- After a step that destroys the realm of a build's part (`realm_gone_step`), the part has no realm left, and no REC of
+-- the realm was running.
 pub realm_made_step : (limits : Limits) (b : ℕ) (w v : World) (rd : ℕ) (root : Root) (vmid : ℕ) → IsSquare w → ((k : ℕ) → (cell_at w.machine k).descriptor ≡ None)
     → step limits w (by b (Realm rd root vmid)) ≡ Some v
     → (k : ℕ) (e : RealmRow) → (cell_at v.machine k).descriptor ≡ Some e → e ≡ new_realm vmid root

@@ -1,4 +1,5 @@
--- The proof that, after any history, the bytes of each granule are zero unless its state is UNDELEGATED or DATA.
+-- The proof that, after any history, the bytes of each granule of a build are zero unless its state is UNDELEGATED or
+-- DATA. `kept_reached` joins this with the other invariants of the build.
 use Rattle.std.proofs.Common.{◌≡◌, ℕ, Bool, true, false, cond, List, [], ◌∷◌, map, Option, Some, None, refl, sym, ap, ◌∙◌, subst}
 use Rattle.std.specs.Prelude.{◌==◌, option_map}
 use Rattle.std.proofs.lemmas.Bool.{eqb-true, eqb-false}

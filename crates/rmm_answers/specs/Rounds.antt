@@ -58,6 +58,7 @@ more_fills zero operands round after = last_fill round after
 more_fills (suc left) operands round after =
     if after.0 then more_fills left operands (round + 1) (filled operands (round + 1) after.1) else last_fill round after
 
--- The number of the last repetition of a page fill, whether the page was filled in it, and the resulting machine.
+-- The number of the last repetition of a page fill, whether the page was filled in it, and the resulting machine. The
+-- fill is made once, and at most `more` times again.
 unfoldable pub filled_rounds : ℕ → List TraceWord → Machine → ℕ × Bool × Machine
 filled_rounds more operands m = more_fills more operands 0 (filled operands 0 m)

@@ -43,8 +43,8 @@ child_below m page e level j is leaf =
 
 -- ---- RMI_RTT_CREATE
 
--- RMI_RTT_CREATE keeps the value read at an address, if `F` gives the same for the child that covers the address as for
--- the replaced entry.
+-- RMI_RTT_CREATE keeps the value read at an address in the realm's address space, if `F` gives the same for the child
+-- that covers the address as for the replaced entry.
 module _ (rd rtt ipa level : ℕ) (m : Machine) (proper : IsProper m) (ok : Passed (rtt_create rd rtt ipa level m).checks) (count : length (rtt_create rd rtt ipa level m).machine.granules ≡ length m.granules)
     (x : ℕ) (A : Type 0) (F : RmmRttEntry → ℕ → A)
     (alike : F (entry_of (entry_word (child_entry (entry_at m (walk m (realm_at m rd) ipa (level - 1)) ipa) level (entry_index level x)))) level ≡ F (entry_at m (walk m (realm_at m rd) ipa (level - 1)) ipa) (level - 1)) where

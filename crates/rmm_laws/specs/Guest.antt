@@ -58,8 +58,8 @@ IsUnanswered UnprotectedAbort psci flags = injects_sea flags ≡ false
 IsUnanswered Other psci flags = is_completed psci ≡ false
 IsUnanswered last psci flags = ⊥
 
--- A REC is entered as it last exited, with the same registers and queued guest steps, and with no results of guest
--- steps. Words 0 to 191 of its page are unchanged.
+-- A REC is entered as it was left, with the same registers and queued guest steps, and with no results of guest steps.
+-- Words 0 to 191 of its page are those of before the entry.
 abbrev pub IsAsLeft : Machine → Machine → ℕ → RmmRec → ℕ → Type 0
 IsAsLeft m n g rec address =
     ((granule_at n g).state ≡ Rec (running_at rec address)) × ((i : ℕ) → i < 192 → word_of_page (page_in n g) i ≡ word_of_page (page_in m g) i)

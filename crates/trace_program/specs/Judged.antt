@@ -71,7 +71,8 @@ call_place None question = name_place (repeated question)
 unfoldable pub command_place : List TraceWord → ℕ
 command_place question = call_place (raw_call question) question
 
--- The set has the first word of a trace line, the line's command, or a check that one of the line's answers names.
+-- The set has the first word of a trace line, the line's command (or `fill` in a `repeat`), or a check that one of the
+-- line's answers names.
 unfoldable pub is_named : NameSet → List TraceWord → List ℕ → TraceReply → Bool
 is_named set question written reply =
     is_name_in set (name_place question) || is_name_in set (command_place question) || has_check set reply.words.items || has_check_written set (read written)
