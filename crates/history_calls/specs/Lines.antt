@@ -164,8 +164,8 @@ number_text Absent = []
 number_text (Decimal n) = then_decimal n
 number_text (Hexadecimal n) = then_hex n
 
--- operand `place` of a call as it is written: in decimal if `place` is `in_decimal`, otherwise in hexadecimal; absent
--- if the command has fewer operands
+-- how operand number `place` of a call is written: in decimal if `place` equals `in_decimal`, otherwise in hexadecimal;
+-- absent if the command has fewer operands
 abbrev pub operand_number : ℕ → ℕ → ℕ → ℕ → Number
 operand_number count in_decimal place n = if nat_lt count place then Absent else if place == in_decimal then Decimal n else Hexadecimal n
 

@@ -58,13 +58,13 @@ pub record IsRunOnPath (plan : Plan) (graph : Graph) (schedule : List ℕ) : Typ
   pub is_schedule : builds_of_path path ≡ schedule
   pub is_run : IsRunFromBoot plan graph path
 
--- the map that the last turn of a path names, or `before` if the path is empty
+-- the map in the label of a path's last turn, as an index, or `before` if the path is empty
 abbrev pub last_map : Option ℕ → Path Label → Option ℕ
 last_map before [] = before
 last_map before (edge ∷ path) = last_map edge.label.map path
 
--- A run of the plan from boot has the schedule of the path, and ends with the map that the path's last turn names, if
--- any.
+-- A run of the plan from boot has the schedule of the path, and ends with the map in the label of the path's last turn,
+-- if any.
 pub record IsRunOf (plan : Plan) (graph : Graph) (path : Path Label) : Type 0 where
   pub at : Position
   pub reached : IsReached plan (builds_of_path path) at

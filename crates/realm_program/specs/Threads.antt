@@ -21,6 +21,6 @@ IsWithoutThreadsText passes stops plan (Stuck build) = threads.IsWithoutWorkersT
 IsWithoutThreadsText passes stops plan Mismatch = threads.IsWithoutWorkersText plan passes stops (opening_host plan) why.Mismatch
 IsWithoutThreadsText passes stops plan fault = ⊥
 
--- The sequence in which the builds of a run took the lock is not printed, whatever the plan.
+-- For no plan does the output reveal the sequence in which the builds took the lock.
 abbrev pub ScheduleIsNotPrinted : (ℕ → ℕ → Type 0) → (ℕ → ℕ → Type 0) → Type 0
 ScheduleIsNotPrinted passes stops = (plan : Plan) → ScheduleIsNotRevealed plan passes stops (opening_host plan)

@@ -12,7 +12,7 @@ use Rattle.rmi_abi.specs.declared.rec_run.RecExit.{RecExit}
 abbrev pub flags_in : List ℕ → ℕ
 flags_in page = word_of_page page 0
 
--- the host's value for general-purpose register k, k from 0 to 30
+-- the value that the host gives a REC's general-purpose register k at its entry, k from 0 to 30
 abbrev pub entry_gpr_in : List ℕ → ℕ → ℕ
 entry_gpr_in page k = word_of_page page (64 + k)
 

@@ -1,4 +1,4 @@
--- Proofs that the REC in a granule has the same realm and the same number in the fields of an RMM and in the machine.
+-- Proofs that an RMM's fields and its machine agree on the realm and the number of the REC in a granule.
 use Rattle.std.proofs.Common.{◌≡◌, ℕ, ◌<◌, length, Some, None, Result, Err, refl, sym, ap, ◌∙◌, subst}
 use Rattle.std.specs.FinMap.{get}
 use Rattle.std.proofs.lemmas.Option.{same_Some, none-some}

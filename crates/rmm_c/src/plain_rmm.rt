@@ -1,4 +1,4 @@
-//! An RMM that keeps the contents of its granules in a `PlainStore`.
+//! An RMM for C programs, with the contents of its granules in a `PlainStore`, the simple store of pages.
 ghost use Rattle.std.specs.Prelude.{◌≡◌, replicate, IfSome};
 ghost use Rattle.granule_addr.specs.Page.{zero_page};
 ghost use Rattle.rmm_granules.specs.Inside.{platform_machine};
@@ -10,7 +10,8 @@ use rmm_granules::Granules;
 use std::alloc::Global;
 use std::marker::Model;
 
-/// An RMM that keeps the contents of its granules in a `PlainStore`. The logical view of the RMM is its machine.
+/// An RMM for C programs, with the contents of its granules in a `PlainStore`, the simple store of pages. The logical
+/// view of the RMM is its machine.
 #[derive(Drop)]
 pub struct PlainRmm {
     pub(crate) rmm: Rmm<PlainStore>,
