@@ -38,8 +38,8 @@ question_of_step step.Abort = question.Undo
 question_of_step step.Mark = question.Mark
 question_of_step step.Back = question.Undo
 
--- The question to which a report line has the answer, given the build's steps; none if the line's step is not one of
--- them.
+-- The question that a line of a worker's report answers, given the build's steps; none if the line has a step number
+-- that the build lacks.
 abbrev pub question_at : List Step → Asked → Option Question
 question_at steps (asked.Step place) = option_map question_of_step (slice_get steps place)
 question_at steps (asked.Exit number) = Some (question.Do (cmd.Exit number))

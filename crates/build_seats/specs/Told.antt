@@ -1,4 +1,4 @@
--- The facts that the answer to one call proves about the host under a lock. The facts do not say in which state the
+-- Facts that a worker knows of the shared host from the answer to one call. The answer does not say in which state the
 -- host was. But the host has the limits and the history capacity of the start, and as many events of the seat's build
 -- as the seat counts.
 use Rattle.std.specs.Prelude.{◌≡◌, ℕ, ◌-◌, [], ◌∷◌, ◌++◌, length, Result}

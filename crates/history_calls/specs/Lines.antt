@@ -134,8 +134,7 @@ is_call (host.Call call x1) = true
 is_call (host.Enter rec run) = true
 is_call _ = false
 
--- the answer to an action: the refusal if there is one and the action is a call, otherwise the text that `done_text`
--- gives
+-- the text of the answer to an action: a refused call has the text of the refusal, any other action that of `done_text`
 abbrev pub answer_to : HostAction → Option Rmi → List ℕ
 answer_to action None = done_text action
 answer_to action (Some rmi) = if is_call action then refused_text rmi else done_text action

@@ -41,7 +41,7 @@ abbrev pub act_asked : HostView → ℕ → Cmd → Option Act
 act_asked host build cmd =
     act_of cmd (granules_named host build cmd) (allocated_for host build cmd (granules_named host build cmd))
 
--- the outcome of the operation of a command other than a Take, in the host's world
+-- what the model does for a build's command in the host's world: its updates, or its refusal; the command is not a Take
 abbrev pub outcome_asked : HostView → ℕ → Cmd → Outcome
 outcome_asked host build cmd =
     outcome_of_act host.limits (used_vmids (world_of host).machine) (act_asked host build cmd) (realm_of build (world_of host))

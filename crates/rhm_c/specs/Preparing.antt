@@ -21,8 +21,8 @@ abbrev pub word_of : Option Refusal → ℕ
 word_of (Some refusal) = refusal_value refusal
 word_of None = 0
 
--- the status of a preparation, and its operations with the model's X0; if the preparation is refused, the old
--- operations stay
+-- The status of a preparation, with the actions to perform and the X0 to expect from the RMM, which `refusal` gives. If
+-- the host refuses to prepare them, `old` stays.
 abbrev pub prepared_or_refused : Result (ArrayVec HostAction) Refusal → Option Refusal → RawActions → ℕ × RawActions
 prepared_or_refused (Ok actions) refusal old = (0, raw_actions (word_of refusal) actions.items)
 prepared_or_refused (Err own) refusal old = (refusal_status own, old)

@@ -30,9 +30,10 @@ impl<S: PageStore> Monitor<S> {
         self.recs[granule.number() as usize].as_ref()
     }
 
-    /// Walks a realm's translation tables for an IPA granule, down to level `to` at most. The realm has RD `rd`. Returns
-    /// the level and the entry at which the walk ends. Returns `None` if granule `rd` is not an RD, or if the IPA granule
-    /// is not in the realm's address space.
+    /// Walks a realm's translation tables for an IPA granule, down to level `to` at most. The realm has RD `rd`.
+    ///
+    /// Returns the level and the entry at which the walk ends. Returns `None` if granule `rd` is not an RD, or if the
+    /// IPA granule is not in the realm's address space.
     ///
     /// `ipa` is the number of an IPA granule, of either half of the address space. RMM 1.0, RTT walk.
     pub fn walk(&self, rd: Gran, ipa: u32, to: Level) -> Option<Walk>

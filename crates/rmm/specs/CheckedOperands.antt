@@ -72,8 +72,7 @@ pub record IsSource (m : Machine) (page source : ℕ) (found : Source) : Type 0 
   pub inside : found.granule < granule_count m
   pub apart : found.granule ≢ found.page
 
--- the found RD and realm are those that RMI_DATA_CREATE names, and the found walk end is where the walk of the new
--- page's IPA ends
+-- `target` has the RD that RMI_DATA_CREATE names and its realm, and the end of the walk for the IPA of the new page
 pub record IsTarget (m : Machine) (rd ipa : ℕ) (target : Target) : Type 0 where
   pub owner : target.owner.granule ≡ number_of m rd
   pub inside : target.owner.granule < granule_count m

@@ -50,7 +50,7 @@ fn ordinal(place: usize) -> Option<u64>
     None
 }
 
-/// Returns the number that an atom represents, or `None` for a name without a number.
+/// Returns the number that an atom of a trace line represents, or `None` for a name without a number.
 pub fn atom_number(atom: Atom) -> Option<u64>
     ensures { result ≡ atom_number atom }
 {

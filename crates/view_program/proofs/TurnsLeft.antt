@@ -1,5 +1,5 @@
--- Proofs that each turn of a build with a step left lowers the bound on the number of further turns, and that a refused
--- turn finishes its step.
+-- Proofs that each turn of a build with a step left lowers the bound on the number of further turns, and that a turn
+-- whose command is refused ends its step.
 use Rattle.std.proofs.Common.{◌≡◌, ◌≢◌, ℕ, zero, suc, ◌+◌, ◌-◌, ◌*◌, ◌^◌, ◌<◌, ◌≤◌, ◌==◌, if◌then◌else◌, Bool, true, false, List, [], ◌∷◌, length, Option, Some, None, Result, Ok, Err, ◌⊎◌}
 use Rattle.std.proofs.Common.{inl, inr, slice_set, slice_index_or, replicate, ap, sym, subst, ◌∙◌, refl, arith}
 use Rattle.std.specs.Prelude.{nat_le, nat_lt, slice_get, is_some, option_and_then}

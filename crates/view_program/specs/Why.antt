@@ -45,7 +45,7 @@ pub record IsWhyText (all : Bool) (plan : Plan) (text : List ℕ) : Type 0 where
 
 -- ---- the text of a turn, or of turns, is appended
 
--- the text of a turn is appended
+-- `new` is `old` with the text of a turn at its end
 pub record AppendsTurn (all : Bool) (turn : ExplainedTurn) (old new : List ℕ) : Type 0 where
   pub text : List ℕ
   pub is_text : IsTurnText all turn text
